@@ -1,0 +1,1 @@
+// What a description means: definitions only, in specs/. The code of the layers above equals them.

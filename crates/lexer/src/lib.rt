@@ -1,0 +1,1 @@
+// Tokens of the description language, as words in a lent row.
