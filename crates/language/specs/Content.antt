@@ -63,7 +63,7 @@ ruleContent r = record {
   to = r .to .value;
   comment = optional (r .comment);
   leading = values (r .leading);
-  actions = map (λ a. record { read = a .read .value; write = a .write .value; dir = a .dir }) (r .actions)
+  actions = map (λ a. record { read = a .read .value; write = a .write .value; dir = a .dir }) (r .actions);
 }
 
 -- a machine without its places
@@ -83,5 +83,5 @@ contentOf m = record {
   gamma = map (λ s. s .code) (m .gamma);
   header = values (m .header);
   trailing = values (m .trailing);
-  rules = map ruleContent (m .rules)
+  rules = map ruleContent (m .rules);
 }
