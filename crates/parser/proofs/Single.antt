@@ -23,7 +23,7 @@ pub next-fits : (w : List ℕ) (i : ℕ) → i < length (tokensIn w) → length 
 next-fits w i h g = record { fits = omega (arith, length-tokens w) }
 
 -- no line feed is of another kind
-kind-ended : (k : ℕ) → k < 13 → isKind k ended ≡ false
+pub kind-ended : (k : ℕ) → k < 13 → isKind k ended ≡ false
 unfolding isKind
 kind-ended k h = ne-eqb 13 k (λ e. omega arith)
 
