@@ -29,7 +29,7 @@ pub record Steps (p : Parser) : Type 0 where
   pub within : (ts : List Token) (i : ℕ) → Within ts i (p ts i)
 
 -- what a test makes of two answers
-on-test : {A : Type 0} (P : A → Type 0) (b : Bool) {x y : A} → (b ≡ true → P x) → (b ≡ false → P y) → P (cond b x y)
+pub on-test : {A : Type 0} (P : A → Type 0) (b : Bool) {x y : A} → (b ≡ true → P x) → (b ≡ false → P y) → P (cond b x y)
 on-test P true f g = f refl
 on-test P false f g = g refl
 
@@ -53,12 +53,12 @@ separator-steps close l = record {
       (λ n. on-test (Within ts i) (eqb (peek ts i .kind) close) (λ y. let h = inside (isKind close) ts i (kind-ended close l) y in (omega arith, omega arith)) (λ n. tt));
 }
 
-then-steps : (ts : List Token) (i : ℕ) (r : Parsed) (f : ℕ → ℕ → Parsed) → Within ts i r → ((j n : ℕ) → i < j → j ≤ length ts → Within ts i (f j n)) → Within ts i (then r f)
+pub then-steps : (ts : List Token) (i : ℕ) (r : Parsed) (f : ℕ → ℕ → Parsed) → Within ts i r → ((j n : ℕ) → i < j → j ≤ length ts → Within ts i (f j n)) → Within ts i (then r f)
 unfolding then
 then-steps ts i (Done j n) f w k = k j n (w .0) (w .1)
 then-steps ts i (Failed c s) f w k = tt
 
-further : (ts : List Token) (i j : ℕ) (r : Parsed) → i ≤ j → Within ts j r → Within ts i r
+pub further : (ts : List Token) (i j : ℕ) (r : Parsed) → i ≤ j → Within ts j r → Within ts i r
 further ts i j (Done k n) l w = (omega arith, w .1)
 further ts i j (Failed c s) l w = tt
 

@@ -106,9 +106,13 @@ unfoldable pub equals : Parser
 unfolding then one isKind
 equals ts i = then (one (isKind 5) ts i) λ j _. one (isKind 9) ts j
 
--- no part of a rule
+-- the parts of a rule's left side alone
+abbrev pub leftParts : ℕ → ℕ → ℕ → Parts
+leftParts i j n = record { from = i; read = j; reads = n; to = 0; write = 0; writes = 0; dir = 0; dirs = 0 }
+
+-- no parts
 abbrev pub noParts : Parts
-noParts = record { from = 0; read = 0; reads = 0; to = 0; write = 0; writes = 0; dir = 0; dirs = 0 }
+noParts = leftParts 0 0 0
 
 -- go on towards a value, or keep the failure
 unfoldable pub on : Parsed → (ℕ → ℕ → Value) → Value
@@ -127,7 +131,7 @@ left ts i =
     on (side ts j) λ read _.
     on (tuple readEntry ts read) λ k reads.
     on (equals ts k) λ end _.
-    Ended end (record { from = j + 1; read = read; reads = reads; to = 0; write = 0; writes = 0; dir = 0; dirs = 0 })
+    Ended end (leftParts (j + 1) read reads)
 
 -- (TO, WRITE, MOVE)
 unfoldable pub right : Parts → List Token → ℕ → Value
@@ -190,18 +194,30 @@ valueAt Equals ts i = one (isKind 9) ts (i + 1)
 valueAt Nothing ts i = Done (i + 1) 0
 valueAt Whole ts i = Done i 0
 
+-- go on towards a line, or keep the failure
+unfoldable pub lineOn : Parsed → (ℕ → ℕ → Line) → Line
+lineOn (Done i n) f = f i n
+lineOn (Failed c s) f = Error c s
+
+unfoldable pub lineOf : Value → (ℕ → Parts → Line) → Line
+lineOf (Ended i q) f = f i q
+lineOf (Broken c s) f = Error c s
+
 -- an item of a kind, whose keyword stands at the index i
 unfoldable pub itemOf : ItemKind → List Token → ℕ → Line
-unfolding leadOf valueAt value finish
-itemOf k ts i = elim (valueAt (leadOf k) ts i) [
-  | Failed c s ↦ Error c s
-  | Done v _ ↦ elim (value k ts v) [ Broken c s ↦ Error c s | Ended j q ↦ finish k ts i v j q ]
-]
+unfolding lineOn lineOf leadOf valueAt value finish
+itemOf k ts i = lineOn (valueAt (leadOf k) ts i) λ v _. lineOf (value k ts v) λ j q. finish k ts i v j q
+
+-- what a token that starts an item, or no item, makes of its line
+unfoldable pub itemFrom : Keyword → List Token → ℕ → Line
+unfolding itemOf codeOf
+itemFrom (Starts k) ts i = itemOf k ts i
+itemFrom Other ts i = Error (codeOf (peek ts i)) (spanOf (peek ts i))
 
 -- an item, with its comment and the line's end
 unfoldable pub item : List Token → ℕ → Line
-unfolding keywordOf itemOf codeOf
-item ts i = elim (keywordOf (peek ts i)) [ Other ↦ Error (codeOf (peek ts i)) (spanOf (peek ts i)) | Starts k ↦ itemOf k ts i ]
+unfolding keywordOf itemFrom
+item ts i = itemFrom (keywordOf (peek ts i)) ts i
 
 -- a comment with nothing behind it
 unfoldable pub isComment : List Token → ℕ → Bool

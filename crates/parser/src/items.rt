@@ -3,7 +3,7 @@ ghost use mathlib.Core.Path.{_≡_};
 ghost use Prim.Native.Nat.{_<_};
 ghost use lib.ListN.{length};
 ghost use Rattle.parser.specs.Row.{tokensIn};
-ghost use Rattle.parser.specs.Lines.{side, equals, noParts, left, right, transition, plain, value, spanning, newlineAt, finish, valueAt, itemOf, item, isComment, line, lineEnd};
+ghost use Rattle.parser.specs.Lines.{side, equals, leftParts, left, right, transition, plain, value, spanning, newlineAt, finish, valueAt, itemOf, item, isComment, line, lineEnd};
 use crate::Item;
 use crate::ItemKind;
 use crate::Keyword;
@@ -44,13 +44,14 @@ fn equals(work: &[u32], at: usize) -> Parsed
     elements::expect(work, i, kind::EQ)
 }
 
-fn no_parts() -> Parts
-    ensures { λ r. ⌜ r ≡ noParts ⌝ }
+// The parts of a left side alone; of a declaration, all 0.
+fn left_parts(from: usize, read: usize, reads: usize) -> Parts
+    ensures { λ r. ⌜ r ≡ leftParts from read reads ⌝ }
 {
     Parts {
-        from: 0,
-        read: 0,
-        reads: 0,
+        from,
+        read,
+        reads,
         to: 0,
         write: 0,
         writes: 0,
@@ -64,7 +65,7 @@ fn plain(p: Parsed) -> Value
     ensures { λ r. ⌜ r ≡ plain p ⌝ }
 {
     match p {
-        Parsed::Done(end, _) => Value::Done(end, no_parts()),
+        Parsed::Done(end, _) => Value::Done(end, left_parts(0, 0, 0)),
         Parsed::Failed(code, span) => Value::Failed(code, span),
     }
 }
@@ -89,11 +90,7 @@ fn left(work: &[u32], at: usize) -> Value
     let Parsed::Done(end, _) = r else {
         return plain(r);
     };
-    let mut parts = no_parts();
-    parts.from = i + 1;
-    parts.read = read;
-    parts.reads = reads;
-    Value::Done(end, parts)
+    Value::Done(end, left_parts(i + 1, read, reads))
 }
 
 // `(TO, WRITE, MOVE)`, behind a left side with its parts.
