@@ -1,2 +1,4 @@
 pub mod Machine
 pub mod Content
+pub mod Parser
+pub mod Lines
