@@ -2,3 +2,5 @@ pub mod Machine
 pub mod Content
 pub mod Parser
 pub mod Lines
+pub mod Assembly
+pub mod Infer
