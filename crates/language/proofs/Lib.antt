@@ -1,1 +1,6 @@
+pub mod Every
+pub mod TokenKinds
+pub mod PlainLex
+pub mod Decimal
+pub mod PlainRows
 pub mod PlainSamples
