@@ -3,4 +3,5 @@ pub mod TokenKinds
 pub mod PlainLex
 pub mod Decimal
 pub mod PlainRows
+pub mod LexSound
 pub mod PlainSamples
