@@ -18,13 +18,21 @@ use Rattle.language.proofs.Decimal.{digits, decimal-digits, number-kind
 
 -- ---- rows of tokens
 
-abbrev pub Row : Type 0
-Row = List TokenKind
+-- the tokens of a line, and its comment
+pub record Row : Type 0 where
+  pub body : List TokenKind
+  pub own : Option (List ℕ)
+
+abbrev pub row : List TokenKind → Row
+row b = record { body = b; own = none }
+
+abbrev pub commentRow : List ℕ → Row
+commentRow s = record { body = []; own = some s }
 
 -- the tokens of rows, each with its line's end; the text's end is one more
 unfoldable pub flatRows : List Row → List TokenKind
 flatRows [] = newline ∷ []
-flatRows (r ∷ rs) = r ++ newline ∷ flatRows rs
+flatRows (r ∷ rs) = r .body ++ ownT (r .own) (newline ∷ flatRows rs)
 
 -- the text's tokens are the rows'
 pub record Lexes (text : List ℕ) (rs : List Row) : Type 0 where
@@ -38,9 +46,9 @@ onlyRow false r rs = rs
 -- a row for each comment
 unfoldable pub commentRows : List (List ℕ) → List Row → List Row
 commentRows [] rs = rs
-commentRows (s ∷ l) rs = (T.comment s ∷ []) ∷ commentRows l rs
+commentRows (s ∷ l) rs = commentRow s ∷ commentRows l rs
 
-abbrev pub decoderT : Decoder → Row
+abbrev pub decoderT : Decoder → List TokenKind
 decoderT asWord = word (codes "word") ∷ []
 decoderT (asUnary c) = word (codes "unary") ∷ quoted c ∷ []
 decoderT (asBinary lsb) = word (codes "binary") ∷ word (codes "lsb") ∷ []
@@ -49,7 +57,7 @@ decoderT (asBinary msb) = word (codes "binary") ∷ word (codes "msb") ∷ []
 -- a set behind a keyword
 unfoldable pub setRow : {A : Type 0} → List ℕ → (A → TokenKind) → List A → Row
 unfolding commasT
-setRow k f l = word k ∷ sign 0x3D ∷ sign 0x7B ∷ commasT f l (sign 0x7D ∷ [])
+setRow k f l = row (word k ∷ sign 0x3D ∷ sign 0x7B ∷ commasT f l (sign 0x7D ∷ []))
 
 abbrev pub actionRead : ActionContent → TokenKind
 actionRead a = quoted (a .read)
@@ -71,7 +79,7 @@ ruleT r rest =
 
 unfoldable pub ruleRow : RuleContent → Row
 unfolding ruleT
-ruleRow r = word (codes "δ") ∷ ruleT r (ownT (r .comment) [])
+ruleRow r = record { body = word (codes "δ") ∷ ruleT r []; own = r .comment }
 
 unfoldable pub ruleRows : List RuleContent → List Row → List Row
 unfolding commentRows ruleRow
@@ -83,16 +91,16 @@ unfoldable pub plainRows : Content → List Row
 unfolding commentRows setRow ruleRows finalNames digits
 plainRows m =
     commentRows (m .header)
-    ((word (codes "machine") ∷ str (m .name) ∷ [])
-    ∷ (word (codes "kind") ∷ word (codes (kindName (m .kind))) ∷ [])
-    ∷ (word (codes "input") ∷ str (m .input) ∷ [])
-    ∷ (word (codes "output") ∷ decoderT (m .output))
-    ∷ (word (codes "tapes") ∷ sign 0x3D ∷ number (digits (m .tapes)) ∷ [])
+    (row (word (codes "machine") ∷ str (m .name) ∷ [])
+    ∷ row (word (codes "kind") ∷ word (codes (kindName (m .kind))) ∷ [])
+    ∷ row (word (codes "input") ∷ str (m .input) ∷ [])
+    ∷ row (word (codes "output") ∷ decoderT (m .output))
+    ∷ row (word (codes "tapes") ∷ sign 0x3D ∷ number (digits (m .tapes)) ∷ [])
     ∷ onlyRow (m .declared .states) (setRow (codes "Q") word (map (λ s. s .name) (m .states)))
     (onlyRow (m .declared .inputAlphabet) (setRow (codes "Σ") quoted (m .sigma))
     (onlyRow (m .declared .tapeAlphabet) (setRow (codes "Γ") quoted (m .gamma))
-    (onlyRow (m .declared .blank) (word (codes "blank") ∷ sign 0x3D ∷ quoted (m .blank) ∷ [])
-    (onlyRow (m .declared .start) (word (codes "start") ∷ sign 0x3D ∷ word (m .start) ∷ [])
+    (onlyRow (m .declared .blank) (row (word (codes "blank") ∷ sign 0x3D ∷ quoted (m .blank) ∷ []))
+    (onlyRow (m .declared .start) (row (word (codes "start") ∷ sign 0x3D ∷ word (m .start) ∷ []))
     (setRow (codes "F") word (finalNames (m .states))
     ∷ ruleRows (m .rules)
     (commentRows (m .trailing) [])))))))
@@ -106,44 +114,44 @@ IsDecoder (asUnary c) = IsSymbol c
 IsDecoder (asBinary b) = Unit {0}
 
 module _ {rest : List ℕ} {rs : List Row} (h : Lexes rest rs) where
-  comment-lexes : (s : List ℕ) → IsComment s → Lexes (commentLine s rest) ((T.comment s ∷ []) ∷ rs)
+  comment-lexes : (s : List ℕ) → IsComment s → Lexes (commentLine s rest) (commentRow s ∷ rs)
   unfolding flatRows
   comment-lexes s g = record { lexes = comment-kinds s g rest ∙ ap (λ l. T.comment s ∷ newline ∷ l) (h .lexes) }
 
-  machine-lexes : (s : List ℕ) → Lexes ((say "machine " ⨾ string s ⨾ end) rest) ((word (codes "machine") ∷ str s ∷ []) ∷ rs)
+  machine-lexes : (s : List ℕ) → Lexes ((say "machine " ⨾ string s ⨾ end) rest) (row (word (codes "machine") ∷ str s ∷ []) ∷ rs)
   unfolding flatRows kinds
   machine-lexes s = record { lexes = ap (λ l. word (codes "machine") ∷ l) (string-kinds s (10 ∷ rest) ∙ ap (λ l. str s ∷ newline ∷ l) (h .lexes)) }
 
-  input-lexes : (s : List ℕ) → Lexes ((say "input " ⨾ string s ⨾ end) rest) ((word (codes "input") ∷ str s ∷ []) ∷ rs)
+  input-lexes : (s : List ℕ) → Lexes ((say "input " ⨾ string s ⨾ end) rest) (row (word (codes "input") ∷ str s ∷ []) ∷ rs)
   unfolding flatRows kinds
   input-lexes s = record { lexes = ap (λ l. word (codes "input") ∷ l) (string-kinds s (10 ∷ rest) ∙ ap (λ l. str s ∷ newline ∷ l) (h .lexes)) }
 
-  kind-lexes : (k : Kind) → Lexes ((say "kind " ⨾ say (kindName k) ⨾ end) rest) ((word (codes "kind") ∷ word (codes (kindName k)) ∷ []) ∷ rs)
+  kind-lexes : (k : Kind) → Lexes ((say "kind " ⨾ say (kindName k) ⨾ end) rest) (row (word (codes "kind") ∷ word (codes (kindName k)) ∷ []) ∷ rs)
   unfolding flatRows kinds
   kind-lexes acceptor = record { lexes = ap (λ l. word (codes "kind") ∷ word (codes "acceptor") ∷ newline ∷ l) (h .lexes) }
   kind-lexes transducer = record { lexes = ap (λ l. word (codes "kind") ∷ word (codes "transducer") ∷ newline ∷ l) (h .lexes) }
   kind-lexes enumerator = record { lexes = ap (λ l. word (codes "kind") ∷ word (codes "enumerator") ∷ newline ∷ l) (h .lexes) }
   kind-lexes beaver = record { lexes = ap (λ l. word (codes "kind") ∷ word (codes "beaver") ∷ newline ∷ l) (h .lexes) }
 
-  output-lexes : (d : Decoder) → IsDecoder d → Lexes ((say "output " ⨾ decoder d ⨾ end) rest) ((word (codes "output") ∷ decoderT d) ∷ rs)
+  output-lexes : (d : Decoder) → IsDecoder d → Lexes ((say "output " ⨾ decoder d ⨾ end) rest) (row (word (codes "output") ∷ decoderT d) ∷ rs)
   unfolding flatRows kinds
   output-lexes asWord g = record { lexes = ap (λ l. word (codes "output") ∷ word (codes "word") ∷ newline ∷ l) (h .lexes) }
   output-lexes (asUnary c) g = record { lexes = ap (λ l. word (codes "output") ∷ word (codes "unary") ∷ l) (symbol-kinds c g (10 ∷ rest) ∙ ap (λ l. quoted c ∷ newline ∷ l) (h .lexes)) }
   output-lexes (asBinary lsb) g = record { lexes = ap (λ l. word (codes "output") ∷ word (codes "binary") ∷ word (codes "lsb") ∷ newline ∷ l) (h .lexes) }
   output-lexes (asBinary msb) g = record { lexes = ap (λ l. word (codes "output") ∷ word (codes "binary") ∷ word (codes "msb") ∷ newline ∷ l) (h .lexes) }
 
-  tapes-lexes : (n : ℕ) → n < 256 → Lexes ((say "tapes = " ⨾ decimal n ⨾ end) rest) ((word (codes "tapes") ∷ sign 0x3D ∷ number (digits n) ∷ []) ∷ rs)
+  tapes-lexes : (n : ℕ) → n < 256 → Lexes ((say "tapes = " ⨾ decimal n ⨾ end) rest) (row (word (codes "tapes") ∷ sign 0x3D ∷ number (digits n) ∷ []) ∷ rs)
   unfolding flatRows kinds isAsciiDigit
   tapes-lexes n g = record {
     lexes = ap (λ l. word (codes "tapes") ∷ sign 0x3D ∷ l)
         (ap kinds (decimal-digits n (10 ∷ rest)) ∙ (number-kinds (digits n) (digits-number n g) 10 rest refl ∙ ap (λ l. number (digits n) ∷ newline ∷ l) (h .lexes)));
   }
 
-  blank-lexes : (c : ℕ) → IsSymbol c → Lexes ((say "blank = " ⨾ symbol c ⨾ end) rest) ((word (codes "blank") ∷ sign 0x3D ∷ quoted c ∷ []) ∷ rs)
+  blank-lexes : (c : ℕ) → IsSymbol c → Lexes ((say "blank = " ⨾ symbol c ⨾ end) rest) (row (word (codes "blank") ∷ sign 0x3D ∷ quoted c ∷ []) ∷ rs)
   unfolding flatRows kinds
   blank-lexes c g = record { lexes = ap (λ l. word (codes "blank") ∷ sign 0x3D ∷ l) (symbol-kinds c g (10 ∷ rest) ∙ ap (λ l. quoted c ∷ newline ∷ l) (h .lexes)) }
 
-  start-lexes : (w : List ℕ) → IsWord w → Lexes ((say "start = " ⨾ verbatim w ⨾ end) rest) ((word (codes "start") ∷ sign 0x3D ∷ word w ∷ []) ∷ rs)
+  start-lexes : (w : List ℕ) → IsWord w → Lexes ((say "start = " ⨾ verbatim w ⨾ end) rest) (row (word (codes "start") ∷ sign 0x3D ∷ word w ∷ []) ∷ rs)
   unfolding flatRows kinds isWordContinue
   start-lexes w g = record { lexes = ap (λ l. word (codes "start") ∷ sign 0x3D ∷ l) (word-kinds w g 10 rest refl ∙ ap (λ l. word w ∷ newline ∷ l) (h .lexes)) }
 
@@ -158,10 +166,6 @@ commasT-append f (x ∷ y ∷ l) a b = ap (λ r. f x ∷ sign 0x2C ∷ r) (comma
 pub ruleT-append : (r : RuleContent) (a b : List TokenKind) → ruleT r (a ++ b) ≡ ruleT r a ++ b
 unfolding ruleT
 ruleT-append r a b = simp (← commasT-append)
-
-own-append : (o : Option (List ℕ)) (b : List TokenKind) → ownT o b ≡ ownT o [] ++ b
-own-append none b = refl
-own-append (some s) b = refl
 
 module _ {rest : List ℕ} {rs : List Row} (h : Lexes rest rs) where
   set-tokens : {A : Type 0} {good : A → Type 0} {show : A → Piece} {f : A → TokenKind} → Prints good show f → (l : List A) → Every good l
@@ -224,7 +228,7 @@ rule-lexes : {rest : List ℕ} {rs : List Row} → Lexes rest rs → (r : RuleCo
 unfolding flatRows ruleRow
 rule-lexes {rest} {rs} h r g = record {
   lexes = rule-tokens r g rest ∙ ap (λ l. word (codes "δ") ∷ l)
-      (ap (ruleT r) (own-append (r .comment) (newline ∷ kinds rest)) ∙ (ruleT-append r (ownT (r .comment) []) (newline ∷ kinds rest) ∙ ap (λ l. ruleT r (ownT (r .comment) []) ++ newline ∷ l) (h .lexes)));
+      (ruleT-append r [] (ownT (r .comment) (newline ∷ kinds rest)) ∙ ap (λ l. ruleT r [] ++ ownT (r .comment) (newline ∷ l)) (h .lexes));
 }
 
 comments-lexes : {rest : List ℕ} {rs : List Row} → Lexes rest rs → (l : List (List ℕ)) → Every IsComment l → Lexes (each commentLine l rest) (commentRows l rs)

@@ -1,3 +1,5 @@
 pub mod Machine
 pub mod Content
+pub mod Parser
+pub mod Lines
 pub mod Plain
