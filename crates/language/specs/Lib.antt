@@ -4,3 +4,4 @@ pub mod Parser
 pub mod Lines
 pub mod Assembly
 pub mod Infer
+pub mod Plain
