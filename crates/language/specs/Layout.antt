@@ -5,7 +5,7 @@ use mathlib.Core.List.{List, [], _∷_, _++_}
 use mathlib.Core.Option.{Option, none, some}
 use lib.ListN.{length}
 use Rattle.lexer.specs.Tokens.{Span, span}
-use Rattle.language.specs.Machine.{Located, Kind, Decoder, Dir, left, right, stay, State, Action, Rule, Symbol, Declared, SourceMap, Machine}
+use Rattle.language.specs.Machine.{Located, Kind, acceptor, transducer, enumerator, beaver, BitOrder, lsb, msb, Decoder, asWord, asUnary, asBinary, Dir, left, right, stay, State, Action, Rule, Symbol, Declared, SourceMap, Machine}
 use Rattle.language.specs.Lines.{RawTransition, Line}
 use Rattle.language.specs.Assembly.{RuleLine, combinations, kept, bodyOf, Diagnostic}
 
@@ -24,9 +24,9 @@ unfoldable pub placeOrNone : {A : Type 0} → Option (Located Span A) → Span
 placeOrNone none = noPlace
 placeOrNone (some l) = l .place
 
--- a place in front of other words
-abbrev pub placeWords : Span → List ℕ → List ℕ
-placeWords p ws = p .start ∷ p .end ∷ ws
+-- a place in two words
+abbrev pub placeWords : Span → List ℕ
+placeWords p = p .start ∷ p .end ∷ []
 
 -- the words of each member, one after the other
 unfoldable pub flat : {A : Type 0} → (A → List ℕ) → List A → List ℕ
@@ -35,7 +35,7 @@ flat words (a ∷ l) = words a ++ flat words l
 
 -- the place of a value
 abbrev pub locatedWords : {A : Type 0} → Located Span A → List ℕ
-locatedWords l = placeWords (l .place) []
+locatedWords l = placeWords (l .place)
 
 -- ---- the head
 
@@ -93,19 +93,45 @@ headOf m = record {
   };
 }
 
--- ---- the sheet
-
 abbrev pub flag : Bool → ℕ
 flag true = 1
 flag false = 0
 
+abbrev pub kindNumber : Kind → ℕ
+kindNumber acceptor = 0
+kindNumber transducer = 1
+kindNumber enumerator = 2
+kindNumber beaver = 3
+
+-- a decoder in two words
+abbrev pub decoderWords : Decoder → List ℕ
+decoderWords asWord = 0 ∷ 0 ∷ []
+decoderWords (asUnary c) = 1 ∷ c ∷ []
+decoderWords (asBinary lsb) = 2 ∷ 0 ∷ []
+decoderWords (asBinary msb) = 2 ∷ 1 ∷ []
+
+abbrev pub declaredWords : Declared → List ℕ
+declaredWords d = flag (d .states) ∷ flag (d .inputAlphabet) ∷ flag (d .tapeAlphabet) ∷ flag (d .start) ∷ flag (d .blank) ∷ []
+
+abbrev pub countWords : Counts → List ℕ
+countWords n = n .states ∷ n .sigma ∷ n .gamma ∷ n .finals ∷ n .header ∷ n .trailing ∷ n .rules ∷ []
+
+-- a head in 33 words
+unfoldable pub headWords : Head → List ℕ
+headWords h =
+    decoderWords (h .output) ++ placeWords (h .name) ++ placeWords (h .input) ++ kindNumber (h .kind) ∷ h .tapes ∷ h .blank ∷ []
+    ++ declaredWords (h .declared) ++ placeWords (h .start) ++ placeWords (h .kindPlace) ++ placeWords (h .inputPlace) ++ placeWords (h .tapesPlace)
+    ++ placeWords (h .startPlace) ++ placeWords (h .statesPlace) ++ countWords (h .counts)
+
+-- ---- the sheet
+
 -- a state: the place of its name, and 1 if it is final
 unfoldable pub stateWords : State Span → List ℕ
-stateWords s = placeWords (s .name .place) (flag (s .final) ∷ [])
+stateWords s = placeWords (s .name .place) ++ flag (s .final) ∷ []
 
 -- a symbol: its code and its place, 0 0 if it is inferred
 unfoldable pub symbolWords : Symbol Span → List ℕ
-symbolWords s = s .code ∷ elim (s .declaredAt) [ some p ↦ placeWords p [] | none ↦ 0 ∷ 0 ∷ [] ]
+symbolWords s = s .code ∷ elim (s .declaredAt) [ some p ↦ placeWords p | none ↦ 0 ∷ 0 ∷ [] ]
 
 abbrev pub dirNumber : Dir → ℕ
 dirNumber left = 0
@@ -114,7 +140,7 @@ dirNumber stay = 2
 
 -- a tape: code read and its place, code written and its place, direction
 unfoldable pub actionWords : Action Span → List ℕ
-actionWords a = a .read .value ∷ placeWords (a .read .place) (a .write .value ∷ placeWords (a .write .place) (dirNumber (a .dir) ∷ []))
+actionWords a = a .read .value ∷ placeWords (a .read .place) ++ a .write .value ∷ placeWords (a .write .place) ++ dirNumber (a .dir) ∷ []
 
 -- how many words a rule takes on n tapes, led by k comments
 abbrev pub ruleLength : ℕ → ℕ → ℕ
@@ -126,20 +152,20 @@ unfolding placeOrNone flat actionWords
 ruleWords r =
     let n = length (r .actions) in
     let k = length (r .leading) in
-    ruleLength n k ∷ placeWords (r .from .place) (placeWords (r .to .place) (placeWords (r .line) (placeWords (placeOrNone (r .comment)) (n ∷ k ∷ []))))
-    ++ flat actionWords (r .actions) ++ flat locatedWords (r .leading)
+    ruleLength n k ∷ placeWords (r .from .place) ++ placeWords (r .to .place) ++ placeWords (r .line) ++ placeWords (placeOrNone (r .comment)) ++ n ∷ k ∷ []
+    ++ (flat actionWords (r .actions) ++ flat locatedWords (r .leading))
 
 -- the sheet: states, Σ, Γ, finals listed, header comments, trailing comments, rules
 unfoldable pub sheetWords : Machine Span → List ℕ
 unfolding flat stateWords symbolWords ruleWords
 sheetWords m =
     flat stateWords (m .states)
-    ++ flat symbolWords (m .sigma)
-    ++ flat symbolWords (m .gamma)
-    ++ flat (λ p. placeWords p []) (m .finals)
-    ++ flat locatedWords (m .header)
-    ++ flat locatedWords (m .trailing)
-    ++ flat ruleWords (m .rules)
+    ++ (flat symbolWords (m .sigma)
+    ++ (flat symbolWords (m .gamma)
+    ++ (flat placeWords (m .finals)
+    ++ (flat locatedWords (m .header)
+    ++ (flat locatedWords (m .trailing)
+    ++ flat ruleWords (m .rules))))))
 
 -- how many words the rules of a list of lines take, without expanding them: the comments go to the first rule of each
 unfoldable pub ruleLengths : {P : Type 0} → List (RuleLine P) → ℕ
@@ -158,7 +184,7 @@ sheetLength m rules =
 -- a diagnostic in five words: code, place, related place or none
 unfoldable pub diagnosticWords : Diagnostic Span → List ℕ
 unfolding orNone
-diagnosticWords d = d .code ∷ placeWords (d .place) (placeWords (orNone (d .related)) [])
+diagnosticWords d = d .code ∷ placeWords (d .place) ++ placeWords (orNone (d .related))
 
 unfoldable pub logWords : List (Diagnostic Span) → List ℕ
 unfolding flat diagnosticWords
