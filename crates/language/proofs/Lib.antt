@@ -5,3 +5,4 @@ pub mod Decimal
 pub mod PlainRows
 pub mod LexSound
 pub mod PlainSamples
+pub mod Samples
