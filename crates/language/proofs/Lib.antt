@@ -4,4 +4,5 @@ pub mod PlainLex
 pub mod Decimal
 pub mod PlainRows
 pub mod LexSound
+pub mod PlainParse
 pub mod PlainSamples
