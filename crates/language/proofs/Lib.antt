@@ -5,4 +5,5 @@ pub mod Decimal
 pub mod PlainRows
 pub mod LexSound
 pub mod PlainParse
+pub mod Facts
 pub mod PlainSamples
