@@ -268,7 +268,7 @@ module _ {P : Type 0} where
       let sigma = found (first (λ p. p .sigma) is) in
       let gamma = found (first (λ p. p .gamma) is) in
       let symbols : map (λ s. s .code) (inferGamma b gamma (candidates b sigma rules (valueOr (between input)))) ≡ gammaC b (mapOption values gamma) (candidatesC b (mapOption values sigma) (map ruleContent rules) (orElse (mapOption (λ t. t .value .value) input) []))
-          = gamma-values b gamma _ ∙ ap (gammaC b (mapOption values gamma)) (candidates-values b sigma rules _ ∙ ap (candidatesC b (mapOption values sigma) (map ruleContent rules)) (text-values input)) in
+      = gamma-values b gamma _ ∙ ap (gammaC b (mapOption values gamma)) (candidates-values b sigma rules _ ∙ ap (candidatesC b (mapOption values sigma) (map ruleContent rules)) (text-values input)) in
       let states-eq = names-values (statesIn is) start rules (finalsIn is) in
       λ i. record {
         name = text-values (found (first (λ p. p .machine) is)) i;

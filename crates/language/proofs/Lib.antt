@@ -6,4 +6,5 @@ pub mod PlainRows
 pub mod LexSound
 pub mod PlainParse
 pub mod Facts
+pub mod InferAgain
 pub mod PlainSamples
