@@ -8,8 +8,8 @@ use lib.Dec.{eqb, leb}
 use Rattle.lexer.specs.Text.{same}
 use Rattle.language.specs.Machine.{Located, Kind, transducer, Decoder, State, Action, Rule, Symbol, Declared, Machine}
 use Rattle.language.specs.Content.{StateContent, ActionContent, RuleContent, Content, valueOr, optional, values, ruleContent, contentOf}
-use Rattle.language.specs.Lines.{RawSymbol, rawBlank, RawDecoder, rawWord, Line}
-use Rattle.language.specs.Assembly.{items, first, found, orElse, resolve, blankOf, statesIn, finalsIn, ofOption, bodyOf, kept, expandAll}
+use Rattle.language.specs.Lines.{RawSymbol, rawBlank, RawDecoder, rawWord, Item, Line}
+use Rattle.language.specs.Assembly.{Body, items, first, found, orElse, resolve, blankOf, statesIn, finalsIn, ofOption, bodyOf, kept, expandAll}
 use Rattle.language.specs.Infer.{isSome, sameName, member, fresh, nothing, mentions, inferStates, marked, head, inferred, listed, used, candidates, withBlank, inferGamma, less, inferSigma, resolveDecoder, tapesOf, between, machineOf}
 use Rattle.language.proofs.Every.{byTest, map-ext}
 
@@ -107,28 +107,30 @@ contentFrom f =
       rules = f .rules;
     }
 
+-- what items and the rules with their comments say
+unfoldable pub factsFrom : {P : Type 0} → List (Located P (Item P)) → Body P → Facts
+unfolding first found blankOf statesIn finalsIn kept expandAll ruleContent values
+factsFrom is body = record {
+  name = mapOption (λ t. t .value .value) (found (first (λ p. p .machine) is));
+  input = mapOption (λ t. t .value .value) (found (first (λ p. p .input) is));
+  kind = found (first (λ p. p .kind) is);
+  output = found (first (λ p. p .output) is);
+  tapes = mapOption (λ t. t .value) (found (first (λ p. p .tapes) is));
+  states = mapOption values (statesIn is);
+  finals = values (finalsIn is);
+  sigma = mapOption values (found (first (λ p. p .sigma) is));
+  gamma = mapOption values (found (first (λ p. p .gamma) is));
+  blank = found (first (λ p. p .blank) is);
+  start = mapOption (λ t. t .value) (found (first (λ p. p .start) is));
+  header = values (body .header);
+  trailing = values (body .trailing);
+  rules = map ruleContent (expandAll (blankOf is) (kept 0 (body .rules)));
+}
+
 -- what the lines say
 unfoldable pub factsOf : {P : Type 0} → List (Line P) → Facts
-unfolding items first found blankOf statesIn finalsIn bodyOf kept expandAll ruleContent values
-factsOf ls =
-    let is = items ls in
-    let body = bodyOf ls in
-    record {
-      name = mapOption (λ t. t .value .value) (found (first (λ p. p .machine) is));
-      input = mapOption (λ t. t .value .value) (found (first (λ p. p .input) is));
-      kind = found (first (λ p. p .kind) is);
-      output = found (first (λ p. p .output) is);
-      tapes = mapOption (λ t. t .value) (found (first (λ p. p .tapes) is));
-      states = mapOption values (statesIn is);
-      finals = values (finalsIn is);
-      sigma = mapOption values (found (first (λ p. p .sigma) is));
-      gamma = mapOption values (found (first (λ p. p .gamma) is));
-      blank = found (first (λ p. p .blank) is);
-      start = mapOption (λ t. t .value) (found (first (λ p. p .start) is));
-      header = values (body .header);
-      trailing = values (body .trailing);
-      rules = map ruleContent (expandAll (blankOf is) (kept 0 (body .rules)));
-    }
+unfolding items bodyOf factsFrom
+factsOf ls = factsFrom (items ls) (bodyOf ls)
 
 -- ---- the machine's content is that of its facts
 

@@ -7,4 +7,5 @@ pub mod LexSound
 pub mod PlainParse
 pub mod Facts
 pub mod InferAgain
+pub mod PlainAssembly
 pub mod PlainSamples
