@@ -20,7 +20,7 @@ use Rattle.language.specs.Plain.{finalNames}
 use Rattle.language.proofs.Every.{byTest, or-left, or-right, and-both, Every, All, every-impl, every-append}
 use Rattle.language.proofs.PlainParse.{U, loc, maybeLoc, text, declaration, onlyLine, rawDecoder, rawOf, ruleLine, commentLines, ruleLines, plainLines}
 use Rattle.language.proofs.Facts.{Facts, mapOption, markedC, namesC, contentFrom, factsFrom, factsOf, map-append}
-use Rattle.language.proofs.InferAgain.{plainFacts, keep, finals-keep, names-marked, same-eq, member-self}
+use Rattle.language.proofs.InferAgain.{plainFacts, keep, finals-keep, names-marked, same-refl, same-eq, member-self}
 
 -- ---- items
 
@@ -253,3 +253,156 @@ fields m h = λ i. record {
 pub facts-plain : (m : Content) → length (m .rules) ≤ 262144 → factsOf (plainLines m) ≡ plainFacts m
 unfolding factsOf
 facts-plain m h = ap₂ factsFrom (items-plain m) (body-plain m) ∙ fields m h
+
+-- ---- no line fails
+
+errors-comments : (l : List (List ℕ)) (ls : List (Line U)) → lineErrors (commentLines l ls) ≡ lineErrors ls
+unfolding lineErrors commentLines
+errors-comments [] ls = refl
+errors-comments (s ∷ l) ls = errors-comments l ls
+
+errors-only : (b : Bool) (i : Item U) (ls : List (Line U)) → lineErrors (onlyLine b (declaration i) ls) ≡ lineErrors ls
+unfolding lineErrors
+errors-only true i ls = refl
+errors-only false i ls = refl
+
+errors-rules : (l : List RuleContent) (ls : List (Line U)) → lineErrors (ruleLines l ls) ≡ lineErrors ls
+unfolding lineErrors ruleLines
+errors-rules [] ls = refl
+errors-rules (r ∷ l) ls = errors-comments (r .leading) (ruleLine r ∷ ruleLines l ls) ∙ errors-rules l ls
+
+quiet-lines : (m : Content) → lineErrors (plainLines m) ≡ []
+unfolding plainLines lineErrors
+quiet-lines m =
+    errors-comments (m .header) _
+    ∙ (errors-only (m .declared .states) _ _ ∙ (errors-only (m .declared .inputAlphabet) _ _ ∙ (errors-only (m .declared .tapeAlphabet) _ _ ∙ (errors-only (m .declared .blank) _ _ ∙ (errors-only (m .declared .start) _ _
+    ∙ (errors-rules (m .rules) _ ∙ errors-comments (m .trailing) (blankLine ∷ [])))))))
+
+-- ---- no name is declared twice: the numbers of the names ascend
+
+abbrev Under : ℕ → Option ℕ → Type 0
+Under n none = Unit {0}
+Under n (some k) = k < n
+
+abbrev AllUnder : ℕ → List (Located U (Item U)) → Type 0
+AllUnder n is = Every (λ i. Under n (A.declaration (i .value))) is
+
+under-number : (n : ℕ) (o : Option ℕ) → Under n o → isNumber n o ≡ false
+under-number n none h = refl
+under-number n (some k) h = ne-eqb k n (λ e. omega arith)
+
+under-more : (n : ℕ) (o : Option ℕ) → Under n o → Under (suc n) o
+under-more n none h = tt
+under-more n (some k) h = omega arith
+
+not-declared : (n : ℕ) (before : List (Located U (Item U))) → AllUnder n before → declaredAt n before ≡ none
+unfolding declaredAt
+not-declared n [] h = refl
+not-declared n (i ∷ is) h = rw (under-number n (A.declaration (i .value)) (h .0), declaredAt) (not-declared n is (h .1))
+
+-- no error, where the names before have numbers below n
+abbrev Quiet : ℕ → List (Located U (Item U)) → Type 0
+Quiet n is = (before : List (Located U (Item U))) → AllUnder n before → declarationErrors before is ≡ []
+
+under-last : (n k : ℕ) (i : Item U) → A.declaration i ≡ some k → k < n → Under n (A.declaration i)
+under-last n k i e h = subst (Under n) (sym e) h
+
+error-none : (n : ℕ) (i : Item U) (before : List (Located U (Item U))) → A.declaration i ≡ some n → tapesError (parts i .tapes) ≡ [] → AllUnder n before → declarationError before (item i) ≡ []
+unfolding declarationError
+error-none n i before e t h = rw (e, declarationError) (rw (not-declared n before h) t)
+
+quiet-put : (n : ℕ) (i : Item U) (is : List (Located U (Item U))) → A.declaration i ≡ some n → tapesError (parts i .tapes) ≡ [] → Quiet (suc n) is → Quiet n (item i ∷ is)
+unfolding declarationErrors
+quiet-put n i is e t q before h =
+    ap₂ (λ x y. x ++ y) (error-none n i before e t h)
+    (q (before ++ item i ∷ []) (every-append (λ i. Under (suc n) (A.declaration (i .value))) before (item i ∷ [])
+    (every-impl (λ i. Under n (A.declaration (i .value))) (λ i. Under (suc n) (A.declaration (i .value))) (λ i g. under-more n (A.declaration (i .value)) g) before h)
+    (under-last (suc n) n i e (omega arith), tt)))
+
+quiet-only : (b : Bool) (n : ℕ) (i : Item U) (is : List (Located U (Item U))) → A.declaration i ≡ some n → tapesError (parts i .tapes) ≡ [] → Quiet (suc n) is → Quiet n (onlyItem b i is)
+quiet-only true n i is e t q before h = quiet-put n i is e t q before h
+quiet-only false n i is e t q before h = q before (every-impl (λ i. Under n (A.declaration (i .value))) (λ i. Under (suc n) (A.declaration (i .value))) (λ i g. under-more n (A.declaration (i .value)) g) before h)
+
+quiet-ruleItems : (n : ℕ) (l : List RuleContent) → Quiet n (ruleItems l)
+unfolding declarationErrors A.declaration
+quiet-ruleItems n [] before h = refl
+quiet-ruleItems n (r ∷ l) before h = quiet-ruleItems n l (before ++ item (transitionItem (rawOf r)) ∷ []) (every-append (λ i. Under n (A.declaration (i .value))) before (item (transitionItem (rawOf r)) ∷ []) h (tt, tt))
+
+few-tapes : (n : ℕ) → n < 256 → tapesError {P = U} (some (loc n)) ≡ []
+unfolding tapesError
+few-tapes n h = rw (le-leb n 255 (omega arith), tapesError)
+
+quiet-declarations : (m : Content) → m .tapes < 256 → declarationErrors [] (plainItems m) ≡ []
+unfolding plainItems A.declaration parts tapesError
+quiet-declarations m h =
+    quiet-put 0 _ _ refl refl (quiet-put 1 _ _ refl refl (quiet-put 2 _ _ refl refl (quiet-put 3 _ _ refl refl (quiet-put 4 _ _ refl (few-tapes (m .tapes) h)
+    (quiet-only (m .declared .states) 5 _ _ refl refl (quiet-only (m .declared .inputAlphabet) 6 _ _ refl refl (quiet-only (m .declared .tapeAlphabet) 7 _ _ refl refl
+    (quiet-only (m .declared .blank) 8 _ _ refl refl (quiet-only (m .declared .start) 9 _ _ refl refl (quiet-put 10 _ _ refl refl (quiet-ruleItems 11 (m .rules))))))))))))
+    [] tt
+
+-- ---- F repeats no name and lists none outside Q
+
+unlisted : (known : List ℕ → Bool) (x : List ℕ) → known x ≡ false → (l : List (Located U (List ℕ))) → Every (λ y. known (y .value) ≡ true) l → listedAt x l ≡ none
+unfolding listedAt
+unlisted known x e [] h = refl
+unlisted known x e (y ∷ l) h = byTest (same (y .value) x)
+    (λ t. absurd (false≢true (sym (ap known (same-eq (y .value) x t) ∙ e) ∙ h .0)))
+    (λ t. rw (t, listedAt) (unlisted known x e l (h .1)))
+
+known-name : (names : List (List ℕ)) (x : List ℕ) → member same names x ≡ true → unknownError {P = U} (some (map loc names)) (loc x) ≡ []
+unfolding unknownError member
+known-name [] x e = absurd (false≢true e)
+known-name (y ∷ l) x e = byTest (same y x) (λ t. rw (t, unknownError)) (λ t. rw (t, unknownError) (known-name l x (rw t at e)))
+
+in-Q : (b : Bool) (names : List (List ℕ)) (x : List ℕ) → member same names x ≡ true → unknownError {P = U} (when b (map loc names)) (loc x) ≡ []
+unfolding unknownError
+in-Q true names x e = known-name names x e
+in-Q false names x e = refl
+
+one-name : (q : Option (List (Located U (List ℕ)))) (x : List ℕ) (before : List (Located U (List ℕ))) → listedAt x before ≡ none → unknownError q (loc x) ≡ [] → finalError q before (loc x) ≡ []
+unfolding finalError
+one-name q x before e u = rw (e, finalError) u
+
+quiet-names : (q : Option (List (Located U (List ℕ)))) (f known : List ℕ → Bool) (before : List (Located U (List ℕ))) (l : List (List ℕ))
+    → Every (λ y. known (y .value) ≡ true) before → Every (λ x. unknownError q (loc x) ≡ []) l → finalErrors q before (map loc (keep f (fresh same known l))) ≡ []
+unfolding finalErrors keep fresh
+quiet-names q f known before [] h u = refl
+quiet-names q f known before (x ∷ l) h u =
+    let more : Every (λ y. (same x (y .value) || known (y .value)) ≡ true) before
+    = every-impl (λ y. known (y .value) ≡ true) (λ y. (same x (y .value) || known (y .value)) ≡ true) (λ y e. or-right (same x (y .value)) (known (y .value)) e) before h in
+    byTest (known x)
+    (λ e. rw (e, fresh) (quiet-names q f known before l h (u .1)))
+    (λ e. rw (e, fresh) (byTest (f x)
+    (λ g. rw (g, keep) (ap₂ (λ a b. a ++ b) (one-name q x before (unlisted known x e before h) (u .0))
+    (quiet-names q f (λ y. same x y || known y) (before ++ loc x ∷ []) l
+    (every-append (λ y. (same x (y .value) || known (y .value)) ≡ true) before (loc x ∷ []) more (or-left (same x x) (known x) (same-refl x), tt))
+    (u .1))))
+    (λ g. rw (g, keep) (quiet-names q f (λ y. same x y || known y) before l more (u .1)))))
+
+quiet-finals : (b : Bool) (f : List ℕ → Bool) (names : List (List ℕ)) → finalErrors {P = U} (when b (map loc names)) [] (map loc (keep f (fresh same nothing names))) ≡ []
+quiet-finals b f names = quiet-names (when b (map loc names)) f nothing [] names tt
+    (every-impl (λ x. member same names x ≡ true) (λ x. unknownError (when b (map loc names)) (loc x) ≡ []) (λ x e. in-Q b names x e) names (member-self names))
+
+-- ---- nothing to report
+
+-- what a plain form asks of a content, so that it gives no diagnostic
+pub record Assembles (m : Content) : Type 0 where
+  pub tapes-byte : m .tapes < 256
+  pub few-rules : length (m .rules) ≤ 262144
+  pub test : List ℕ → Bool
+  pub names : List (List ℕ)
+  pub marks : m .states ≡ markedC test nothing names
+
+pub quiet-plain : (m : Content) → Assembles m → diagnosticsOf (plainLines m) ≡ []
+unfolding diagnosticsOf statesIn
+quiet-plain m h =
+    let few : 0 + length (m .rules) ≤ 262144 = omega (arith, h .few-rules) in
+    ap₂ (λ x y. x ++ y)
+    (ap₂ (λ x y. x ++ y)
+    (ap₂ (λ x y. x ++ y) (quiet-lines m) (ap (declarationErrors []) (items-plain m) ∙ quiet-declarations m (h .tapes-byte)))
+    (ap (λ is. finalErrors (statesIn is) [] (finalsIn is)) (items-plain m)
+    ∙ (ap₂ (λ q f. finalErrors q [] f) (declared-states m) (declared-finals m)
+    ∙ (ap (λ s. finalErrors (when (m .declared .states) (map loc (map (λ s. s .name) s))) [] (map loc (finalNames s))) (h .marks)
+    ∙ (ap₂ (λ n f. finalErrors (when (m .declared .states) (map loc n)) [] (map loc f)) (names-marked (h .test) nothing (h .names)) (finals-keep (h .test) nothing (h .names))
+    ∙ quiet-finals (m .declared .states) (h .test) (h .names))))))
+    (ap (λ b. ruleErrors 0 false (b .rules)) (body-plain m) ∙ quiet-rules (m .rules) 0 few)
