@@ -9,3 +9,4 @@ pub mod Facts
 pub mod InferAgain
 pub mod PlainAssembly
 pub mod PlainSamples
+pub mod Samples

@@ -348,7 +348,7 @@ unfoldable pub diagnosticsOf : {P : Type 0} → List (Line P) → List (Diagnost
 unfolding lineErrors items declarationErrors statesIn finalsIn finalErrors bodyOf ruleErrors
 diagnosticsOf ls =
     let is = items ls in
-    lineErrors ls ++ declarationErrors [] is ++ finalErrors (statesIn is) [] (finalsIn is) ++ ruleErrors 0 false (bodyOf ls .rules)
+    lineErrors ls ++ (declarationErrors [] is ++ (finalErrors (statesIn is) [] (finalsIn is) ++ ruleErrors 0 false (bodyOf ls .rules)))
 
 -- sorted stably by start
 unfoldable pub insert : Diagnostic Span → List (Diagnostic Span) → List (Diagnostic Span)

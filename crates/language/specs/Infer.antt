@@ -71,7 +71,7 @@ listed b s = record { code = resolve b (s .value); declaredAt = some (s .place) 
 -- the characters that the rules use: all reads of each, then all its writes
 unfoldable pub used : {P : Type 0} → List (Rule P) → List ℕ
 used [] = []
-used (r ∷ rs) = map (λ a. a .read .value) (r .actions) ++ map (λ a. a .write .value) (r .actions) ++ used rs
+used (r ∷ rs) = map (λ a. a .read .value) (r .actions) ++ (map (λ a. a .write .value) (r .actions) ++ used rs)
 
 -- what an undeclared Γ holds besides the blank: a declared Σ and what the rules use; or what they use and the input
 unfoldable pub candidates : {P : Type 0} → ℕ → Option (List (Located P RawSymbol)) → List (Rule P) → List ℕ → List ℕ

@@ -5,3 +5,6 @@ pub mod Lines
 pub mod Assembly
 pub mod Infer
 pub mod Plain
+pub mod Layout
+pub mod Outcome
+pub mod Agreement
