@@ -46,7 +46,7 @@ markedC final known (q ∷ qs) = record { name = q; final = final q && not (know
 
 unfoldable pub usedC : List RuleContent → List ℕ
 usedC [] = []
-usedC (r ∷ rs) = map (λ a. a .read) (r .actions) ++ map (λ a. a .write) (r .actions) ++ usedC rs
+usedC (r ∷ rs) = map (λ a. a .read) (r .actions) ++ (map (λ a. a .write) (r .actions) ++ usedC rs)
 
 unfoldable pub candidatesC : ℕ → Option (List RawSymbol) → List RuleContent → List ℕ → List ℕ
 unfolding resolve usedC
@@ -181,10 +181,10 @@ module _ {P : Type 0} where
   used-values [] = refl
   used-values (r ∷ rs) =
       ap₂ (λ (x y : List ℕ). x ++ y)
-      (ap₂ (λ (x y : List ℕ). x ++ y)
       (sym (map-map (λ (a : ActionContent). a .read) (λ (a : Action P). record { read = a .read .value; write = a .write .value; dir = a .dir }) (r .actions)))
-      (sym (map-map (λ (a : ActionContent). a .write) (λ (a : Action P). record { read = a .read .value; write = a .write .value; dir = a .dir }) (r .actions))))
-      (used-values rs)
+      (ap₂ (λ (x y : List ℕ). x ++ y)
+      (sym (map-map (λ (a : ActionContent). a .write) (λ (a : Action P). record { read = a .read .value; write = a .write .value; dir = a .dir }) (r .actions)))
+      (used-values rs))
 
   option-values : (o : Option (Name P)) → map (λ n. n .value) (ofOption o) ≡ ofOption (mapOption (λ n. n .value) o)
   unfolding ofOption

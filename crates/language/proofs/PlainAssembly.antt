@@ -397,12 +397,12 @@ pub quiet-plain : (m : Content) → Assembles m → diagnosticsOf (plainLines m)
 unfolding diagnosticsOf statesIn
 quiet-plain m h =
     let few : 0 + length (m .rules) ≤ 262144 = omega (arith, h .few-rules) in
-    ap₂ (λ x y. x ++ y)
+    ap₂ (λ x y. x ++ y) (quiet-lines m)
+    (ap₂ (λ x y. x ++ y) (ap (declarationErrors []) (items-plain m) ∙ quiet-declarations m (h .tapes-byte))
     (ap₂ (λ x y. x ++ y)
-    (ap₂ (λ x y. x ++ y) (quiet-lines m) (ap (declarationErrors []) (items-plain m) ∙ quiet-declarations m (h .tapes-byte)))
     (ap (λ is. finalErrors (statesIn is) [] (finalsIn is)) (items-plain m)
     ∙ (ap₂ (λ q f. finalErrors q [] f) (declared-states m) (declared-finals m)
     ∙ (ap (λ s. finalErrors (when (m .declared .states) (map loc (map (λ s. s .name) s))) [] (map loc (finalNames s))) (h .marks)
     ∙ (ap₂ (λ n f. finalErrors (when (m .declared .states) (map loc n)) [] (map loc f)) (names-marked (h .test) nothing (h .names)) (finals-keep (h .test) nothing (h .names))
-    ∙ quiet-finals (m .declared .states) (h .test) (h .names))))))
-    (ap (λ b. ruleErrors 0 false (b .rules)) (body-plain m) ∙ quiet-rules (m .rules) 0 few)
+    ∙ quiet-finals (m .declared .states) (h .test) (h .names)))))
+    (ap (λ b. ruleErrors 0 false (b .rules)) (body-plain m) ∙ quiet-rules (m .rules) 0 few)))
