@@ -8,5 +8,6 @@ pub mod PlainParse
 pub mod Facts
 pub mod InferAgain
 pub mod PlainAssembly
+pub mod ParsePlaces
 pub mod PlainSamples
 pub mod Samples
