@@ -4,5 +4,10 @@ pub mod PlainLex
 pub mod Decimal
 pub mod PlainRows
 pub mod LexSound
+pub mod PlainParse
+pub mod Facts
+pub mod InferAgain
+pub mod PlainAssembly
+pub mod ParsePlaces
 pub mod PlainSamples
 pub mod Samples
