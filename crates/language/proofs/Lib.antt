@@ -11,3 +11,4 @@ pub mod PlainAssembly
 pub mod ParsePlaces
 pub mod PlainSamples
 pub mod Samples
+pub mod Counts
