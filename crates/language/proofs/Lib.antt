@@ -9,5 +9,6 @@ pub mod Facts
 pub mod InferAgain
 pub mod PlainAssembly
 pub mod ParsePlaces
+pub mod AssemblyPlaces
 pub mod PlainSamples
 pub mod Samples
