@@ -9,6 +9,7 @@ pub mod Facts
 pub mod InferAgain
 pub mod PlainAssembly
 pub mod ParsePlaces
+pub mod AssemblyPlaces
 pub mod PlainSamples
 pub mod Samples
 pub mod Counts
