@@ -13,3 +13,4 @@ pub mod AssemblyPlaces
 pub mod PlainSamples
 pub mod Samples
 pub mod Counts
+pub mod ParseHolds
