@@ -1,0 +1,16 @@
+pub mod Every
+pub mod TokenKinds
+pub mod PlainLex
+pub mod Decimal
+pub mod PlainRows
+pub mod LexSound
+pub mod PlainParse
+pub mod Facts
+pub mod InferAgain
+pub mod PlainAssembly
+pub mod ParsePlaces
+pub mod AssemblyPlaces
+pub mod PlainSamples
+pub mod Samples
+pub mod Counts
+pub mod ParseHolds
