@@ -5,3 +5,4 @@ pub mod Rules
 pub mod Tables
 pub mod Views
 pub mod Keywords
+pub mod Simulates

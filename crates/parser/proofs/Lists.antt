@@ -65,7 +65,7 @@ further ts i j (Failed c s) l w = tt
 -- ---- the entries of a list, one at a time
 module _ (p : Parser) (steps : Steps p) (close : ℕ) (low : close < 13) (ts : List Token) where
   -- the next entry, where `go` gives the rest
-  abbrev turn : (ℕ → ℕ → Parsed) → ℕ → ℕ → Parsed
+  abbrev pub turn : (ℕ → ℕ → Parsed) → ℕ → ℕ → Parsed
   turn go i n = then (p ts i) λ j _. then (separator close ts j) λ next more. elim (eqb more 0) [ true ↦ Done next (n + 1) | false ↦ go next (n + 1) ]
 
   turn-same : (go go′ : ℕ → ℕ → Parsed) (i n : ℕ) → ((next : ℕ) → i + 2 ≤ next → next ≤ length ts → go next (n + 1) ≡ go′ next (n + 1)) → turn go i n ≡ turn go′ i n
