@@ -6,3 +6,4 @@ pub mod Tables
 pub mod Views
 pub mod Keywords
 pub mod Simulates
+pub mod Values
