@@ -7,3 +7,4 @@ pub mod Views
 pub mod Keywords
 pub mod Simulates
 pub mod Values
+pub mod Transitions

@@ -16,6 +16,7 @@ use Rattle.lexer.specs.Words.{kindNumber, tokenValue}
 use Rattle.language.specs.Machine.{Located}
 use Rattle.language.specs.Parser.{Result, ok, fail, Parser, when, taken, unexpected, signIn, isSign, goesOn, branch, goOn, atMost, give, _>>=_}
 use Rattle.language.specs.Parser.{then as bind, one as token, expect, opened, entries as listed, single, tuple as tupled, set as braced}
+use Rattle.language.specs.Lines.{goesBy, endingOf}
 use Rattle.language.proofs.Every.{byTest, Every}
 use Rattle.parser.specs.Row.{peek}
 use Rattle.parser.specs.Views.{spanOf, isKind, isDirection, isText}
@@ -144,6 +145,15 @@ goes-close c k e = go (isSome (isSign 0x2C k)) (isSome (isSign c k)) refl (sym (
     go false true h q = is-sign c k h
     go false false h q = none-some false q
 
+-- behind a front
+every-behind : {A : Type 0} (p : A → Type 0) (f r : List A) → Every p (f ++ r) → Every p r
+every-behind p [] r s = s
+every-behind p (t ∷ f) r s = every-behind p f r (s .1)
+
+-- a token that ends no line's tokens
+abbrev pub Goes : Token Span → Type 0
+Goes t = endingOf (t .kind) ≡ goesBy
+
 -- entries put in front of what is read behind them
 abbrev pub pushes : {A X : Type 0} → (A → X → X) → List A → X → X
 pushes push [] x = x
@@ -158,6 +168,7 @@ module _ (ts : List (Token Span)) (junk : List Words) (z : Token Span) (more : L
   pub record At (i : ℕ) (l : List (Token Span)) : Type 0 where
     pub here : drop i ts ≡ l ++ (z ∷ more)
     pub sound : Every Sound l
+    pub goes : Every Goes l
 
   at-token : (i : ℕ) (t : Token Span) (l : List (Token Span)) → drop i ts ≡ t ∷ l → (at ts i ≡ t) × (peek row i ≡ tokenOf t)
   unfolding tokenOf
@@ -172,15 +183,11 @@ module _ (ts : List (Token Span)) (junk : List Words) (z : Token Span) (more : L
   pub at-stop : (i : ℕ) → At i [] → (at ts i ≡ z) × (peek row i ≡ tokenOf z)
   at-stop i a = at-token i z more (a .here)
 
-  -- behind the tokens of a front
-  every-behind : (f r : List (Token Span)) → Every Sound (f ++ r) → Every Sound r
-  every-behind [] r s = s
-  every-behind (t ∷ f) r s = every-behind f r (s .1)
-
   pub at-behind : (i : ℕ) (l f r : List (Token Span)) → At i l → l ≡ f ++ r → At (i + length f) r
   at-behind i l f r a e = record {
     here = sym (drop-drop (length f) i ts) ∙ ap (drop (length f)) (a .here ∙ ap (λ (x : List (Token Span)). x ++ (z ∷ more)) e ∙ append-assoc f r (z ∷ more)) ∙ drop-append-seam f (r ++ (z ∷ more));
-    sound = every-behind f r (subst (Every Sound) e (a .sound));
+    sound = every-behind Sound f r (subst (Every Sound) e (a .sound));
+    goes = every-behind Goes f r (subst (Every Goes) e (a .goes));
   }
 
   -- the tokens of a front
