@@ -49,7 +49,7 @@ in-range {A} n (a ∷ l) v =
     (λ z. let p : leb (suc n) v ≡ false = lt-leb (suc n) v (omega (arith, leb-false n v z)) in rw (p, z)))
 
 -- what a token's soundness says of a word
-codes-of : (w : List ℕ) (p : Span) → SoundAs (word w) p → Codes w
+pub codes-of : (w : List ℕ) (p : Span) → SoundAs (word w) p → Codes w
 unfolding SoundAs
 codes-of [] p s = tt
 codes-of (c ∷ []) p s = s
@@ -84,7 +84,7 @@ kind-rule = table-rule kinds kindRows refl refl refl refl
 pub sees-kind : Sees (isChoice 0x110010 0x110013) (wordIn kinds)
 sees-kind = sees-choice kinds 0x110010 0x110013 kindRows kind-rule (λ v. in-range 0x110010 (acceptor ∷ transducer ∷ enumerator ∷ beaver ∷ []) v ∙ ap (λ (b : Bool). cond (leb 0x110010 v) b false) (below-next v 0x110013))
 
-abbrev outputRows : List (Row OutputWord)
+abbrev pub outputRows : List (Row OutputWord)
 outputRows = rowsFrom 0x110014 (wordOutput ∷ unaryOutput ∷ binaryOutput ∷ [])
 
 pub output-rule : (w : List ℕ) → Codes w → find outputRows (wordValue w) ≡ meaningOf outputs w

@@ -8,3 +8,5 @@ pub mod Keywords
 pub mod Simulates
 pub mod Values
 pub mod Transitions
+pub mod Outputs
+pub mod ItemLines

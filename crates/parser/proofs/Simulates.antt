@@ -170,7 +170,7 @@ module _ (ts : List (Token Span)) (junk : List Words) (z : Token Span) (more : L
     pub sound : Every Sound l
     pub goes : Every Goes l
 
-  at-token : (i : ℕ) (t : Token Span) (l : List (Token Span)) → drop i ts ≡ t ∷ l → (at ts i ≡ t) × (peek row i ≡ tokenOf t)
+  pub at-token : (i : ℕ) (t : Token Span) (l : List (Token Span)) → drop i ts ≡ t ∷ l → (at ts i ≡ t) × (peek row i ≡ tokenOf t)
   unfolding tokenOf
   at-token i t l e =
       let h : i < length ts = omega (arith, ap length e, length-drop i ts) in
@@ -383,13 +383,13 @@ module _ (ts : List (Token Span)) (junk : List Words) (z : Token Span) (more : L
 
     -- a value made of another, with no token taken
     pub map-fits : {A B : Type 0} (M : List (Token Span) → A → Type 0) (count : A → ℕ) (M′ : List (Token Span) → B → Type 0) (count′ : B → ℕ) (i : ℕ) (l : List (Token Span)) (F : A → B)
-        → ((f : List (Token Span)) (a : A) → M f a → M′ f (F a)) → ((a : A) → count a ≡ count′ (F a))
+        → ((f r : List (Token Span)) (a : A) → l ≡ f ++ r → M f a → M′ f (F a)) → ((a : A) → count a ≡ count′ (F a))
         → (x : Parsed) (y : Result Span A) → Fits i l M count x y → Fits i l M′ count′ x (bind y λ a. give (F a))
     unfolding bind
     map-fits M count M′ count′ i l F m n (Failed c s) (fail d q) h = h
     map-fits M count M′ count′ i l F m n (Failed c s) (ok a r) h = absurd h
     map-fits M count M′ count′ i l F m n (Done j k) (fail d q) h = absurd h
-    map-fits M count M′ count′ i l F m n (Done j k) (ok a r) (f, e, q, c, w) = (f, e, q, c ∙ n a, m f a w)
+    map-fits M count M′ count′ i l F m n (Done j k) (ok a r) (f, e, q, c, w) = (f, e, q, c ∙ n a, m f r a e w)
 
     -- the inner parser behind a sign, or the other
     pub opened-fits : {A : Type 0} (c n : ℕ) → Names c n → (M : List (Token Span) → A → Type 0) (count : A → ℕ) (i : ℕ) (l : List (Token Span)) → At i l → (X Y : Parsed) (inner other : Parser Span A)
@@ -452,7 +452,7 @@ module _ (ts : List (Token Span)) (junk : List Words) (z : Token Span) (more : L
           (λ t r e k at₁.
           weaken-fits Reading (λ f b. Reading (t ∷ f) b) length (i + 1) r (λ f b L g. opens t (f ++ g) k ∙ L g) (entries p 5 row (i + 1) 0) (listed (z .place) P 0x29 r)
           (entries-fits p steps P E fits stopped 0x29 5 (omega arith) names-r-paren R R push pushed comma closes (i + 1) r at₁))
-          (map-fits E once Reading length i l (λ a. a ∷ []) (λ f a w g. pushed f g a w) (λ a. refl) (p row i) (P l) (fits i l here))
+          (map-fits E once Reading length i l (λ a. a ∷ []) (λ f r a e w g. pushed f g a w) (λ a. refl) (p row i) (P l) (fits i l here))
 
       pub set-fits : Past 0x2C → Past 0x7B → Past 0x7D → (i : ℕ) (l : List (Token Span)) → At i l → Fits i l Reading length (set p row i) (braced (z .place) P l)
       unfolding set braced _>>=_

@@ -114,7 +114,7 @@ module _ (ts : List (Token Span)) (junk : List Words) (z : Token Span) (more : L
   unfolding seen
   past-one view c f a e o = ap (seen view) (o .front) ∙ seen-past view c e (o .taker) [] (is-sign c (o .taker .kind) (ap isSome (o .says)))
 
-  length-one : {A : Type 0} (view : TokenKind → Option A) (f : List (Token Span)) (a : Located Span A) → One view f a → length f ≡ 1
+  pub length-one : {A : Type 0} (view : TokenKind → Option A) (f : List (Token Span)) (a : Located Span A) → One view f a → length f ≡ 1
   length-one view f a o = ap length (o .front)
 
   no-write : writeIn (sign 0x2C) ≡ none

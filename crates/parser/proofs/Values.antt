@@ -211,7 +211,7 @@ module _ (ts : List (Token Span)) (junk : List Words) (z : Token Span) (more : L
       (entries (one isSymbol) 7 ws (i + 1) 0) (listed (z .place) (symbol (z .place)) 0x7D r)
       (entries-fits ts junk z more ends (one isSymbol) symbol-steps (symbol (z .place)) (One symbolIn) symbol-fits refl 0x7D 7 (omega arith) names-r-brace
       (readSets true) (λ g. [] ∷ readSets false g) joins joins-symbol (joins-past 0x2C part-comma) joins-closes (i + 1) r at₁)))
-      (map-fits ts junk z more ends (One symbolIn) once Entry once i l (λ a. a ∷ []) (λ f a o g. reads-symbol f g a o) (λ a. refl) (one isSymbol ws i) (symbol (z .place) l) (symbol-fits i l here))
+      (map-fits ts junk z more ends (One symbolIn) once Entry once i l (λ a. a ∷ []) (λ f r a e o g. reads-symbol f g a o) (λ a. refl) (one isSymbol ws i) (symbol (z .place) l) (symbol-fits i l here))
 
   -- ---- sets and tuples of what a view sees
   module _ {A : Type 0} (view : TokenKind → Option A) (p : List Words → ℕ → Parsed) (steps : Steps p) (P : Parser Span (Located Span A))

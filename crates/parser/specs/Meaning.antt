@@ -169,6 +169,27 @@ pub record Counted (ts : List (Token Span)) (r : Found) : Type 0 where
   pub writes : r .parts .writes ≡ length (ruleOf ts (r .parts) (r .end) .write)
   pub dirs : r .parts .dirs ≡ length (ruleOf ts (r .parts) (r .end) .dir)
 
+-- and so for an item of a kind, and for a line
+abbrev pub CountedAs : List (Token Span) → ItemKind → Found → Type 0
+CountedAs ts Machine r = Unit {0}
+CountedAs ts Kind r = Unit {0}
+CountedAs ts Input r = Unit {0}
+CountedAs ts Output r = Unit {0}
+CountedAs ts Tapes r = Unit {0}
+CountedAs ts States r = Unit {0}
+CountedAs ts InputAlphabet r = Unit {0}
+CountedAs ts TapeAlphabet r = Unit {0}
+CountedAs ts BlankSymbol r = Unit {0}
+CountedAs ts Start r = Unit {0}
+CountedAs ts Final r = Unit {0}
+CountedAs ts Transition r = Counted ts r
+
+abbrev pub LineCounted : List (Token Span) → Parsed → Type 0
+LineCounted ts Blank = Unit {0}
+LineCounted ts (Comment i) = Unit {0}
+LineCounted ts (Read r) = CountedAs ts (r .kind) r
+LineCounted ts (Error c s) = Unit {0}
+
 -- ---- what the lexer's tokens have
 
 -- a word of one character is a code point, and a number is as long as it has digits
