@@ -13,7 +13,7 @@ use borrow.Author.Tests.{eq-eqb, ne-eqb}
 use Rattle.lexer.specs.Tokens.{TokenKind, word, number, quoted, str, sign, comment, newline, unterminatedString, unterminatedQuote, Span, span, Token}
 use Rattle.lexer.specs.Words.{signNumber, kindNumber}
 use Rattle.language.specs.Machine.{Located, Kind, transducer}
-use Rattle.language.specs.Parser.{Result, ok, fail, Parser, unexpected, taken, give, _>>=_}
+use Rattle.language.specs.Parser.{Result, ok, fail, Parser, unexpected, isSign, taken, give, _>>=_}
 use Rattle.language.specs.Parser.{then as bind, one as token, expect, set as braced}
 use Rattle.language.specs.Lines.{RawSymbol, rawBlank, RawDecoder, RawTransition, Text, Item, machineItem, inputItem, kindItem, outputItem, tapesItem, statesItem, finalItem, inputAlphabetItem, tapeAlphabetItem, blankItem, startItem, transitionItem, Line, blankLine, commentLine, itemLine, errorLine, stateIn, symbolIn, numberIn, wordIn, kinds, outputs, Keyword as Name, machineWord, kindWord, inputWord, outputWord, tapesWord, statesWord, sigmaWord, gammaWord, blankWord, startWord, finalWord, deltaWord, keywords, string, numeral, choice, state, symbol, output as decoder, transition as ruled, itemOf as itemBy, item as itemAt, Ending, lineFeed, goesBy, remark, endingOf, lastPlace, finished, emptyLine, lineFrom, covering}
 use Rattle.language.proofs.Every.{byTest}
@@ -67,6 +67,12 @@ feed-kind (sign c) e = absurd (let z : _≡_ {A = ℕ} 0 1 = cc in omega arith)
 feed-kind (comment s) e = absurd (let z : _≡_ {A = ℕ} 0 1 = cc in omega arith)
 feed-kind unterminatedString e = absurd (let z : _≡_ {A = ℕ} 0 1 = cc in omega arith)
 feed-kind unterminatedQuote e = absurd (let z : _≡_ {A = ℕ} 0 1 = cc in omega arith)
+
+-- parsers in a row
+bind-bind : {A B C : Type 0} (x : Result Span A) (f : A → Parser Span B) (g : B → Parser Span C) → bind (bind x f) g ≡ bind x (λ a r. bind (f a r) g)
+unfolding bind
+bind-bind (ok a r) f g = refl
+bind-bind (fail c p) f g = refl
 
 -- the comment that ends a line's tokens
 abbrev pub noteOf : Ending → Span → Option (Located Span (List ℕ))
@@ -158,3 +164,118 @@ module _ (ts : List (Token Span)) (junk : List Words) (z : Token Span) (more : L
               same = rw (placed, b, at-stop ts junk z more j at₁ .0, ← m, a);
               counted = c _ refl refl refl;
             })
+
+    -- one part of a line behind another
+    line-on-means : {A : Type 0} (M : List (Token Span) → A → Type 0) (count : A → ℕ) (i : ℕ) (l : List (Token Span)) → Here i l → (x : Parsed) (y : Result Span A) → Fits i l M count x y
+        → (k : ℕ → ℕ → Parse) (K : A → Parser Span (Item Span))
+        → ((f r : List (Token Span)) (a : A) → l ≡ f ++ r → M f a → Here (i + length f) r → Means ts (k (i + length f) (count a)) (finished whole note (K a r)))
+        → Means ts (lineOn x k) (finished whole note (bind y K))
+    unfolding lineOn bind finished lineMeans
+    line-on-means M count i l here (Failed c s) (fail d q) h k K go = record { same = rw (h .0, h .1); counted = tt }
+    line-on-means M count i l here (Failed c s) (ok a r) h k K go = absurd h
+    line-on-means M count i l here (Done j m) (fail d q) h k K go = absurd h
+    line-on-means M count i l here (Done j m) (ok a r) (f, e, q, n, w) k K go =
+        rw (n, q) (go f r a e w (at-behind ts junk z more i l f r here e))
+
+    lines-plain : (x : Parsed) (F : ℕ → Parts → Parse) → lineOf (plain x) F ≡ lineOn x (λ j _. F j noParts)
+    unfolding lineOf plain on lineOn
+    lines-plain (Done j n) F = refl
+    lines-plain (Failed c s) F = refl
+
+    -- a declaration whose value is read by x over the row, from the index v on, behind the tokens g
+    plain-means : {A : Type 0} (k : ItemKind) (M : List (Token Span) → A → Type 0) (count : A → ℕ) (v : ℕ) (g l : List (Token Span)) → Here v l → t₀ ∷ l₀ ≡ g ++ l → v ≡ i₀ + length g
+        → (x : Parsed) (y : Result Span A) → Fits v l M count x y → (F : A → Item Span)
+        → ((f r : List (Token Span)) (a : A) → l ≡ f ++ r → M f a → F a ≡ itemMeans ts k v (v + length f) noParts) → ((x : Found) → x .kind ≡ k → CountedAs ts (x .kind) x)
+        → Means ts (lineOf (plain x) (λ j q. finish k ws i₀ v j q)) (finished whole note (bind y λ a. give (F a)))
+    plain-means k M count v g l here e d x y fits F m c =
+        subst (λ (u : Parse). Means ts u (finished whole note (bind y λ a. give (F a)))) (sym (lines-plain x (λ j q. finish k ws i₀ v j q)))
+        (line-on-means M count v l here x y fits (λ j _. finish k ws i₀ v j noParts) (λ a. give (F a)) λ f r a e₁ w at₁.
+        finish-means k v (v + length f) noParts (g ++ f) r (F a) (e ∙ ap (λ (x : List (Token Span)). g ++ x) e₁ ∙ sym (append-assoc g f r)) (omega (arith, length-append g f)) (m f r a e₁ w)
+        (λ x p q s. c x p))
+
+    -- what the whole range of a set says
+    set-means : {A : Type 0} (view : TokenKind → Option A) (v : ℕ) (l f r : List (Token Span)) (a : List (Located Span A)) → Here v l → l ≡ f ++ r → Says ts junk z more ends view f a → a ≡ seen view (between ts v (v + length f))
+    unfolding seen
+    set-means {A} view v l f r a here e w =
+        sym (ap (seen view) (at-between ts junk z more v l f r here e ∙ sym (append-nil f)) ∙ w [] ∙ append-nil a)
+
+    text-means : (v : ℕ) (l f r : List (Token Span)) (a : Text Span) → Here v l → l ≡ f ++ r → Texts f a → a ≡ textOf (at ts v)
+    text-means v l f r a here e o =
+        let q : l ≡ o .taker ∷ r = e ∙ ap (λ (x : List (Token Span)). x ++ r) (o .front) in
+        o .says ∙ ap textOf (sym (at-first ts junk z more v (o .taker) r (subst (Here v) q here) .0))
+
+    here₁ : Here (i₀ + 1) l₀
+    here₁ = at-behind ts junk z more i₀ (t₀ ∷ l₀) (t₀ ∷ []) l₀ row₀ refl
+
+    -- a declaration by its value's parsers: behind the keyword, and behind `=`
+    module _ {A : Type 0} (k : ItemKind) (M : List (Token Span) → A → Type 0) (count : A → ℕ) (p : ℕ → Parsed) (P : Parser Span A) (F : A → Item Span)
+        (fits : (v : ℕ) (l : List (Token Span)) → Here v l → Fits v l M count (p v) (P l))
+        (means : (v : ℕ) (l f r : List (Token Span)) (a : A) → Here v l → l ≡ f ++ r → M f a → F a ≡ itemMeans ts k v (v + length f) noParts)
+        (counts : (x : Found) → x .kind ≡ k → CountedAs ts (x .kind) x) where
+      bare-means : Means ts (lineOf (plain (p (i₀ + 1))) (λ j q. finish k ws i₀ (i₀ + 1) j q)) (finished whole note (bind (P l₀) λ a. give (F a)))
+      bare-means =
+          plain-means k M count (i₀ + 1) (t₀ ∷ []) l₀ here₁ refl refl (p (i₀ + 1)) (P l₀) (fits (i₀ + 1) l₀ here₁) F (λ f r a e w. means (i₀ + 1) l₀ f r a here₁ e w) counts
+
+      equals-means : Means ts (lineOn (one (isKind 9) ws (i₀ + 1)) λ v _. lineOf (plain (p v)) (λ j q. finish k ws i₀ v j q)) (finished whole note (bind (expect (z .place) 0x3D l₀) λ _ r. bind (P r) λ a. give (F a)))
+      equals-means =
+          line-on-means (One (isSign 0x3D)) once (i₀ + 1) l₀ here₁ (one (isKind 9) ws (i₀ + 1)) (expect (z .place) 0x3D l₀) (sign-fits ts junk z more ends 0x3D 9 names-eq (i₀ + 1) l₀ here₁)
+          (λ v _. lineOf (plain (p v)) (λ j q. finish k ws i₀ v j q)) (λ _ r. bind (P r) λ a. give (F a)) λ f₁ r₁ a₁ e₁ o₁ at₁.
+          plain-means k M count (i₀ + 1 + length f₁) (t₀ ∷ f₁) r₁ at₁ (ap (λ (x : List (Token Span)). t₀ ∷ x) e₁) (omega arith) (p (i₀ + 1 + length f₁)) (P r₁)
+          (fits (i₀ + 1 + length f₁) r₁ at₁) F (λ f r a e w. means (i₀ + 1 + length f₁) r₁ f r a at₁ e w) counts
+
+    transition-means : kindNumber (t₀ .kind) ≡ 0 → Means ts (lineOf (transition ws i₀) (λ j q. finish Transition ws i₀ i₀ j q)) (finished whole note (bind (ruled (z .place) l₀) λ r. give (transitionItem r)))
+    unfolding bind lineOf finished lineMeans itemMeans
+    transition-means w = go (transition ws i₀) (ruled (z .place) l₀) (transition-gives ts junk z more ends i₀ t₀ l₀ row₀ w)
+      where
+        go : (x : Value) (y : Result Span (RawTransition Span)) → Gives (i₀ + 1) l₀ (Ruled ts) x y → Means ts (lineOf x (λ j q. finish Transition ws i₀ i₀ j q)) (finished whole note (bind y λ r. give (transitionItem r)))
+        go (Broken c s) (fail d q) h = record { same = rw (h .0, h .1); counted = tt }
+        go (Broken c s) (ok a r) h = absurd h
+        go (Ended j m) (fail d q) h = absurd h
+        go (Ended j q) (ok b r) (f, e, d, m) =
+            finish-means Transition i₀ j q (t₀ ∷ f) r (transitionItem b) (ap (λ (x : List (Token Span)). t₀ ∷ x) e) (omega arith) (ap transitionItem (m .same))
+            (λ x p₁ p₂ p₃.
+            subst (λ (y : ItemKind). CountedAs ts y x) (sym p₁) (record {
+              reads = rw p₂ (m .reads ∙ ap (λ (y : RawTransition Span). length (y .read)) (m .same));
+              writes = rw p₂ (m .writes ∙ ap (λ (y : RawTransition Span). length (y .write)) (m .same));
+              dirs = rw (p₂, p₃) (m .dirs ∙ ap (λ (y : RawTransition Span). length (y .dir)) (m .same));
+            }))
+
+    -- an item by its keyword
+    item-of-means : (n : Name) → kindNumber (t₀ .kind) ≡ 0 → Means ts (itemOf (kindOf n) ws i₀) (finished whole note (itemBy (z .place) n l₀))
+    unfolding itemOf lineOn leadOf valueAt value itemBy _>>=_ itemMeans bind
+    item-of-means machineWord w =
+        bare-means Machine Texts once (λ v. one (isKind 3) ws v) (string (z .place)) machineItem (string-fits ts junk z more ends)
+        (λ v l f r a here e o. ap machineItem (text-means v l f r a here e o)) (λ x p. subst (λ (y : ItemKind). CountedAs ts y x) (sym p) tt)
+    item-of-means kindWord w =
+        bare-means KindOf (One (wordIn kinds)) once (λ v. one (isChoice 0x110010 0x110013) ws v) (choice (z .place) kinds) (λ a. kindItem (a .value)) (kind-fits ts junk z more ends)
+        (λ v l f r a here e o. ap (λ (x : Located Span Kind). kindItem (x .value)) (located-at ts junk z more ends (wordIn kinds) transducer v l f r a here e o)) (λ x p. subst (λ (y : ItemKind). CountedAs ts y x) (sym p) tt)
+    item-of-means inputWord w =
+        bare-means Input Texts once (λ v. one (isKind 3) ws v) (string (z .place)) inputItem (string-fits ts junk z more ends)
+        (λ v l f r a here e o. ap inputItem (text-means v l f r a here e o)) (λ x p. subst (λ (y : ItemKind). CountedAs ts y x) (sym p) tt)
+    item-of-means outputWord w =
+        subst (λ (y : Result Span (Item Span)). Means ts (itemOf Output ws i₀) (finished whole note y))
+        (bind-bind (choice (z .place) outputs l₀) (λ a. decoder (z .place) (a .value)) (λ d. give (outputItem d)))
+        (plain-means Output (λ f d. d ≡ decoderAt ts (i₀ + 1)) once (i₀ + 1) (t₀ ∷ []) l₀ here₁ refl refl (output ws (i₀ + 1)) (bind (choice (z .place) outputs l₀) λ a. decoder (z .place) (a .value))
+        (decoder-fits ts junk z more ends (i₀ + 1) l₀ here₁) outputItem (λ f r a e o. ap outputItem o) (λ x p. subst (λ (y : ItemKind). CountedAs ts y x) (sym p) tt))
+    item-of-means tapesWord w =
+        equals-means Tapes (One numberIn) once (λ v. one (isKind 1) ws v) (numeral (z .place)) tapesItem (number-fits ts junk z more ends)
+        (λ v l f r a here e o. ap tapesItem (located-at ts junk z more ends numberIn 0 v l f r a here e o)) (λ x p. subst (λ (y : ItemKind). CountedAs ts y x) (sym p) tt)
+    item-of-means statesWord w =
+        equals-means States (Says ts junk z more ends stateIn) length (λ v. set (one isState) ws v) (braced (z .place) (state (z .place))) statesItem (states-fits ts junk z more ends)
+        (λ v l f r a here e o. ap statesItem (set-means stateIn v l f r a here e o)) (λ x p. subst (λ (y : ItemKind). CountedAs ts y x) (sym p) tt)
+    item-of-means sigmaWord w =
+        equals-means InputAlphabet (Says ts junk z more ends symbolIn) length (λ v. set (one isSymbol) ws v) (braced (z .place) (symbol (z .place))) inputAlphabetItem (symbols-fits ts junk z more ends)
+        (λ v l f r a here e o. ap inputAlphabetItem (set-means symbolIn v l f r a here e o)) (λ x p. subst (λ (y : ItemKind). CountedAs ts y x) (sym p) tt)
+    item-of-means gammaWord w =
+        equals-means TapeAlphabet (Says ts junk z more ends symbolIn) length (λ v. set (one isSymbol) ws v) (braced (z .place) (symbol (z .place))) tapeAlphabetItem (symbols-fits ts junk z more ends)
+        (λ v l f r a here e o. ap tapeAlphabetItem (set-means symbolIn v l f r a here e o)) (λ x p. subst (λ (y : ItemKind). CountedAs ts y x) (sym p) tt)
+    item-of-means blankWord w =
+        equals-means Blank (One symbolIn) once (λ v. one isSymbol ws v) (symbol (z .place)) (λ a. blankItem (a .value)) (symbol-fits ts junk z more ends)
+        (λ v l f r a here e o. ap (λ (x : Located Span RawSymbol). blankItem (x .value)) (located-at ts junk z more ends symbolIn rawBlank v l f r a here e o)) (λ x p. subst (λ (y : ItemKind). CountedAs ts y x) (sym p) tt)
+    item-of-means startWord w =
+        equals-means Start (One stateIn) once (λ v. one isState ws v) (state (z .place)) startItem (state-fits ts junk z more ends)
+        (λ v l f r a here e o. ap startItem (located-at ts junk z more ends stateIn [] v l f r a here e o)) (λ x p. subst (λ (y : ItemKind). CountedAs ts y x) (sym p) tt)
+    item-of-means finalWord w =
+        equals-means Final (Says ts junk z more ends stateIn) length (λ v. set (one isState) ws v) (braced (z .place) (state (z .place))) finalItem (states-fits ts junk z more ends)
+        (λ v l f r a here e o. ap finalItem (set-means stateIn v l f r a here e o)) (λ x p. subst (λ (y : ItemKind). CountedAs ts y x) (sym p) tt)
+    item-of-means deltaWord w = transition-means w
