@@ -15,10 +15,11 @@ use Rattle.lexer.specs.Words.{signNumber, kindNumber}
 use Rattle.language.specs.Machine.{Located, Kind, transducer}
 use Rattle.language.specs.Parser.{Result, ok, fail, Parser, unexpected, isSign, taken, give, _>>=_}
 use Rattle.language.specs.Parser.{then as bind, one as token, expect, set as braced}
-use Rattle.language.specs.Lines.{RawSymbol, rawBlank, RawDecoder, RawTransition, Text, Item, machineItem, inputItem, kindItem, outputItem, tapesItem, statesItem, finalItem, inputAlphabetItem, tapeAlphabetItem, blankItem, startItem, transitionItem, Line, blankLine, commentLine, itemLine, errorLine, stateIn, symbolIn, numberIn, wordIn, kinds, outputs, Keyword as Name, machineWord, kindWord, inputWord, outputWord, tapesWord, statesWord, sigmaWord, gammaWord, blankWord, startWord, finalWord, deltaWord, keywords, string, numeral, choice, state, symbol, output as decoder, transition as ruled, itemOf as itemBy, item as itemAt, Ending, lineFeed, goesBy, remark, endingOf, lastPlace, finished, emptyLine, lineFrom, covering}
+use Rattle.language.specs.Lines.{RawSymbol, rawBlank, RawDecoder, RawTransition, Text, Item, machineItem, inputItem, kindItem, outputItem, tapesItem, statesItem, finalItem, inputAlphabetItem, tapeAlphabetItem, blankItem, startItem, transitionItem, Line, blankLine, commentLine, itemLine, errorLine, stateIn, symbolIn, numberIn, Spelled, wordIn, kinds, outputs, Keyword as Name, machineWord, kindWord, inputWord, outputWord, tapesWord, statesWord, sigmaWord, gammaWord, blankWord, startWord, finalWord, deltaWord, keywords, string, numeral, choice, state, symbol, output as decoder, transition as ruled, itemOf as itemBy, item as itemAt, Ending, lineFeed, goesBy, remark, endingOf, lastPlace, finished, emptyLine, lineFrom, covering}
 use Rattle.language.proofs.Every.{byTest}
 use Rattle.parser.specs.Row.{peek}
 use Rattle.parser.specs.Views.{spanOf, isKind, isChoice, isState, isSymbol, keywordOf, leadOf}
+use Rattle.parser.specs.declared.Keyword.{Keyword}
 use Rattle.parser.specs.Lines.{codeOf, one, set, output, noParts, on, plain, value, transition, spanning, newlineAt, finish, valueAt, lineOn, lineOf, itemOf, itemFrom, item, isComment, line}
 use Rattle.parser.specs.Meaning.{tokenOf, placeOf, at, between, located, seen, textOf, decoderAt, ruleOf, itemMeans, remarkOf, commentOf, ownComment, lineMeans, Counted, CountedAs, LineCounted, Sound, Closed}
 use Rattle.parser.specs.declared.Token.{Token as Words}
@@ -41,7 +42,7 @@ use Rattle.parser.proofs.Transitions.{Gives, Ruled, located-at, transit
 use Rattle.parser.proofs.Outputs.{decoder-fits}
 
 -- a token that ends no line's tokens is no comment and no line feed
-goes-kind : (k : TokenKind) → endingOf k ≡ goesBy → (eqb (kindNumber k) 12 ≡ false) × (eqb (kindNumber k) 13 ≡ false)
+pub goes-kind : (k : TokenKind) → endingOf k ≡ goesBy → (eqb (kindNumber k) 12 ≡ false) × (eqb (kindNumber k) 13 ≡ false)
 unfolding endingOf kindNumber
 goes-kind (word w) e = (refl, refl)
 goes-kind (number w) e = (refl, refl)
@@ -56,7 +57,7 @@ goes-kind newline e = absurd (let z : _≡_ {A = ℕ} 0 1 = cc in omega arith)
 goes-kind unterminatedString e = (refl, refl)
 goes-kind unterminatedQuote e = (refl, refl)
 
-feed-kind : (k : TokenKind) → endingOf k ≡ lineFeed → k ≡ newline
+pub feed-kind : (k : TokenKind) → endingOf k ≡ lineFeed → k ≡ newline
 unfolding endingOf
 feed-kind newline e = refl
 feed-kind (word w) e = absurd (let z : _≡_ {A = ℕ} 0 1 = cc in omega arith)
@@ -73,6 +74,19 @@ bind-bind : {A B C : Type 0} (x : Result Span A) (f : A → Parser Span B) (g : 
 unfolding bind
 bind-bind (ok a r) f g = refl
 bind-bind (fail c p) f g = refl
+
+-- a token that a table of words takes is a word
+word-number : {A : Type 0} (l : List (Spelled A)) (k : TokenKind) (a : A) → wordIn l k ≡ some a → kindNumber k ≡ 0
+unfolding wordIn kindNumber
+word-number l (word w) a e = refl
+word-number l (number w) a e = true-false (sym (ap isSome e))
+word-number l (quoted c) a e = true-false (sym (ap isSome e))
+word-number l (str s) a e = true-false (sym (ap isSome e))
+word-number l (sign c) a e = true-false (sym (ap isSome e))
+word-number l (comment s) a e = true-false (sym (ap isSome e))
+word-number l newline a e = true-false (sym (ap isSome e))
+word-number l unterminatedString a e = true-false (sym (ap isSome e))
+word-number l unterminatedQuote a e = true-false (sym (ap isSome e))
 
 -- the comment that ends a line's tokens
 abbrev pub noteOf : Ending → Span → Option (Located Span (List ℕ))
@@ -279,3 +293,48 @@ module _ (ts : List (Token Span)) (junk : List Words) (z : Token Span) (more : L
         equals-means Final (Says ts junk z more ends stateIn) length (λ v. set (one isState) ws v) (braced (z .place) (state (z .place))) finalItem (states-fits ts junk z more ends)
         (λ v l f r a here e o. ap finalItem (set-means stateIn v l f r a here e o)) (λ x p. subst (λ (y : ItemKind). CountedAs ts y x) (sym p) tt)
     item-of-means deltaWord w = transition-means w
+
+    item-means : Means ts (item ws i₀) (finished whole note (itemAt (z .place) (t₀ ∷ l₀)))
+    unfolding item itemFrom itemAt choice token taken bind _>>=_ finished lineMeans tokenOf
+    item-means =
+        let p : peek ws i₀ ≡ tokenOf t₀ = at-first ts junk z more i₀ t₀ l₀ row₀ .1 in
+        let e : keywordOf (peek ws i₀) ≡ startOf (wordIn keywords (t₀ .kind)) = ap keywordOf p ∙ keyword-view (t₀ .kind) (t₀ .place) (t₀ .inner) (row₀ .sound .0) in
+        subst (λ (x : Keyword). Means ts (itemFrom x ws i₀) (finished whole note (bind (taken (wordIn keywords (t₀ .kind)) unexpected t₀ l₀) λ n. itemBy (z .place) (n .value)))) (sym e)
+        (go (wordIn keywords (t₀ .kind)) refl)
+      where
+        go : (o : Option Name) → wordIn keywords (t₀ .kind) ≡ o → Means ts (itemFrom (startOf o) ws i₀) (finished whole note (bind (taken o unexpected t₀ l₀) λ n. itemBy (z .place) (n .value)))
+        go none e =
+            rw (at-first ts junk z more i₀ t₀ l₀ row₀ .1)
+            (record { same = ap (λ (c : ℕ). errorLine c (t₀ .place)) (code-view (t₀ .kind) (t₀ .place) (t₀ .inner)); counted = tt })
+        go (some n) e = item-of-means n (word-number keywords (t₀ .kind) n e)
+
+    row-means : Means ts (line ws i₀) (lineFrom covering (t₀ ∷ l₀) (z .place) note)
+    unfolding line lineFrom isComment tokenOf
+    row-means =
+        let p : peek ws i₀ ≡ tokenOf t₀ = at-first ts junk z more i₀ t₀ l₀ row₀ .1 in
+        let g = goes-kind (t₀ .kind) (row₀ .goes .0) in
+        let n : eqb (peek ws i₀ .kind) 12 ≡ false = ap (λ (x : Words). eqb (x .kind) 12) p ∙ g .0 in
+        let h : eqb (peek ws i₀ .kind) 13 ≡ false = ap (λ (x : Words). eqb (x .kind) 13) p ∙ g .1 in
+        rw (h, n) item-means
+
+  -- a row without tokens
+  empty-means : (i : ℕ) → Here i [] → Means ts (line ws i) (lineFrom covering [] (z .place) note)
+  unfolding line lineFrom emptyLine isComment tokenOf kindNumber lineMeans endingOf remarkOf
+  empty-means i here = go ends
+    where
+      p : peek ws i ≡ tokenOf z
+      p = at-stop ts junk z more i here .1
+
+      go : Stops (z .kind) → Means ts (line ws i) (emptyLine note)
+      go (inl e) =
+          let h : eqb (peek ws i .kind) 13 ≡ true = ap (λ (x : Words). eqb (x .kind) 13) p ∙ ap (λ (x : TokenKind). eqb (kindNumber x) 13) e in
+          rw h (record { same = ap (λ (x : TokenKind). emptyLine (noteOf (endingOf x) (z .inner))) (sym e); counted = tt })
+      go (inr (s, e)) =
+          let h : eqb (peek ws i .kind) 13 ≡ false = ap (λ (x : Words). eqb (x .kind) 13) p ∙ ap (λ (x : TokenKind). eqb (kindNumber x) 13) e in
+          let n : eqb (peek ws i .kind) 12 ≡ true = ap (λ (x : Words). eqb (x .kind) 12) p ∙ ap (λ (x : TokenKind). eqb (kindNumber x) 12) e in
+          let f : eqb (peek ws (i + 1) .kind) 13 ≡ true = ap (λ (x : ℕ). eqb x 13) (feed-peek s i here e) in
+          rw (h, n, f) (record { same = rw (at-stop ts junk z more i here .0, e); counted = tt })
+
+  pub line-means : (i : ℕ) (l : List (Token Span)) → Here i l → Means ts (line ws i) (lineFrom covering l (z .place) note)
+  line-means i [] here = empty-means i here
+  line-means i (t ∷ l) here = row-means i t l here

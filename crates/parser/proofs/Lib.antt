@@ -10,3 +10,4 @@ pub mod Values
 pub mod Transitions
 pub mod Outputs
 pub mod ItemLines
+pub mod Lines

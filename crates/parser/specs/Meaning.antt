@@ -10,7 +10,8 @@ use Rattle.lexer.specs.Tokens.{TokenKind, word, number, quoted, str, sign, comm
 use Rattle.lexer.specs.Words.{kindNumber, tokenValue}
 use Rattle.language.specs.Machine.{Located, transducer, lsb}
 use Rattle.language.specs.Parser.{isSign}
-use Rattle.language.specs.Lines.{RawSymbol, rawBlank, RawDecoder, rawWord, rawUnary, rawBinary, RawTransition, Text, Item, machineItem, inputItem, kindItem, outputItem, tapesItem, statesItem, finalItem, inputAlphabetItem, tapeAlphabetItem, blankItem, startItem, transitionItem, Line, blankLine, commentLine, itemLine, errorLine, stateIn, symbolIn, writeIn, directionIn, stringIn, numberIn, wordIn, kinds, outputs, orders, OutputWord, wordOutput, unaryOutput, binaryOutput, Ending, lineFeed, goesBy, remark, endingOf}
+use Rattle.language.specs.Lines.{RawSymbol, rawBlank, RawDecoder, rawWord, rawUnary, rawBinary, RawTransition, Text, Item, machineItem, inputItem, kindItem, outputItem, tapesItem, statesItem, finalItem, inputAlphabetItem, tapeAlphabetItem, blankItem, startItem, transitionItem, Line, blankLine, commentLine, itemLine, errorLine, stateIn, symbolIn, writeIn, directionIn, stringIn, numberIn, wordIn, kinds, outputs, orders, OutputWord, wordOutput, unaryOutput, binaryOutput, Ending, lineFeed, goesBy, remark, endingOf, lines, covering}
+use Rattle.parser.specs.Lines.{line, lineEnd}
 use Rattle.parser.specs.declared.Token.{Token as Words}
 use Rattle.parser.specs.declared.Span.{Span as Place}
 use Rattle.parser.specs.declared.Parts.{Parts}
@@ -224,3 +225,11 @@ pub record Lexed (t : Token Span) (ts : List (Token Span)) : Type 0 where
 abbrev pub AllLexed : List (Token Span) → Type 0
 AllLexed [] = Unit {0}
 AllLexed (t ∷ ts) = Lexed t ts × AllLexed ts
+
+-- ---- the statement
+
+-- the line that begins at the index i of the row means the first line of the tokens from there on, and the others begin behind its line feed
+pub record LineAt (ts : List (Token Span)) (ws : List Words) (i : ℕ) : Type 0 where
+  pub means : lines covering (drop i ts) ≡ lineMeans ts (line ws i) ∷ lines covering (drop (lineEnd ws i + 1) ts)
+  pub counted : LineCounted ts (line ws i)
+  pub within : lineEnd ws i < length ts
