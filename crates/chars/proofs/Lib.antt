@@ -3,3 +3,4 @@ pub mod Segments
 pub mod Front
 pub mod Encoding
 pub mod Laws
+pub mod Scans
