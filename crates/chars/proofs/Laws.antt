@@ -25,7 +25,8 @@ points-skip zero l = refl
 points-skip (suc k) [] = refl
 points-skip (suc k) (b ∷ r) = points-skip k r
 
-drop-past : (n b : ℕ) (r : List ℕ) → 1 ≤ n → drop (n - 1) r ≡ drop n (b ∷ r)
+-- a list behind its first byte
+pub drop-past : (n b : ℕ) (r : List ℕ) → 1 ≤ n → drop (n - 1) r ≡ drop n (b ∷ r)
 drop-past zero b r h = absurd (omega arith)
 drop-past (suc n) b r h = let e : suc n - 1 ≡ n = omega arith in rw e
 

@@ -4,3 +4,4 @@ pub mod Front
 pub mod Encoding
 pub mod Laws
 pub mod Scans
+pub mod Theorems
