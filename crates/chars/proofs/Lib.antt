@@ -5,3 +5,4 @@ pub mod Encoding
 pub mod Laws
 pub mod Scans
 pub mod Theorems
+pub mod Examples

@@ -1,11 +1,11 @@
 -- The loops over a text's characters: what the definition says of the rest is what it says of the whole.
-use mathlib.Core.Path.{_≡_, refl, sym, ap, _∙_}
+use mathlib.Core.Path.{_≡_, refl, ap}
 use Prim.Native.Nat.{ℕ, _+_}
 use native.Mathlib.Omega.{arith}
 use mathlib.Core.Bool.{Bool, true, false}
-use mathlib.Core.List.{List, [], _∷_}
+use mathlib.Core.List.{List}
 use lib.ListN.{drop}
-use Rattle.chars.specs.Utf8.{size, sizes, front, decode, validUpTo, decodedAt}
+use Rattle.chars.specs.Utf8.{sizes, front, decode, validUpTo, decodedAt}
 use Rattle.chars.specs.Ranges.{within}
 use Rattle.chars.specs.Class.{admitted, outsideFrom, firstOutside}
 use Rattle.chars.specs.declared.Decoded.{Decoded}

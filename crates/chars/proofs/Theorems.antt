@@ -1,16 +1,16 @@
 -- UTF-8 there and back: what is encoded decodes to itself, and the longest UTF-8 beginning is UTF-8 and longest.
-use mathlib.Core.Path.{_≡_, refl, sym, ap, ap₂, subst, _∙_}
+use mathlib.Core.Path.{_≡_, refl, sym, ap, ap₂, _∙_}
 use Prim.Native.Nat.{ℕ, zero, suc, _+_, _-_, _*_, _/_, _%_, _≤_, _<_}
 use native.Mathlib.Omega.{arith}
-use mathlib.Core.Bool.{Bool, true, false, _&&_}
+use mathlib.Core.Bool.{true}
 use mathlib.Core.List.{List, [], _∷_, _++_, append-assoc, append-nil}
 use lib.ListN.{length, take, drop, length-append, length-take, take-append-drop}
-use lib.Seq.{take-add, take-length, drop-at, take-all}
+use lib.Seq.{take-add, take-length, take-take, take-at, drop-at}
 use borrow.Author.Tests.{le-ltb, lt-ltb, lt-leb, eq-eqb}
-use Rattle.chars.specs.Utf8.{scalar, scalars, size, sizes, encodeOne, encode, Front, one, bad, none, tailOf, form, lead, front, pointsOn, pointsFrom, decode, validUpTo}
+use Rattle.chars.specs.Utf8.{scalar, scalars, size, sizes, encodeOne, encode, Front, one, bad, none, tailOf, form, front, pointsOn, pointsFrom, decode, validUpTo}
 use Rattle.chars.proofs.Tests.{and-both}
 use Rattle.chars.proofs.Encoding.{Sized, size-1, size-2, size-3, size-4, sized, size-range, length-encodeOne, front-scalar, front-bytes}
-use Rattle.chars.proofs.Laws.{decode-nil, decode-one, drop-past, points-le, points-next}
+use Rattle.chars.proofs.Laws.{decode-nil, decode-one, drop-past}
 
 -- ---- an encoding begins with its scalar value
 
@@ -140,3 +140,25 @@ valid-whole t e = sym (valid-utf8 t) ∙ ap (λ (n : ℕ). take n t) e ∙ take-
 pub encode-valid : (cs : List ℕ) → scalars cs ≡ true → validUpTo (encode cs) ≡ length (encode cs)
 unfolding validUpTo
 encode-valid cs s = ap sizes (decode-encode cs s) ∙ sym (length-encode cs)
+
+-- ---- a part of a text and its code points
+
+-- no two lists of scalar values have one encoding
+pub encode-injective : (cs ds : List ℕ) → scalars cs ≡ true → scalars ds ≡ true → encode cs ≡ encode ds → cs ≡ ds
+encode-injective cs ds s u e = sym (decode-encode cs s) ∙ ap decode e ∙ decode-encode ds u
+
+pub part-bytes : (cs ds t : List ℕ) (i : ℕ) → decode (drop i t) ≡ cs ++ ds → take (sizes cs) (drop i t) ≡ encode cs
+unfolding validUpTo
+part-bytes cs ds t i p =
+    let n : ℕ = sizes cs in
+    let l : List ℕ = drop i t in
+    let h : n ≤ validUpTo l = omega (arith, ap sizes p, sizes-append cs ds) in
+    sym (take-take n (validUpTo l) l h) ∙ ap (take n) (valid-utf8 l ∙ ap encode p ∙ encode-append cs ds) ∙ take-at (encode cs) (encode ds) n (length-encode cs)
+
+pub part-scalars : (cs ds t : List ℕ) → decode t ≡ cs ++ ds → scalars cs ≡ true
+unfolding scalars
+part-scalars cs ds t p = scalars-front cs ds (ap scalars (sym p) ∙ decode-scalars t)
+  where
+    scalars-front : (cs ds : List ℕ) → scalars (cs ++ ds) ≡ true → scalars cs ≡ true
+    scalars-front [] ds s = refl
+    scalars-front (c ∷ cs) ds s = let w = and-both (scalar c) (scalars (cs ++ ds)) s in rw (w .0) (scalars-front cs ds (w .1))

@@ -1,7 +1,7 @@
 -- Paper 01, "Characters": the admitted set, and the classes of code points.
 use Prim.Native.Nat.{ℕ, _+_}
 use mathlib.Core.List.{List, [], _∷_}
-use mathlib.Core.Bool.{Bool, true, false}
+use mathlib.Core.Bool.{true, false}
 use Rattle.chars.specs.Ranges.{Range, to, Entry, rows, lookup, within}
 use Rattle.chars.specs.Utf8.{size, decode}
 use Rattle.chars.specs.declared.Class.{Class}
