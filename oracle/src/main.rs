@@ -1,0 +1,141 @@
+//! The original Rust reader of Turing machine descriptions, run as the judge of the port.
+//!
+//! `original` is the copied source. `trace` and `tokens` get at what it keeps to itself (they
+//! are mounted inside it, see `original/dsl`). Everything else is written from paper 01: what a
+//! call answers (`head`, `sheet`, `log`, `outcome`), the plain form (`plain`), agreement
+//! (`agree`), the listing (`list`), and the commands on top.
+
+extern crate alloc;
+
+mod agree;
+mod chars;
+mod dump;
+mod families;
+mod head;
+mod list;
+mod log;
+mod outcome;
+mod place;
+mod plain;
+mod plant;
+mod reading;
+mod recover;
+mod self_check;
+mod sheet;
+mod sizes;
+mod tally;
+
+#[allow(dead_code)] // What the checks and the runner of the original would use.
+mod original;
+
+// The copied files name their neighbours as modules of the crate's root.
+use original::{diag, dsl, machine, spec, symbol};
+
+use dsl::parser::trace;
+use dsl::tokens;
+
+use std::io::{self, Read, Write};
+use std::path::Path;
+use std::process::ExitCode;
+
+use families::Family;
+use plant::Fault;
+
+const USAGE: &str = "\
+usage:
+  oracle dump FILE                     the whole outcome of a text, `-` for standard input
+  oracle list FILE                     the listing of the list program
+  oracle gen FAMILY COUNT SEED [DIR]   texts, to standard output or one file each into DIR
+  oracle self [COUNT] [SEED] [--plant layout|form|leading|sizes]
+families: grammar damaged soup short lines limits";
+
+/// Texts that `self` runs over unless told otherwise.
+const DEFAULT_COUNT: u64 = 20_000;
+
+fn main() -> ExitCode {
+    let arguments: Vec<String> = std::env::args().skip(1).collect();
+    let arguments: Vec<&str> = arguments.iter().map(String::as_str).collect();
+    match run(&arguments) {
+        Ok(true) => ExitCode::SUCCESS,
+        Ok(false) => ExitCode::FAILURE,
+        Err(message) => {
+            eprintln!("{message}");
+            ExitCode::from(2)
+        }
+    }
+}
+
+/// Runs a command; false if what it checks does not hold.
+fn run(arguments: &[&str]) -> Result<bool, String> {
+    match arguments {
+        ["dump", file] => print(&dump::dump(&read_file(file)?)),
+        ["list", file] => print(&list::listing(&read_file(file)?)),
+        ["gen", family, count, seed] => generate(family, count, seed, None),
+        ["gen", family, count, seed, directory] => generate(family, count, seed, Some(directory)),
+        ["self", rest @ ..] => self_check(rest),
+        _ => Err(USAGE.into()),
+    }
+}
+
+fn print(text: &str) -> Result<bool, String> {
+    let written = io::stdout().write_all(text.as_bytes());
+    written.map(|()| true).map_err(|e| e.to_string())
+}
+
+fn read_file(name: &str) -> Result<Vec<u8>, String> {
+    let mut text = Vec::new();
+    let read = match name {
+        "-" => io::stdin().read_to_end(&mut text),
+        _ => std::fs::File::open(name).and_then(|mut file| file.read_to_end(&mut text)),
+    };
+    read.map_err(|e| format!("{name}: {e}"))?;
+    Ok(text)
+}
+
+fn number(text: &str) -> Result<u64, String> {
+    text.parse().map_err(|_| format!("{text} is no number"))
+}
+
+/// Writes each text as its length in decimal, a line feed, its bytes and a line feed; or, with a
+/// directory, as a file of its own.
+fn generate(
+    family: &str,
+    count: &str,
+    seed: &str,
+    directory: Option<&str>,
+) -> Result<bool, String> {
+    let family = Family::named(family).ok_or_else(|| format!("{family} is no family"))?;
+    let (count, seed) = (number(count)?, number(seed)?);
+    let mut out = io::BufWriter::new(io::stdout().lock());
+    for index in 0..count {
+        let text = family.text(index, seed);
+        let written = match directory {
+            Some(directory) => {
+                let name = format!("{}-{seed}-{index}.tm", family.name());
+                std::fs::write(Path::new(directory).join(name), &text)
+            }
+            None => writeln!(out, "{}", text.len())
+                .and_then(|()| out.write_all(&text))
+                .and_then(|()| writeln!(out)),
+        };
+        written.map_err(|e| e.to_string())?;
+    }
+    out.flush().map(|()| true).map_err(|e| e.to_string())
+}
+
+fn self_check(arguments: &[&str]) -> Result<bool, String> {
+    let (numbers, fault) = match arguments {
+        [numbers @ .., "--plant", name] => {
+            let fault = Fault::named(name).ok_or_else(|| format!("{name} is no fault"))?;
+            (numbers, Some(fault))
+        }
+        numbers => (numbers, None),
+    };
+    let (count, seed) = match numbers {
+        [] => (DEFAULT_COUNT, 0),
+        [count] => (number(count)?, 0),
+        [count, seed] => (number(count)?, number(seed)?),
+        _ => return Err(USAGE.into()),
+    };
+    Ok(self_check::run(count, seed, fault))
+}
