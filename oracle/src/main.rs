@@ -9,8 +9,10 @@ extern crate alloc;
 
 mod agree;
 mod chars;
+mod compare;
 mod dump;
 mod families;
+mod foreign;
 mod head;
 mod list;
 mod log;
@@ -24,6 +26,9 @@ mod self_check;
 mod sheet;
 mod sizes;
 mod tally;
+
+#[cfg(test)]
+mod facts;
 
 #[allow(dead_code)] // What the checks and the runner of the original would use.
 mod original;
@@ -47,9 +52,10 @@ usage:
   oracle list FILE                     the listing of the list program
   oracle gen FAMILY COUNT SEED [DIR]   texts, to standard output or one file each into DIR
   oracle self [COUNT] [SEED] [--plant layout|form|leading|sizes]
+  oracle compare [tokens|read|write] [COUNT] [SEED]
 families: grammar damaged soup short lines limits";
 
-/// Texts that `self` runs over unless told otherwise.
+/// Texts that `self` and `compare` run over unless told otherwise.
 const DEFAULT_COUNT: u64 = 20_000;
 
 fn main() -> ExitCode {
@@ -73,6 +79,8 @@ fn run(arguments: &[&str]) -> Result<bool, String> {
         ["gen", family, count, seed] => generate(family, count, seed, None),
         ["gen", family, count, seed, directory] => generate(family, count, seed, Some(directory)),
         ["self", rest @ ..] => self_check(rest),
+        ["compare", which @ ("tokens" | "read" | "write"), rest @ ..] => compare(&[which], rest),
+        ["compare", rest @ ..] => compare(&["tokens", "read", "write"], rest),
         _ => Err(USAGE.into()),
     }
 }
@@ -131,11 +139,42 @@ fn self_check(arguments: &[&str]) -> Result<bool, String> {
         }
         numbers => (numbers, None),
     };
-    let (count, seed) = match numbers {
-        [] => (DEFAULT_COUNT, 0),
-        [count] => (number(count)?, 0),
-        [count, seed] => (number(count)?, number(seed)?),
-        _ => return Err(USAGE.into()),
-    };
+    let (count, seed) = count_and_seed(numbers)?;
     Ok(self_check::run(count, seed, fault))
+}
+
+fn count_and_seed(numbers: &[&str]) -> Result<(u64, u64), String> {
+    match numbers {
+        [] => Ok((DEFAULT_COUNT, 0)),
+        [count] => Ok((number(count)?, 0)),
+        [count, seed] => Ok((number(count)?, number(seed)?)),
+        _ => Err(USAGE.into()),
+    }
+}
+
+/// Compares what is linked; what is not linked is said and is no failure.
+fn compare(which: &[&str], numbers: &[&str]) -> Result<bool, String> {
+    let (count, seed) = count_and_seed(numbers)?;
+    let mut same = true;
+    for what in which {
+        let (library, result) = match *what {
+            "tokens" => (
+                "lexer",
+                foreign::tokenize().map(|f| compare::compare_tokens(f, count, seed)),
+            ),
+            "read" => (
+                "reader",
+                foreign::read().map(|f| compare::compare_read(f, count, seed)),
+            ),
+            _ => (
+                "writer",
+                foreign::write().map(|f| compare::compare_write(f, count, seed)),
+            ),
+        };
+        match result {
+            Some(held) => same &= held,
+            None => println!("{what}: no lib{library}.a to link yet, nothing compared"),
+        }
+    }
+    Ok(same)
 }

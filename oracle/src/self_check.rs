@@ -1,7 +1,8 @@
 //! `oracle self`: the oracle held against itself.
 //!
-//! For each text that reads to a machine whose form is short enough:
+//! Of diagnostics, no two share a start. For each text that reads to a machine whose form is short enough:
 //!
+//! * inferring a second time changes nothing;
 //! * the answer's words give back the original's record of the machine;
 //! * the plain form reads, with the original, to a machine that agrees, and is its own form;
 //! * against the machine before it and against single edits of its text, forms are equal
@@ -13,6 +14,7 @@ use std::time::Instant;
 use crate::agree::{Answer, agree};
 use crate::families::{Family, Random, edit};
 use crate::head::Head;
+use crate::log::Record;
 use crate::outcome::MAX_TEXT;
 use crate::place;
 use crate::plant::{Fault, plant};
@@ -78,7 +80,7 @@ pub fn run(count: u64, seed: u64, fault: Option<Fault>) -> bool {
         run.family(family, family.share(count), seed);
     }
     let _ = panic::take_hook();
-    run.tally.print();
+    run.tally.print("texts");
     println!(
         "pairs: {} that agree, {} that differ; too large to expand: {}",
         run.agreeing_pairs, run.differing_pairs, run.too_large
@@ -126,13 +128,16 @@ impl Run {
         }
         let reading = read(text);
         self.tally.count(family, kind_of(&reading));
-        let Reading::Machine(machine) = reading else {
-            return Ok(());
+        let machine = match reading {
+            Reading::Machine(machine) => machine,
+            Reading::Diagnostics(records) => return starts_ascend(&records),
+            Reading::NotUtf8(_) | Reading::OutsideSet(_) => return Ok(()),
         };
         if machine.expanded().is_none() {
             self.too_large += 1;
             return Ok(());
         }
+        inference_is_done(&machine)?;
         layout_holds(&machine)?;
         if machine.form_len > MAX_TEXT as u64 {
             return Ok(());
@@ -179,6 +184,24 @@ impl Run {
             String::from_utf8_lossy(&a.text)
         ))
     }
+}
+
+/// No two diagnostics share a start, so that the stability of their sort cannot be seen.
+fn starts_ascend(records: &[Record]) -> Result<(), String> {
+    let ascend = records.is_sorted_by(|a, b| a.place.start < b.place.start);
+    ascend
+        .then_some(())
+        .ok_or_else(|| format!("two diagnostics share a start: {records:?}"))
+}
+
+/// Inferring a second time changes nothing.
+fn inference_is_done(machine: &Machine<'_>) -> Result<(), String> {
+    let (spec, _) = machine.expanded().ok_or("not expanded")?;
+    let mut again = spec.clone();
+    again.infer();
+    (again == *spec)
+        .then_some(())
+        .ok_or_else(|| format!("inferring again gives {again:?}"))
 }
 
 /// The words of the answer give the original's record back.
