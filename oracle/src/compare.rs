@@ -5,7 +5,7 @@
 
 use std::time::Instant;
 
-use crate::families::{Family, Random};
+use crate::families::{Family, Random, Selection};
 use crate::foreign::{ANSWER_WORDS, AnswerRow, Buffers, Call, DIAGNOSTICS, Tokenize};
 use crate::head::head_words;
 use crate::log::RECORD_WORDS;
@@ -28,18 +28,17 @@ const MAX_SHEET: u64 = 1 << 26;
 /// The lexer's answer when it refuses.
 const REFUSED: usize = usize::MAX;
 
-/// Runs `check` on the texts of all families; true if it found no difference.
+/// Runs `check` on the texts of a selection; true if it found no difference.
 fn over_families(
-    count: u64,
-    seed: u64,
+    selection: Selection,
     mut check: impl FnMut(Family, &[u8], &mut Random, &mut Tally) -> Result<(), String>,
 ) -> bool {
     let started = Instant::now();
     let mut tally = Tally::default();
     let (mut texts, mut differences) = (0_u64, 0_u64);
-    for family in Family::ALL {
+    for (family, count, seed) in selection.families() {
         let mut random = Random::new([seed, count, 0xD1F7]);
-        for index in 0..family.share(count) {
+        for index in 0..count {
             let text = family.text(index, seed);
             texts += 1;
             if let Err(difference) = check(family, &text, &mut random, &mut tally) {
@@ -110,8 +109,8 @@ fn near(random: &mut Random, exact: usize) -> usize {
 }
 
 /// Compares the lexer's tokens.
-pub fn compare_tokens(tokenize: Tokenize, count: u64, seed: u64) -> bool {
-    over_families(count, seed, |family, text, random, tally| {
+pub fn compare_tokens(tokenize: Tokenize, selection: Selection) -> bool {
+    over_families(selection, |family, text, random, tally| {
         let expected = tokens(text);
         for work_len in [
             work_needed(text.len()),
@@ -146,8 +145,8 @@ fn tokens_agree(
 }
 
 /// Compares the reader's calls.
-pub fn compare_read(read: Call, count: u64, seed: u64) -> bool {
-    over_families(count, seed, |family, text, random, tally| {
+pub fn compare_read(read: Call, selection: Selection) -> bool {
+    over_families(selection, |family, text, random, tally| {
         for_lengths(text, random, |reading, lengths, random| {
             let outcome = read_outcome(text, reading, lengths);
             tally.count(family, read_kind(&outcome.reply));
@@ -163,8 +162,8 @@ pub fn compare_read(read: Call, count: u64, seed: u64) -> bool {
 }
 
 /// Compares the writer's calls.
-pub fn compare_write(write: Call, count: u64, seed: u64) -> bool {
-    over_families(count, seed, |family, text, random, tally| {
+pub fn compare_write(write: Call, selection: Selection) -> bool {
+    over_families(selection, |family, text, random, tally| {
         for_lengths(text, random, |reading, lengths, random| {
             let outcome = write_outcome(text, reading, lengths);
             tally.count(family, write_kind(&outcome.reply));
@@ -180,14 +179,14 @@ pub fn compare_write(write: Call, count: u64, seed: u64) -> bool {
 }
 
 /// The outcome of reading; a text that is too long was not read.
-fn read_outcome(text: &[u8], reading: Option<&Reading<'_>>, lengths: Lengths) -> ReadOutcome {
+pub fn read_outcome(text: &[u8], reading: Option<&Reading<'_>>, lengths: Lengths) -> ReadOutcome {
     match (outcome::refused_unread(text, lengths), reading) {
         (None, Some(reading)) => outcome::read_outcome(reading, lengths),
         _ => outcome::read(text, lengths),
     }
 }
 
-fn write_outcome(text: &[u8], reading: Option<&Reading<'_>>, lengths: Lengths) -> WriteOutcome {
+pub fn write_outcome(text: &[u8], reading: Option<&Reading<'_>>, lengths: Lengths) -> WriteOutcome {
     match (outcome::refused_unread(text, lengths), reading) {
         (None, Some(reading)) => outcome::write_outcome(reading, lengths),
         _ => outcome::write(text, lengths),
@@ -195,7 +194,7 @@ fn write_outcome(text: &[u8], reading: Option<&Reading<'_>>, lengths: Lengths) -
 }
 
 /// Reads the text once and tries several lengths of the buffers.
-fn for_lengths(
+pub fn for_lengths(
     text: &[u8],
     random: &mut Random,
     mut check: impl FnMut(Option<&Reading<'_>>, Lengths, &mut Random) -> Result<(), String>,
@@ -304,7 +303,7 @@ fn refusal_row(refusal: &Refusal) -> AnswerRow {
     answer_row(u32::from(refusal.number), refusal.value, &[])
 }
 
-fn read_answer(reply: &ReadReply) -> AnswerRow {
+pub fn read_answer(reply: &ReadReply) -> AnswerRow {
     match reply {
         ReadReply::Head(head) => answer_row(0, 0, &head_words(head)),
         ReadReply::Diagnostics(count) => answer_row(DIAGNOSTICS, *count, &[]),
@@ -312,7 +311,7 @@ fn read_answer(reply: &ReadReply) -> AnswerRow {
     }
 }
 
-fn write_answer(reply: &WriteReply) -> AnswerRow {
+pub fn write_answer(reply: &WriteReply) -> AnswerRow {
     match reply {
         WriteReply::Length(length) => answer_row(0, *length, &[]),
         WriteReply::Diagnostics(count) => answer_row(DIAGNOSTICS, *count, &[]),

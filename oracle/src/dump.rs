@@ -2,14 +2,16 @@
 
 use std::fmt::Write;
 
+use crate::chars::utf8_beginning;
 use crate::diag::Span;
 use crate::head::{Head, flags, head_words, map_places};
 use crate::log::Record;
-use crate::outcome::MAX_TEXT;
+use crate::outcome::{self, LeftBytes, LeftWords, Lengths, MAX_TEXT};
 use crate::place::text_at;
 use crate::reading::{Machine, Reading, read};
 use crate::sheet::{PLACE_WORDS, RULE_WORDS, SECTIONS, STATE_WORDS, SYMBOL_WORDS, TAPE_WORDS};
 use crate::tokens::{KINDS, tokens};
+use crate::trace::describe_lines;
 
 /// The dump of `text`, as if every buffer were long enough.
 pub fn dump(text: &[u8]) -> String {
@@ -19,6 +21,7 @@ pub fn dump(text: &[u8]) -> String {
         return out;
     }
     dump_tokens(&mut out, text);
+    dump_lines(&mut out, text);
     match read(text) {
         Reading::NotUtf8(offset) => line(&mut out, format_args!("answer: refused 3, {offset}")),
         Reading::OutsideSet(offset) => line(&mut out, format_args!("answer: refused 4, {offset}")),
@@ -26,6 +29,39 @@ pub fn dump(text: &[u8]) -> String {
         Reading::Machine(machine) => dump_machine(&mut out, &machine),
     }
     out
+}
+
+/// What a reading and a writing call with buffers of these lengths answer and leave behind.
+pub fn calls(text: &[u8], lengths: Lengths) -> String {
+    let read = outcome::read(text, lengths);
+    let write = outcome::write(text, lengths);
+    let mut out = String::new();
+    line(&mut out, format_args!("read: {:?}", read.reply));
+    line(&mut out, format_args!("  log {}", left_words(&read.log)));
+    line(
+        &mut out,
+        format_args!("  sheet {}", left_words(&read.sheet)),
+    );
+    line(&mut out, format_args!("write: {:?}", write.reply));
+    line(&mut out, format_args!("  log {}", left_words(&write.log)));
+    line(
+        &mut out,
+        format_args!("  sheet {}", left_words(&write.sheet)),
+    );
+    let output = match write.output {
+        LeftBytes::Untouched => "untouched".into(),
+        LeftBytes::Written(form) => format!("{} bytes, then untouched", form.len()),
+    };
+    line(&mut out, format_args!("  output {output}"));
+    out
+}
+
+fn left_words(left: &LeftWords) -> String {
+    match left {
+        LeftWords::Untouched => "untouched".into(),
+        LeftWords::Written(words) if words.is_empty() => "zero".into(),
+        LeftWords::Written(words) => format!("{words:?}, then zero"),
+    }
 }
 
 fn line(out: &mut String, text: std::fmt::Arguments<'_>) {
@@ -42,6 +78,14 @@ fn dump_tokens(out: &mut String, text: &[u8]) {
             out,
             format_args!("  {kind} {name} {start}-{end} value {value} {written:?}"),
         );
+    }
+}
+
+fn dump_lines(out: &mut String, text: &[u8]) {
+    let lines = describe_lines(utf8_beginning(text));
+    line(out, format_args!("lines: {}", lines.len()));
+    for description in lines {
+        line(out, format_args!("  {description}"));
     }
 }
 

@@ -25,6 +25,7 @@ mod recover;
 mod self_check;
 mod sheet;
 mod sizes;
+mod store;
 mod tally;
 
 #[cfg(test)]
@@ -43,16 +44,20 @@ use std::io::{self, Read, Write};
 use std::path::Path;
 use std::process::ExitCode;
 
-use families::Family;
+use families::{Family, Selection};
+use outcome::Lengths;
 use plant::Fault;
 
 const USAGE: &str = "\
 usage:
   oracle dump FILE                     the whole outcome of a text, `-` for standard input
+  oracle call FILE WORK LOG SHEET OUTPUT
+                                       both calls with buffers of these lengths
   oracle list FILE                     the listing of the list program
   oracle gen FAMILY COUNT SEED [DIR]   texts, to standard output or one file each into DIR
-  oracle self [COUNT] [SEED] [--plant layout|form|leading|sizes]
-  oracle compare [tokens|read|write] [COUNT] [SEED]
+  oracle store COUNT SEED              stored answers for COUNT texts of each family
+  oracle self [COUNT [SEED [FAMILY]]] [--plant layout|form|leading|sizes]
+  oracle compare [tokens|read|write] [COUNT [SEED [FAMILY]]]
 families: grammar damaged soup short lines limits";
 
 /// Texts that `self` and `compare` run over unless told otherwise.
@@ -74,10 +79,14 @@ fn main() -> ExitCode {
 /// Runs a command; false if what it checks does not hold.
 fn run(arguments: &[&str]) -> Result<bool, String> {
     match arguments {
-        ["dump", file] => print(&dump::dump(&read_file(file)?)),
-        ["list", file] => print(&list::listing(&read_file(file)?)),
+        ["dump", file] => print(dump::dump(&read_file(file)?).as_bytes()),
+        ["call", file, rest @ ..] => {
+            print(dump::calls(&read_file(file)?, lengths(rest)?).as_bytes())
+        }
+        ["list", file] => print(list::listing(&read_file(file)?).as_bytes()),
         ["gen", family, count, seed] => generate(family, count, seed, None),
         ["gen", family, count, seed, directory] => generate(family, count, seed, Some(directory)),
+        ["store", count, seed] => print(&store::cases(number(count)?, number(seed)?)),
         ["self", rest @ ..] => self_check(rest),
         ["compare", which @ ("tokens" | "read" | "write"), rest @ ..] => compare(&[which], rest),
         ["compare", rest @ ..] => compare(&["tokens", "read", "write"], rest),
@@ -85,8 +94,8 @@ fn run(arguments: &[&str]) -> Result<bool, String> {
     }
 }
 
-fn print(text: &str) -> Result<bool, String> {
-    let written = io::stdout().write_all(text.as_bytes());
+fn print(bytes: &[u8]) -> Result<bool, String> {
+    let written = io::stdout().write_all(bytes);
     written.map(|()| true).map_err(|e| e.to_string())
 }
 
@@ -104,6 +113,19 @@ fn number(text: &str) -> Result<u64, String> {
     text.parse().map_err(|_| format!("{text} is no number"))
 }
 
+fn lengths(arguments: &[&str]) -> Result<Lengths, String> {
+    let [work, log, sheet, output] = arguments else {
+        return Err(USAGE.into());
+    };
+    let length = |text| number(text).map(|n| n as usize);
+    Ok(Lengths {
+        work: length(work)?,
+        log: length(log)?,
+        sheet: length(sheet)?,
+        output: length(output)?,
+    })
+}
+
 /// Writes each text as its length in decimal, a line feed, its bytes and a line feed; or, with a
 /// directory, as a file of its own.
 fn generate(
@@ -112,7 +134,7 @@ fn generate(
     seed: &str,
     directory: Option<&str>,
 ) -> Result<bool, String> {
-    let family = Family::named(family).ok_or_else(|| format!("{family} is no family"))?;
+    let family = self::family(family)?;
     let (count, seed) = (number(count)?, number(seed)?);
     let mut out = io::BufWriter::new(io::stdout().lock());
     for index in 0..count {
@@ -139,36 +161,41 @@ fn self_check(arguments: &[&str]) -> Result<bool, String> {
         }
         numbers => (numbers, None),
     };
-    let (count, seed) = count_and_seed(numbers)?;
-    Ok(self_check::run(count, seed, fault))
+    Ok(self_check::run(selection(numbers)?, fault))
 }
 
-fn count_and_seed(numbers: &[&str]) -> Result<(u64, u64), String> {
-    match numbers {
-        [] => Ok((DEFAULT_COUNT, 0)),
-        [count] => Ok((number(count)?, 0)),
-        [count, seed] => Ok((number(count)?, number(seed)?)),
-        _ => Err(USAGE.into()),
-    }
+fn selection(arguments: &[&str]) -> Result<Selection, String> {
+    let (count, seed, only) = match arguments {
+        [] => (DEFAULT_COUNT, 0, None),
+        [count] => (number(count)?, 0, None),
+        [count, seed] => (number(count)?, number(seed)?, None),
+        [count, seed, name] => (number(count)?, number(seed)?, Some(family(name)?)),
+        _ => return Err(USAGE.into()),
+    };
+    Ok(Selection { count, seed, only })
+}
+
+fn family(name: &str) -> Result<Family, String> {
+    Family::named(name).ok_or_else(|| format!("{name} is no family"))
 }
 
 /// Compares what is linked; what is not linked is said and is no failure.
-fn compare(which: &[&str], numbers: &[&str]) -> Result<bool, String> {
-    let (count, seed) = count_and_seed(numbers)?;
+fn compare(which: &[&str], arguments: &[&str]) -> Result<bool, String> {
+    let selection = selection(arguments)?;
     let mut same = true;
     for what in which {
         let (library, result) = match *what {
             "tokens" => (
                 "lexer",
-                foreign::tokenize().map(|f| compare::compare_tokens(f, count, seed)),
+                foreign::tokenize().map(|f| compare::compare_tokens(f, selection)),
             ),
             "read" => (
                 "reader",
-                foreign::read().map(|f| compare::compare_read(f, count, seed)),
+                foreign::read().map(|f| compare::compare_read(f, selection)),
             ),
             _ => (
                 "writer",
-                foreign::write().map(|f| compare::compare_write(f, count, seed)),
+                foreign::write().map(|f| compare::compare_write(f, selection)),
             ),
         };
         match result {

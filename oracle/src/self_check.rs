@@ -12,7 +12,7 @@ use std::panic::{self, AssertUnwindSafe};
 use std::time::Instant;
 
 use crate::agree::{Answer, agree};
-use crate::families::{Family, Random, edit};
+use crate::families::{Family, Random, Selection, edit};
 use crate::head::Head;
 use crate::log::Record;
 use crate::outcome::MAX_TEXT;
@@ -66,8 +66,8 @@ struct Run {
     failures: u64,
 }
 
-/// Runs over all families; true if everything held.
-pub fn run(count: u64, seed: u64, fault: Option<Fault>) -> bool {
+/// Runs over the texts of a selection; true if everything held.
+pub fn run(selection: Selection, fault: Option<Fault>) -> bool {
     if let Some(fault) = fault {
         println!("planted fault: {fault:?}");
         plant(fault);
@@ -76,8 +76,8 @@ pub fn run(count: u64, seed: u64, fault: Option<Fault>) -> bool {
     panic::set_hook(Box::new(|_| {}));
     let started = Instant::now();
     let mut run = Run::default();
-    for family in Family::ALL {
-        run.family(family, family.share(count), seed);
+    for (family, count, seed) in selection.families() {
+        run.family(family, count, seed);
     }
     let _ = panic::take_hook();
     run.tally.print("texts");
@@ -161,7 +161,9 @@ impl Run {
     fn edited(&mut self, known: &Known, random: &mut Random) -> Result<(), String> {
         let text = edit(random, &known.text);
         match read(&text) {
-            Reading::Machine(machine) => self.pair(known, &Known::of(&machine)),
+            Reading::Machine(machine) if machine.expanded().is_some() => {
+                self.pair(known, &Known::of(&machine))
+            }
             _ => Ok(()),
         }
     }

@@ -22,7 +22,7 @@ use crate::place::{between_quotes, text_at, unescape};
 use crate::spec::{MachineSpec, SourceMap};
 
 /// The most memory, in bytes and roughly, that an expansion by the original may take.
-const EXPANSION_LIMIT: u128 = 1 << 30;
+const EXPANSION_LIMIT: u128 = 1 << 29;
 
 /// What the original makes of a text.
 pub enum Trace {
@@ -84,6 +84,17 @@ pub fn trace(source: &str) -> Trace {
     let machine = machine_trace(&lines, outline_spec, outline.map, original);
     check_machine(source, &machine);
     Trace::Machine(Box::new(machine))
+}
+
+/// The original's lines in readable form.
+pub fn describe_lines(source: &str) -> Vec<String> {
+    let tokens = lexer::tokenize(source);
+    let (lines, comments, _) = lines_with_comments(source, &tokens);
+    let described = lines.iter().zip(comments).map(|(line, comment)| {
+        let place = comment.map_or(String::new(), |p| format!(", comment at {}", as_text(p)));
+        format!("{line:?}{place}")
+    });
+    described.collect()
 }
 
 /// Panics with the text unless `holds`.

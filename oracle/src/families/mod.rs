@@ -55,7 +55,7 @@ impl Family {
     }
 
     /// The text with number `index`. For `Short` and `Lines` the seed is an offset into the
-    /// list of all texts, for `Limits` it only varies names.
+    /// list of all texts, for `Limits` it means nothing.
     pub fn text(self, index: u64, seed: u64) -> Vec<u8> {
         match self {
             Self::Grammar => grammar::text(&mut self.random(index, seed)).into_bytes(),
@@ -67,20 +67,54 @@ impl Family {
         }
     }
 
-    /// How many texts of this family a run over all families takes for a total of `total`.
-    pub fn share(self, total: u64) -> u64 {
+    /// How many of `count` texts there are: the limits are a fixed list.
+    pub fn at_most(self, count: u64) -> u64 {
         match self {
-            Self::Grammar => total * 35 / 100,
-            Self::Damaged => total * 25 / 100,
-            Self::Soup => total * 10 / 100,
-            Self::Short => total * 15 / 100,
-            Self::Lines => total * 15 / 100,
-            Self::Limits => limits::COUNT.min(total),
+            Self::Limits => limits::COUNT.min(count),
+            _ => count,
+        }
+    }
+
+    /// The part of a run over all families, in hundredths; the limits come on top.
+    fn share(self) -> u64 {
+        match self {
+            Self::Grammar => 35,
+            Self::Damaged => 25,
+            Self::Soup => 10,
+            Self::Short | Self::Lines => 15,
+            Self::Limits => 100,
         }
     }
 
     fn random(self, index: u64, seed: u64) -> Random {
         let family = Self::ALL.iter().position(|&f| f == self).unwrap_or(0) as u64;
         Random::new([seed, family, index])
+    }
+}
+
+/// The texts of a run: a number of them, from one family or from all.
+#[derive(Copy, Clone, Debug)]
+pub struct Selection {
+    pub count: u64,
+    pub seed: u64,
+    pub only: Option<Family>,
+}
+
+impl Selection {
+    /// Each family with its number of texts and their seed. The families that list all short
+    /// texts start with the shortest, whatever the seed.
+    pub fn families(self) -> impl Iterator<Item = (Family, u64, u64)> {
+        Family::ALL.into_iter().filter_map(move |family| {
+            let count = match self.only {
+                None => self.count * family.share() / 100,
+                Some(only) if only == family => self.count,
+                Some(_) => return None,
+            };
+            let seed = match family {
+                Family::Short | Family::Lines => 0,
+                _ => self.seed,
+            };
+            Some((family, family.at_most(count), seed))
+        })
     }
 }

@@ -65,8 +65,8 @@
 mod lexer;
 pub(crate) mod parser; // oracle: `parser::trace` is seen by the rest of the crate
 
-#[path = "../../tokens.rs"]
-pub(crate) mod tokens; // oracle: instrumentation, see that file
+#[path = "../../tokens.rs"] // oracle: instrumentation, see that file
+pub(crate) mod tokens; // oracle: as said
 
 use alloc::vec::Vec; // oracle: `String` served `format`
 

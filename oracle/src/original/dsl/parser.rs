@@ -1012,5 +1012,5 @@ impl Assembler {
     }
 }
 
-#[path = "../../trace.rs"]
-pub(crate) mod trace; // oracle: instrumentation, see that file
+#[path = "../../trace.rs"] // oracle: instrumentation, see that file
+pub(crate) mod trace; // oracle: as said
