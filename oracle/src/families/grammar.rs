@@ -24,10 +24,8 @@ pub fn text(random: &mut Random) -> String {
     if random.chance(5) {
         declarations.push(random.below(11));
     }
-    // A declared Q makes E003 of a final state outside it, so it shares its names with F.
-    let names: Vec<&str> = (0..1 + random.below(4))
-        .map(|_| random.pick(&NAMES))
-        .collect();
+    // Q and F share their names, since a final state outside a declared Q is E003.
+    let names: Vec<String> = (0..1 + random.below(4)).map(|_| any_name(random)).collect();
     for which in declarations {
         lines.push(declaration(random, which, &names));
     }
@@ -182,25 +180,45 @@ fn symbol_set(random: &mut Random) -> String {
     list(random, "{", &entries, "}")
 }
 
-fn name(random: &mut Random, names: &[&str]) -> String {
+/// One of the names of the text, rarely another.
+fn name(random: &mut Random, names: &[String]) -> String {
     if random.chance(85) {
-        return random.pick(names).into();
+        return names[random.below(names.len())].clone();
     }
-    random.pick(&NAMES).into()
+    any_name(random)
 }
 
-fn state_set(random: &mut Random, names: &[&str]) -> String {
-    let mut entries: Vec<String> = names.iter().map(|&n| n.into()).collect();
+/// A name from the list, or one of letters from anywhere in the set.
+fn any_name(random: &mut Random) -> String {
+    if random.chance(80) {
+        return random.pick(&NAMES).into();
+    }
+    let mut name = String::from(random.pick(&["q", "_", "Ж", "ª"]));
+    for _ in 0..1 + random.below(6) {
+        name.push(match random.character() {
+            c if c.is_alphabetic() => c,
+            c if c < ' ' => '\'',
+            c => char::from(b'0' + (u32::from(c) % 10) as u8),
+        });
+    }
+    name
+}
+
+fn state_set(random: &mut Random, names: &[String]) -> String {
+    let mut entries = names.to_vec();
     if random.chance(70) {
         entries.sort();
         entries.dedup();
     }
     entries.truncate(random.below(entries.len() + 1));
+    if random.chance(3) {
+        entries.push(any_name(random));
+    }
     shuffle_some(random, &mut entries);
     list(random, "{", &entries, "}")
 }
 
-fn declaration(random: &mut Random, which: usize, names: &[&str]) -> String {
+fn declaration(random: &mut Random, which: usize, names: &[String]) -> String {
     let (word, value) = match which {
         0 => ("machine", string(random)),
         1 => (
@@ -217,7 +235,7 @@ fn declaration(random: &mut Random, which: usize, names: &[&str]) -> String {
                 .pick(&["1", "2", "3", "0", "255", "007", "256"])
                 .into(),
         ),
-        5 => ("Q", all_states(random, names)),
+        5 => ("Q", list(random, "{", names, "}")),
         6 => (random.pick(&["Σ", "Sigma"]), symbol_set(random)),
         7 => (random.pick(&["Γ", "Gamma"]), symbol_set(random)),
         8 => ("blank", symbol(random)),
@@ -230,12 +248,6 @@ fn declaration(random: &mut Random, which: usize, names: &[&str]) -> String {
     format!("{word}{}={}{value}", gap(random), gap(random))
 }
 
-/// A set of all the names, sometimes with repeats.
-fn all_states(random: &mut Random, names: &[&str]) -> String {
-    let entries: Vec<String> = names.iter().map(|&n| n.into()).collect();
-    list(random, "{", &entries, "}")
-}
-
 fn output(random: &mut Random) -> String {
     match random.below(4) {
         0 => "word".into(),
@@ -246,7 +258,7 @@ fn output(random: &mut Random) -> String {
     }
 }
 
-fn rule(random: &mut Random, names: &[&str]) -> String {
+fn rule(random: &mut Random, names: &[String]) -> String {
     let arity = *random.pick(&[&1, &1, &1, &1, &2, &2, &3, &5]);
     let reads: Vec<String> = (0..arity).map(|_| read_entry(random)).collect();
     let writes: Vec<String> = (0..arity).map(|_| write_entry(random)).collect();

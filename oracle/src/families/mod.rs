@@ -118,3 +118,113 @@ impl Selection {
         })
     }
 }
+
+/// The families reach what they are there for.
+#[cfg(test)]
+mod tests {
+    use std::collections::BTreeSet;
+
+    use super::*;
+    use crate::head::flags;
+    use crate::reading::{Reading, read};
+    use crate::spec::MachineSpec;
+
+    /// What a machine has of the things that are to be covered.
+    fn features(spec: &MachineSpec) -> Vec<String> {
+        let declared = flags(spec.declared).map(|flag| if flag { 'x' } else { '-' });
+        let mut found = vec![
+            format!("declared {}", declared.iter().collect::<String>()),
+            format!("kind {:?}", spec.kind),
+            format!("output {:?}", std::mem::discriminant(&spec.output)),
+        ];
+        let mut note = |holds: bool, what: &str| {
+            if holds {
+                found.push(what.into());
+            }
+        };
+        let rules = &spec.transitions;
+        note(!spec.comments.header.is_empty(), "header");
+        note(!spec.comments.trailing.is_empty(), "trailing");
+        note(spec.comments.header.iter().any(String::is_empty), "empty");
+        note(rules.iter().any(|r| r.leading.len() > 1), "leading");
+        note(rules.iter().any(|r| r.comment.is_some()), "comment");
+        note(rules.iter().any(|r| r.comment.as_deref() == Some("")), "//");
+        note(rules.iter().any(|r| r.read.len() == 5), "five tapes");
+        note(rules.iter().any(|r| r.read.contains(&'\'')), "'''");
+        note(rules.iter().any(|r| r.read.contains(&'\u{85}')), "odd");
+        note(spec.input.contains('\n'), "line feed in the input");
+        note(spec.name.contains('"'), "quote in the name");
+        note(spec.states.iter().any(|s| s.is_final), "final");
+        note(spec.states.iter().any(|s| s.name == "δ"), "keyword name");
+        found
+    }
+
+    /// What `count` texts of a family have, diagnostic codes and refusals included.
+    fn covered(family: Family, count: u64) -> BTreeSet<String> {
+        let mut found = BTreeSet::new();
+        for index in 0..count {
+            let text = family.text(index, 1);
+            match read(&text) {
+                Reading::NotUtf8(_) => drop(found.insert("refused 3".into())),
+                Reading::OutsideSet(_) => drop(found.insert("refused 4".into())),
+                Reading::Diagnostics(records) => {
+                    found.extend(records.iter().map(|r| format!("E{:03}", r.code)));
+                }
+                Reading::Machine(machine) => {
+                    let (spec, _) = machine.expanded().expect("a small machine");
+                    found.extend(features(spec));
+                }
+            }
+        }
+        found
+    }
+
+    #[test]
+    fn grammar_covers_the_language() {
+        let found = covered(Family::Grammar, 20_000);
+        let flags = found.iter().filter(|f| f.starts_with("declared")).count();
+        let kinds = found.iter().filter(|f| f.starts_with("kind")).count();
+        let outputs = found.iter().filter(|f| f.starts_with("output")).count();
+        assert_eq!((flags, kinds, outputs), (32, 4, 3), "{found:?}");
+        for what in [
+            "header",
+            "trailing",
+            "empty",
+            "leading",
+            "comment",
+            "//",
+            "five tapes",
+            "'''",
+            "odd",
+            "line feed in the input",
+            "quote in the name",
+            "final",
+            "keyword name",
+            "E001",
+            "E003",
+            "E009",
+            "E010",
+            "E011",
+        ] {
+            assert!(found.contains(what), "{what} is missing");
+        }
+    }
+
+    #[test]
+    fn damage_covers_the_diagnostics_and_refusals() {
+        let found = covered(Family::Damaged, 20_000);
+        for what in [
+            "E001",
+            "E002",
+            "E003",
+            "E008",
+            "E009",
+            "E010",
+            "E011",
+            "refused 3",
+            "refused 4",
+        ] {
+            assert!(found.contains(what), "{what} is missing");
+        }
+    }
+}
