@@ -1,6 +1,7 @@
 //! What is known of the original, each fact with the input that shows it: the table of marked
 //! places P1 to P11 of paper 01, the places where that paper leaves a choice, and the traps.
 
+use crate::agree::{Answer, agree};
 use crate::chars::{self, within};
 use crate::diag::Span;
 use crate::head::Head;
@@ -414,6 +415,68 @@ fn the_form_of_everything() {
     assert_eq!(all.form, form);
     let order = BitOrder::Lsb;
     assert_eq!(all.head.output, Decoder::Binary { order });
+}
+
+/// Whether two machines agree, and whether their forms are equal.
+fn agreement(a: &str, b: &str) -> (bool, bool) {
+    let (left, right) = (machine(a), machine(b));
+    let (left_sheet, right_sheet) = (left.sections.concat(), right.sections.concat());
+    let left_answer = Answer {
+        head: &left.head,
+        sheet: &left_sheet,
+        text: a.as_bytes(),
+    };
+    let right_answer = Answer {
+        head: &right.head,
+        sheet: &right_sheet,
+        text: b.as_bytes(),
+    };
+    (agree(left_answer, right_answer), left.form == right.form)
+}
+
+#[test]
+fn machines_that_agree() {
+    for (a, b) in [
+        (
+            "",
+            "machine \"\"\nkind transducer\ninput \"\"\noutput word\ntapes = 01\nF={}",
+        ),
+        ("Q={a,b}\nF={a,b}", "F={b,a}\nQ={a,b}"),
+        ("Γ={a}", "Gamma = {'a', '␣'}"),
+        ("machine \"\\x\\\\\"", "machine \"\\\\x\\\\\""),
+        (
+            "δ(a,{0,1})=(b,*,R)",
+            "delta(a,('0'))=(b,0,'R')\nδ(a,1)=(b,1,R)",
+        ),
+        ("// a\nkind beaver // b", "// a\n\n// b\nkind beaver"),
+        ("δ(a,_)=(a,␣,L)", "δ(a,'␣')=(a,*,L)"),
+        ("//   a  ", "//   a\n"),
+    ] {
+        assert_eq!(agreement(a, b), (true, true), "{a:?} and {b:?}");
+    }
+}
+
+#[test]
+fn machines_that_differ() {
+    for (a, b) in [
+        ("F={a,b}", "F={b,a}"),
+        ("Q={a,a}", "Q={a}"),
+        ("blank=_", ""),
+        ("blank='_'", "blank=_"),
+        ("start=a", "F={a}"),
+        ("δ(a,a)=(a,a,R)", "start=a\nδ(a,a)=(a,a,R)"),
+        ("δ(a,a)=(a,a,R)", "δ(a,a)=(a,a,R) //"),
+        ("δ(a,a)=(a,a,R)//", "δ(a,a)=(a,a,R)//c"),
+        ("// a\nδ(a,a)=(a,a,R)", "// a\n\nδ(a,a)=(a,a,R)"),
+        ("// a", "//  a"),
+        ("input \"a\"", "Σ={a}\ninput \"a\""),
+        ("output unary x", "output unary 'X'"),
+        ("output binary lsb", "output binary msb"),
+        ("tapes=0", "tapes=1"),
+        ("δ(a,(a,b))=(a,(a,b),(R,R))", "δ(a,(a,b))=(a,(a,b),(R,N))"),
+    ] {
+        assert_eq!(agreement(a, b), (false, false), "{a:?} and {b:?}");
+    }
 }
 
 const DIRTY: u32 = 0xDEAD_BEEF;

@@ -61,6 +61,10 @@ mod linked {
     #[cfg(any(have_reader, have_writer))]
     use super::{ANSWER_WORDS, AnswerRow, Buffers};
 
+    /// The answer row before a call: every word of it is due to be written.
+    #[cfg(any(have_reader, have_writer))]
+    const DIRTY_ROW: AnswerRow = [0xA5A5_A5A5; ANSWER_WORDS];
+
     unsafe extern "C" {
         #[cfg(have_lexer)]
         fn pevzoncs_tokenize(
@@ -109,7 +113,7 @@ mod linked {
 
     #[cfg(have_reader)]
     pub fn read(text: &[u8], buffers: &mut Buffers) -> AnswerRow {
-        let mut answer = [0; ANSWER_WORDS];
+        let mut answer = DIRTY_ROW;
         // SAFETY: all slices are valid for their lengths, and don't overlap.
         unsafe {
             pevzoncs_read(
@@ -130,7 +134,7 @@ mod linked {
 
     #[cfg(have_writer)]
     pub fn write(text: &[u8], buffers: &mut Buffers) -> AnswerRow {
-        let mut answer = [0; ANSWER_WORDS];
+        let mut answer = DIRTY_ROW;
         // SAFETY: all slices are valid for their lengths, and don't overlap.
         unsafe {
             pevzoncs_write(
