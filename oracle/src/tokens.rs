@@ -76,7 +76,7 @@ fn token_words(token: &Token<'_>) -> TokenWords {
         TokenKind::Word(word) => (0, word_value(word)),
         TokenKind::Number(digits) => (1, number_value(digits)),
         TokenKind::Quoted(c) => (2, u32::from(*c)),
-        TokenKind::Str(_) => (3, 0),
+        TokenKind::Str(_) => (3, 1),
         TokenKind::LParen => (4, u32::from('(')),
         TokenKind::RParen => (5, u32::from(')')),
         TokenKind::LBrace => (6, u32::from('{')),
@@ -85,7 +85,7 @@ fn token_words(token: &Token<'_>) -> TokenWords {
         TokenKind::Eq => (9, u32::from('=')),
         TokenKind::Star => (10, u32::from('*')),
         TokenKind::Other(c) => (11, u32::from(*c)),
-        TokenKind::Comment(_) => (12, 0),
+        TokenKind::Comment(text) => (12, comment_value(text)),
         TokenKind::Newline => (13, 0),
         TokenKind::Error(LexError::UnterminatedString) => (14, 0),
         TokenKind::Error(LexError::UnterminatedQuote) => (15, 0),
@@ -101,6 +101,11 @@ fn word_value(word: &str) -> u32 {
     }
     let keyword = KEYWORDS.iter().position(|&k| k == word);
     LONG_WORD + keyword.map_or(0, |i| i as u32 + 1)
+}
+
+/// The bytes before a comment's text: the slashes, and one space.
+fn comment_value(text: &str) -> u32 {
+    2 + u32::from(text.starts_with(' '))
 }
 
 fn number_value(digits: &str) -> u32 {
@@ -124,10 +129,11 @@ mod tests {
         assert_eq!(value("0255"), [1, 0, 4, 255]);
         assert_eq!(value("18446744073709551616"), [1, 0, 20, 256]);
         assert_eq!(value("'''"), [2, 0, 3, 0x27]);
-        assert_eq!(value("\"a\\\"\""), [3, 0, 5, 0]);
+        assert_eq!(value("\"a\\\"\""), [3, 0, 5, 1]);
         assert_eq!(value("*"), [10, 0, 1, 0x2A]);
         assert_eq!(value("␣"), [11, 0, 3, 0x2423]);
-        assert_eq!(value("// a  "), [12, 0, 4, 0]);
+        assert_eq!(value("// a  "), [12, 0, 4, 3]);
+        assert_eq!(value("//a"), [12, 0, 3, 2]);
         assert_eq!(value(""), [13, 0, 0, 0]);
         assert_eq!(value("\"a "), [14, 0, 2, 0]);
         assert_eq!(value("'"), [15, 0, 1, 0]);
