@@ -2,3 +2,4 @@ pub mod Cases
 pub mod Words
 pub mod Records
 pub mod Appended
+pub mod Sorting
