@@ -3,3 +3,5 @@ pub mod Words
 pub mod Records
 pub mod Appended
 pub mod Sorting
+pub mod Runs
+pub mod Scans
