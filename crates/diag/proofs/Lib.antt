@@ -5,3 +5,4 @@ pub mod Appended
 pub mod Sorting
 pub mod Runs
 pub mod Scans
+pub mod Merges
