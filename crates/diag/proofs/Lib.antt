@@ -6,3 +6,4 @@ pub mod Sorting
 pub mod Runs
 pub mod Scans
 pub mod Merges
+pub mod Pairs
