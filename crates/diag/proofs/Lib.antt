@@ -7,3 +7,5 @@ pub mod Runs
 pub mod Scans
 pub mod Merges
 pub mod Pairs
+pub mod Logs
+pub mod Samples

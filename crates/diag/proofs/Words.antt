@@ -1,16 +1,15 @@
 -- Laws of the log's words: clearing, and records as words.
-use mathlib.Core.Path.{_≡_, refl, sym, ap, _∙_}
+use mathlib.Core.Path.{_≡_, sym, ap, _∙_}
 use mathlib.Core.List.{List, [], _∷_, _++_, append-nil, append-assoc}
-use Prim.Native.Nat.{ℕ, zero, suc, _+_, _-_, _*_, _/_, _≤_, _<_}
+use Prim.Native.Nat.{ℕ, suc, _+_, _-_, _*_, _/_, _≤_, _<_}
 use native.Mathlib.Omega.{arith}
 use borrow.Author.Fill.{fill-more}
 use borrow.Author.Tests.{le-leb, lt-leb}
-use lib.Dec.{leb}
 use native.Mathlib.Numerals.{add-one}
 use lib.ListN.{length, set, take, drop, getD, replicate, length-set, drop-of-length-le}
 use lib.Seq.{drop-cons, take-suc, length-take-le, set-at, sets, length-sets}
 use Rattle.diag.specs.declared.Diagnostic.{Diagnostic}
-use Rattle.diag.specs.Log.{words, Log, logged, appended}
+use Rattle.diag.specs.Log.{words, logged, appended}
 
 -- ---- clearing a row of words
 module _ (d l : List ℕ) (i : ℕ) (e : l ≡ replicate i 0 ++ drop i d) where

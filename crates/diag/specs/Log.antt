@@ -1,13 +1,11 @@
 -- Paper 01, "The records": the log as plain words, five to a record.
-use mathlib.Core.Path.{_≡_}
-use Prim.Native.Nat.{ℕ, zero, suc, _+_, _-_, _*_, _≤_}
-use mathlib.Core.Bool.{Bool, true, false, cond}
+use Prim.Native.Nat.{ℕ, zero, suc, _+_, _-_, _*_}
+use mathlib.Core.Bool.{cond}
 use mathlib.Core.List.{List, [], _∷_, _++_}
 use lib.Dec.{leb}
 use lib.ListN.{length, getD, drop, replicate}
 use lib.Seq.{sets}
 use Rattle.diag.specs.Sort.{sortBy}
-use Rattle.diag.specs.Runs.{falls}
 use Rattle.diag.specs.declared.Span.{Span}
 use Rattle.diag.specs.declared.Diagnostic.{Diagnostic}
 
@@ -83,9 +81,3 @@ unfoldable pub appendAll : Log → List Diagnostic → Log
 unfolding appended
 appendAll l [] = l
 appendAll l (d ∷ ds) = appendAll (appended l d) ds
-
--- a row after the runs of its first n records were merged in pairs: the same sort, at most half as many falls, the words behind untouched
-pub record Paired (n : ℕ) (w w′ : List ℕ) : Type 0 where
-  pub same : sort (records n w′) ≡ sort (records n w)
-  pub half : 2 * falls startOf 0 (records n w′) ≤ falls startOf 0 (records n w)
-  pub behind : drop (5 * n) w′ ≡ drop (5 * n) w
