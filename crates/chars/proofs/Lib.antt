@@ -1,0 +1,5 @@
+pub mod Tests
+pub mod Segments
+pub mod Front
+pub mod Encoding
+pub mod Laws
