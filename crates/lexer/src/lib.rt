@@ -9,10 +9,10 @@ ghost use Rattle.lexer.specs.Tokens.{tokens};
 ghost use Rattle.lexer.specs.Words.{flat, onto, tokenized};
 
 pub mod kind;
-pub mod name;
-pub mod piece;
+pub mod lex;
+pub mod names;
 pub mod scan;
-pub mod token;
+pub mod view;
 
 // A half-open range of byte offsets.
 pub struct Span {
@@ -70,7 +70,7 @@ pub fn tokenize(text: &[u8], work: &mut [u32]) -> usize
     let mut at = 0;
     let mut n = 0;
     loop {
-        let p = piece::piece_at(text, at);
+        let p = lex::piece_at(text, at);
         match p {
             Piece::Token(kind, end, value, next) => {
                 push(work, n, kind, at as u32, end as u32, value);

@@ -187,13 +187,13 @@ pub fn string_end(text: &[u8], at: usize) -> StringEnd
                 }
                 if escaped {
                     escaped = false;
+                    i = next;
+                } else if c == 0x22 {
+                    return StringEnd::Closed(next);
                 } else {
-                    if c == 0x22 {
-                        return StringEnd::Closed(next);
-                    }
                     escaped = c == 0x5C;
+                    i = next;
                 }
-                i = next;
             }
             Decoded::Invalid => return StringEnd::Unclosed,
             Decoded::End => return StringEnd::Unclosed,

@@ -9,7 +9,7 @@ ghost use Rattle.lexer.specs.Tokens.{isAsciiDigit, step, wordStep, numbe
 ghost use Rattle.lexer.specs.Words.{signNumber};
 ghost use Rattle.lexer.specs.Places.{rest, pieceOf, piece};
 use crate::kind;
-use crate::name;
+use crate::names;
 use crate::scan;
 use crate::{Piece, StringEnd};
 use chars::{Class, Decoded};
@@ -39,7 +39,7 @@ fn word(text: &[u8], at: usize, c: u32, next: usize) -> Piece
     if end == next {
         return Piece::Token(kind::WORD, end, c, end);
     }
-    let k = name::keyword_of(name::part_of(text, at, end));
+    let k = names::keyword_of(names::part_of(text, at, end));
     Piece::Token(kind::WORD, end, 0x110000 + k, end)
 }
 
