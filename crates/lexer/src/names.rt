@@ -15,12 +15,13 @@ const STARTS: [u8; 25] = [
 pub fn part_of(text: &[u8], start: usize, end: usize) -> &[u8]
     ensures { λ r. ⌜ now r ≡ part (now (text .entry)) start end ⌝ }
 {
-    if start <= end {
-        if end <= text.len() {
-            return &text[start..end];
-        }
+    if end < start {
+        return &text[0..0];
     }
-    &text[0..0]
+    if text.len() < end {
+        return &text[0..0];
+    }
+    &text[start..end]
 }
 
 // Whether two parts are equal.

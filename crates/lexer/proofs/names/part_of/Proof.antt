@@ -1,19 +1,21 @@
--- `lexer::names::part_of` meets its contract: by the same tests. Assumes nothing.
-use Rattle.chars.proofs.Tests.{tests}
-use Rattle.lexer.specs.Places.{part}
+-- `lexer::names::part_of` meets its contract: one law for each return. Assumes nothing.
+use Rattle.lexer.proofs.Keywords.{part-inside, part-backwards, part-beyond}
 use borrow.Author.Needs.{needs}
 use Rattle.lexer.proofs.names.part_of.Statement.{statement}
 use Rattle.lexer.proofs.names.part_of.Tie as tie
 
 pub part-of-spec : {M : Type 1} → statement M
-unfolding part
 part-of-spec =
     tie.close
     (tie.spec
-    (λ c. search tests)
-    (λ c. search tests)
-    (λ c. search tests)
-    (λ c. search tests)
-    (λ c. search tests)
-    (λ c. search tests)
-    (λ c. search tests))
+    (λ c. search (needs, part-inside, part-backwards, part-beyond))
+    (λ c. search (needs, part-inside, part-backwards, part-beyond))
+    (λ c. search (needs, part-inside, part-backwards, part-beyond))
+    (λ c. search (needs, part-inside, part-backwards, part-beyond))
+    (λ c. search (needs, part-inside, part-backwards, part-beyond))
+    (λ c. search (needs, part-inside, part-backwards, part-beyond))
+    (λ c. search (needs, part-inside, part-backwards, part-beyond))
+    (λ c. search (needs, part-inside, part-backwards, part-beyond))
+    (λ c. search (needs, part-inside, part-backwards, part-beyond))
+    (λ c. search (needs, part-inside, part-backwards, part-beyond))
+    (λ c. search (needs, part-inside, part-backwards, part-beyond)))
