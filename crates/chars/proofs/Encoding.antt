@@ -1,16 +1,15 @@
 -- What a text begins with is the encoding of a scalar value, and an encoding begins with its scalar value.
-use mathlib.Core.Path.{_≡_, refl, sym, ap, subst, _∙_}
-use Prim.Native.Nat.{ℕ, zero, suc, _+_, _-_, _*_, _/_, _%_, _≤_, _<_}
+use mathlib.Core.Path.{_≡_, refl, ap, subst, _∙_}
+use Prim.Native.Nat.{ℕ, _+_, _-_, _*_, _/_, _%_, _≤_, _<_}
 use native.Mathlib.Omega.{arith}
-use native.Mathlib.Decide.{decLt}
-use mathlib.Core.Logic.{_⊎_, inl, inr, ⊎-elim}
-use mathlib.Core.Bool.{Bool, true, false, cond, _&&_}
-use mathlib.Core.List.{List, [], _∷_, _++_}
-use lib.ListN.{length, getD, take, drop, List·getD-eq-default}
+use mathlib.Core.Logic.{_⊎_, ⊎-elim}
+use mathlib.Core.Bool.{true, cond, _&&_}
+use mathlib.Core.List.{List, [], _∷_}
+use lib.ListN.{length, getD, take, List·getD-eq-default}
 use lib.Dec.{ltb, leb, eqb}
-use borrow.Author.Tests.{le-ltb, lt-ltb, le-leb, lt-leb, eq-eqb, ltb-true, ltb-false, leb-true, leb-false, eqb-true}
+use borrow.Author.Tests.{le-ltb, lt-ltb, ltb-true, ltb-false, leb-false, eqb-true}
 use Rattle.chars.specs.Utf8.{scalar, size, encodeOne, Front, one, bad, none, tailOf, form, lead, front}
-use Rattle.chars.proofs.Tests.{split, lt-or-ge, or-cases, and-both}
+use Rattle.chars.proofs.Tests.{split, lt-or-ge, and-both}
 
 -- a code point with its size and its bytes
 pub data Sized (c : ℕ) : Type 0 where

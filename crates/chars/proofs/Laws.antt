@@ -2,11 +2,12 @@
 use mathlib.Core.Path.{_≡_, refl, sym, ap, _∙_}
 use Prim.Native.Nat.{ℕ, zero, suc, _+_, _-_, _≤_, _<_}
 use native.Mathlib.Omega.{arith}
+use native.Mathlib.Nat.{add-zero}
 use mathlib.Core.Bool.{true}
-use mathlib.Core.List.{List, [], _∷_}
+use mathlib.Core.List.{List, [], _∷_, _++_, append-nil}
 use lib.ListN.{length, drop, length-drop, drop-of-length-le}
 use lib.Seq.{drop-drop}
-use Rattle.chars.specs.Utf8.{scalar, size, Front, one, bad, none, front, pointsOn, pointsFrom, decode, decodedAt}
+use Rattle.chars.specs.Utf8.{scalar, size, sizes, Front, one, bad, none, front, pointsOn, pointsFrom, decode, decodedAt}
 use Rattle.chars.specs.declared.Decoded.{Decoded}
 use Rattle.chars.specs.declared.Decoded.the-variants.{Char, Invalid, End}
 use Rattle.chars.proofs.Encoding.{size-range, front-scalar, front-in}
@@ -25,7 +26,8 @@ points-skip zero l = refl
 points-skip (suc k) [] = refl
 points-skip (suc k) (b ∷ r) = points-skip k r
 
-drop-past : (n b : ℕ) (r : List ℕ) → 1 ≤ n → drop (n - 1) r ≡ drop n (b ∷ r)
+-- a list behind its first byte
+pub drop-past : (n b : ℕ) (r : List ℕ) → 1 ≤ n → drop (n - 1) r ≡ drop n (b ∷ r)
 drop-past zero b r h = absurd (omega arith)
 drop-past (suc n) b r h = let e : suc n - 1 ≡ n = omega arith in rw e
 
@@ -130,3 +132,20 @@ module _ (t : List ℕ) (i c : ℕ) (cs : List ℕ) where
 
     pub points-scalar : scalar c ≡ true
     points-scalar = front-scalar (drop i t) c points-front
+
+-- ---- by several code points at a place
+pub points-rest : (cs ds t : List ℕ) (i : ℕ) → decode (drop i t) ≡ cs ++ ds → decode (drop (i + sizes cs) t) ≡ ds
+unfolding sizes
+points-rest [] ds t i p = rw (add-zero i) p
+points-rest (c ∷ cs) ds t i p =
+    let e : i + (size c + sizes cs) ≡ i + size c + sizes cs = omega arith in
+    rw e (points-rest cs ds t (i + size c) (points-next t i c (cs ++ ds) p))
+
+pub points-in : (cs ds t : List ℕ) (i : ℕ) → i ≤ length t → decode (drop i t) ≡ cs ++ ds → i + sizes cs ≤ length t
+unfolding sizes
+points-in [] ds t i h p = omega arith
+points-in (c ∷ cs) ds t i h p = omega (arith, points-in cs ds t (i + size c) (points-le t i c (cs ++ ds) p) (points-next t i c (cs ++ ds) p))
+
+-- all the code points from a place on end within the text
+pub decode-in : (t : List ℕ) (i : ℕ) → i ≤ length t → i + sizes (decode (drop i t)) ≤ length t
+decode-in t i h = points-in (decode (drop i t)) [] t i h (sym (append-nil (decode (drop i t))))

@@ -1,6 +1,6 @@
 -- A table of ranges gives one answer over a segment of numbers: a test that computes.
-use mathlib.Core.Path.{_≡_, refl, sym, ap, subst, _∙_}
-use Prim.Native.Nat.{ℕ, zero, suc, _≤_, _<_}
+use mathlib.Core.Path.{_≡_, sym, ap, subst, _∙_}
+use Prim.Native.Nat.{ℕ, suc, _≤_, _<_}
 use native.Mathlib.Omega.{arith}
 use mathlib.Core.Logic.{_⊎_, inl, inr, ⊎-elim}
 use mathlib.Core.Bool.{Bool, true, false, cond, _&&_, _||_}
@@ -10,7 +10,7 @@ use lib.Dec.{leb, ltb, eqb}
 use borrow.Author.Tests.{lt-leb, le-leb, leb-true, ltb-true, eqb-true}
 use types.Run.{OneOf}
 use Rattle.chars.proofs.Tests.{split, lt-or-ge, or-cases, and-both, and-false}
-use Rattle.chars.specs.Ranges.{Range, to, Entry, row, rows, lookup}
+use Rattle.chars.specs.Ranges.{Entry, row, lookup}
 
 -- c is one of the list
 abbrev pub has : List ℕ → ℕ → Bool

@@ -2,14 +2,21 @@
 ghost use mathlib.Core.Path.{_≡_};
 ghost use Prim.Native.Nat.{_+_, _<_};
 ghost use lib.ListN.{getD, drop};
-ghost use Rattle.chars.specs.Utf8.{scalar, size, tailOf, form, lead, front, decodedAt};
-ghost use Rattle.chars.specs.Class.{classOf};
+ghost use Rattle.chars.specs.Utf8.{scalar, size, tailOf, form, lead, front, decodedAt, validUpTo};
+ghost use Rattle.chars.specs.Ranges.{within};
+ghost use Rattle.chars.specs.Class.{admitted, firstOutside, classOf};
 
 // The character at a place: its code point and the place after it; no character; the text's end.
 pub enum Decoded {
     Char(u32, usize),
     Invalid,
     End,
+}
+
+// The place of the first character outside the admitted set, if there is one.
+pub enum Outside {
+    At(usize),
+    Nowhere,
 }
 
 // The class of a code point, as the lexer asks for it.
@@ -134,6 +141,54 @@ pub fn char_at(text: &[u8], at: usize) -> Decoded
     let c = tail(byte(text, at + 2));
     let d = tail(byte(text, at + 3));
     character(at, a, b, c, d)
+}
+
+// The length of the longest UTF-8 beginning.
+pub fn valid_up_to(text: &[u8]) -> usize
+    ensures { λ r. ⌜ r ≡ validUpTo (now (text .entry)) ⌝ }
+{
+    let mut i = 0;
+    loop {
+        let d = char_at(text, i);
+        match d {
+            Decoded::Char(_, next) => {
+                i = next;
+            }
+            Decoded::Invalid => return i,
+            Decoded::End => return i,
+        }
+    }
+}
+
+// Whether a code point is in the set that a text may use.
+pub fn is_admitted(c: u32) -> bool
+    ensures { λ r. ⌜ r ≡ within admitted c ⌝ }
+{
+    match c {
+        0x0000..=0x02C1 | 0x0370..=0x0481 | 0x2190..=0x243F => true,
+        _ => false,
+    }
+}
+
+// The first character outside that set, in the longest UTF-8 beginning.
+pub fn first_outside(text: &[u8]) -> Outside
+    ensures { λ r. ⌜ r ≡ firstOutside (now (text .entry)) ⌝ }
+{
+    let mut i = 0;
+    loop {
+        let d = char_at(text, i);
+        match d {
+            Decoded::Char(c, next) => {
+                if is_admitted(c) {
+                    i = next;
+                } else {
+                    return Outside::At(i);
+                }
+            }
+            Decoded::Invalid => return Outside::Nowhere,
+            Decoded::End => return Outside::Nowhere,
+        }
+    }
 }
 
 // The class of a code point.
