@@ -10,6 +10,8 @@ use lib.Dec.{eqb, leb}
 use lib.ListN.{length, getD, take, drop, drop-of-length-le}
 use lib.Seq.{drop-cons}
 use borrow.Author.Tests.{eq-eqb, ne-eqb, eqb-true, leb-true, le-leb, lt-leb}
+use mir.Syntax.{w64}
+use mir.Val.{Fits}
 use Rattle.chars.specs.Utf8.{encode}
 use Rattle.chars.proofs.Tests.{and-both, lt-or-ge}
 use Rattle.lexer.specs.Text.{same}
@@ -164,6 +166,14 @@ module _ (names from name : List ℕ) (k : ℕ) (st : Sought names from name k) 
 
     pub sought-inside : getD from (k + 1) 0 ≤ length names
     sought-inside = rw (st .is-starts, st .is-table) (row-inside k h)
+
+    pub sought-next-fits : Fits w64 (getD from (k + 1) 0)
+    unfolding table keywordBytes
+    sought-next-fits = omega (arith, row-inside k h, ap (λ (s : List ℕ). getD s (k + 1) 0) (st .is-starts))
+
+    pub sought-fits : Fits w64 (getD from k 0)
+    unfolding table keywordBytes
+    sought-fits = omega (arith, row-inside k h, row-order k h, ap (λ (s : List ℕ). getD s k 0) (st .is-starts))
 
     here : position (suc k) (getD keywordBytes k [] ∷ drop (suc k) keywordBytes) name ≡ position 1 keywordBytes name
     here = sym (ap (λ (l : List (List ℕ)). position (suc k) l name) (drop-cons keywordBytes k [] (rw count h))) ∙ st .left

@@ -2,7 +2,7 @@
 use mathlib.Core.Path.{refl}
 use Prim.Native.Nat.{_-_}
 use Rattle.lexer.specs.Words.{keywordBytes}
-use Rattle.lexer.proofs.Keywords.{table, starts, Sought, sought-start, sought-order, sought-inside, sought-found, sought-on, sought-none}
+use Rattle.lexer.proofs.Keywords.{table, starts, Sought, sought-start, sought-order, sought-inside, sought-fits, sought-next-fits, sought-found, sought-on, sought-none}
 use borrow.Author.Needs.{needs}
 use Rattle.lexer.proofs.names.keyword_of.Statement.{statement}
 use Rattle.lexer.proofs.names.keyword_of.Tie as tie
@@ -18,7 +18,7 @@ holds : tie.Need-loop-holds Inv-loop μ-loop
 unfolding table starts keywordBytes
 holds c = sought-start _ _ _ refl refl
 
-ruleset laws = (needs, sought-order, sought-inside, sought-found, sought-on, sought-none)
+ruleset laws = (needs, sought-order, sought-inside, sought-fits, sought-next-fits, sought-found, sought-on, sought-none)
 
 pub keyword-of-spec : {M : Type 1} → statement M
 keyword-of-spec =
@@ -38,8 +38,8 @@ keyword-of-spec =
     (λ c κs. search laws)
     (λ c. search laws)
     (λ c. search laws)
+    (λ c. (sought-found _ _ _ _ (c .before .before .before .before .before .loop .inv) (search needs) (c .before .same-part .result) (c .before .same-part .ensures) (search needs)))
     (λ c. search laws)
     (λ c. search laws)
-    (λ c. search laws)
-    (λ c. search laws)
+    (λ c. sought-on _ _ _ _ (c .before .before .before .before .before .loop .inv) (search needs) (c .before .same-part .result) (c .before .same-part .ensures) (search needs))
     (λ c. search laws))
