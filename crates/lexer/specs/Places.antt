@@ -18,6 +18,11 @@ use Rattle.lexer.specs.declared.Piece.the-variants.{Token as Tok, Gap, E
 abbrev pub rest : List ℕ → ℕ → List ℕ
 rest t at = decode (drop at t)
 
+-- the first character is c
+unfoldable pub startsWith : ℕ → List ℕ → Bool
+startsWith c [] = false
+startsWith c (x ∷ r) = eqb x c
+
 -- the bytes of a text between two offsets; none where the offsets do not lie inside it
 unfoldable pub part : List ℕ → ℕ → ℕ → List ℕ
 part t a b = cond (leb a b && leb b (length t)) (take (b - a) (drop a t)) []

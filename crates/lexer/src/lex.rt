@@ -75,20 +75,19 @@ fn quoted(text: &[u8], at: usize) -> Piece
 {
     let lone = Piece::Token(kind::UNTERMINATED_QUOTE, at + 1, 0, at + 1);
     let s = chars::char_at(text, at + 1);
-    let Decoded::Char(c, next) = s else {
-        return lone;
-    };
-    if c == 10 {
-        return lone;
+    match s {
+        Decoded::Char(c, next) => {
+            if c == 10 {
+                return lone;
+            }
+            if scan::starts_with(text, next, 0x27) {
+                return Piece::Token(kind::QUOTED, next + 1, c, next + 1);
+            }
+            lone
+        }
+        Decoded::Invalid => lone,
+        Decoded::End => lone,
     }
-    let q = chars::char_at(text, next);
-    let Decoded::Char(d, end) = q else {
-        return lone;
-    };
-    if d == 0x27 {
-        return Piece::Token(kind::QUOTED, end, c, end);
-    }
-    lone
 }
 
 // Two slashes at a place: a comment up to the line's end, trimmed; one space behind the slashes is not part of its text.
@@ -97,19 +96,13 @@ fn comment(text: &[u8], at: usize) -> Piece
     ensures { λ r. ⌜ r ≡ pieceOf at (at + 1) (0x2F ∷ rest (now (text .entry)) (at + 2)) (commentStep (rest (now (text .entry)) (at + 2))) ⌝ }
 {
     let l = scan::line_end(text, at + 2);
-    let trimmed = l.trimmed;
-    let end = l.end;
-    if at + 2 == trimmed {
-        return Piece::Token(kind::COMMENT, trimmed, 2, end);
+    if l.trimmed == at + 2 {
+        return Piece::Token(kind::COMMENT, l.trimmed, 2, l.end);
     }
-    let s = chars::char_at(text, at + 2);
-    let Decoded::Char(c, _) = s else {
-        return Piece::Token(kind::COMMENT, trimmed, 2, end);
-    };
-    if c == 0x20 {
-        return Piece::Token(kind::COMMENT, trimmed, 3, end);
+    if scan::starts_with(text, at + 2, 0x20) {
+        return Piece::Token(kind::COMMENT, l.trimmed, 3, l.end);
     }
-    Piece::Token(kind::COMMENT, trimmed, 2, end)
+    Piece::Token(kind::COMMENT, l.trimmed, 2, l.end)
 }
 
 // A slash at a place: a comment, or the slash alone.
@@ -117,15 +110,10 @@ fn slash(text: &[u8], at: usize) -> Piece
     requires { ⌜ at < length (now text) ⌝ }
     ensures { λ r. ⌜ r ≡ pieceOf at (at + 1) (rest (now (text .entry)) (at + 1)) (slashStep (rest (now (text .entry)) (at + 1))) ⌝ }
 {
-    let alone = Piece::Token(kind::OTHER, at + 1, 0x2F, at + 1);
-    let s = chars::char_at(text, at + 1);
-    let Decoded::Char(d, _) = s else {
-        return alone;
-    };
-    if d == 0x2F {
+    if scan::starts_with(text, at + 1, 0x2F) {
         return comment(text, at);
     }
-    alone
+    Piece::Token(kind::OTHER, at + 1, 0x2F, at + 1)
 }
 
 // A character of no class: the beginning of a word, a string, a quoted character or a comment; or a token of its own.

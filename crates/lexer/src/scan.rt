@@ -5,7 +5,7 @@ ghost use Prim.Native.Nat.{_+_, _-_, _*_, _≤_, min};
 ghost use Rattle.chars.specs.Utf8.{sizes};
 ghost use Rattle.lexer.specs.Tokens.{isWordStart, isWordContinue, isAsciiDigit, isWhitespace, run};
 ghost use Rattle.lexer.specs.Words.{value};
-ghost use Rattle.lexer.specs.Places.{rest, lineAt, stringEnd};
+ghost use Rattle.lexer.specs.Places.{rest, startsWith, lineAt, stringEnd};
 use crate::{Line, StringEnd};
 use chars::{Class, Decoded};
 
@@ -71,6 +71,18 @@ pub fn is_whitespace(c: u32) -> bool
         Class::Space => true,
         Class::Sign => false,
         Class::Other => false,
+    }
+}
+
+// Whether the character at a place is c.
+pub fn starts_with(text: &[u8], at: usize, c: u32) -> bool
+    ensures { λ r. ⌜ r ≡ startsWith c (rest (now (text .entry)) at) ⌝ }
+{
+    let s = chars::char_at(text, at);
+    match s {
+        Decoded::Char(x, _) => x == c,
+        Decoded::Invalid => false,
+        Decoded::End => false,
     }
 }
 
