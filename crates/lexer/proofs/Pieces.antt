@@ -20,7 +20,7 @@ use Rattle.chars.proofs.Encoding.{size-range}
 use Rattle.chars.proofs.Laws.{char-next, char-decode, char-le, invalid-decode, end-decode, points-next, points-le}
 use Rattle.chars.proofs.Theorems.{part-bytes, part-scalars, encode-injective}
 use Rattle.lexer.specs.Text.{same}
-use Rattle.lexer.specs.Tokens.{TokenKind, word, number, quoted, str, sign, comment, newline, unterminatedString, unterminatedQuote, Span, Token, tokenAt, isAsciiDigit, isWordContinue, run, line, trimCons, trimEnd, indent, commentText, Inside, closed, unclosed, inside, Step, gap, tok, wordStep, numberStep, stringStep, quotedStep, commentStep, slashStep, otherStep, step}
+use Rattle.lexer.specs.Tokens.{TokenKind, word, number, quoted, str, sign, comment, newline, unterminatedString, unterminatedQuote, Span, Token, tokenAt, isAsciiDigit, isWordContinue, isWhitespace, run, line, trimCons, trimEnd, indent, commentText, Inside, closed, unclosed, inside, Step, gap, tok, wordStep, numberStep, stringStep, quotedStep, commentStep, slashStep, otherStep, step}
 use Rattle.lexer.specs.Words.{keywords, keywordBytes, keyword, position, value, signNumber, kindNumber, wordValue, tokenValue}
 use Rattle.lexer.specs.Places.{startsWith, part, lineAt, stringEnd, pieceOf, piece}
 use Rattle.lexer.specs.declared.Line.{Line}
@@ -142,3 +142,140 @@ module _ (t : List ℕ) (at : ℕ) (r : Decoded) (s : r ≡ decodedAt (at + 1) (
           let m = char-next t (at + 1) r s c n e in
           rw d (piece-of at (at + 1) (c ∷ 0x27 ∷ u) _ _ _ (quoted-char c u f)
           (piece-tok at (at + 1) (c ∷ 0x27 ∷ u) (quoted c) (2 + size c) 0 0 2 (n + 1) c (n + 1) (omega arith) refl (omega arith)))
+
+-- ---- a string
+string-inv : (b : Bool) (at : ℕ) (cs : List ℕ) (n : ℕ) → stringEnd b at cs ≡ Closed n → (v : List ℕ) × (k : ℕ) × (inside b cs ≡ closed v k) × (n ≡ at + sizes (take k cs))
+unfolding stringEnd
+string-inv b at cs n e = go (inside b cs) refl
+  where
+    go : (x : Inside) → inside b cs ≡ x → (v : List ℕ) × (k : ℕ) × (inside b cs ≡ closed v k) × (n ≡ at + sizes (take k cs))
+    go (closed v k) p = let q : Closed (at + sizes (take k cs)) ≡ Closed n = sym (rw (p, stringEnd)) ∙ e in (v, k, p, cc)
+    go unclosed p = let q : Unclosed ≡ Closed n = sym (rw (p, stringEnd)) ∙ e in let z : _≡_ {A = ℕ} 0 1 = cc in absurd (omega arith)
+
+string-open : (b : Bool) (at : ℕ) (cs : List ℕ) → stringEnd b at cs ≡ Unclosed → inside b cs ≡ unclosed
+unfolding stringEnd
+string-open b at cs e = go (inside b cs) refl
+  where
+    go : (x : Inside) → inside b cs ≡ x → inside b cs ≡ unclosed
+    go (closed v k) p = let q : Closed (at + sizes (take k cs)) ≡ Unclosed = sym (rw (p, stringEnd)) ∙ e in let z : _≡_ {A = ℕ} 0 1 = cc in absurd (omega arith)
+    go unclosed p = p
+
+module _ (t : List ℕ) (at : ℕ) (r : StringEnd) (s : r ≡ stringEnd false (at + 1) (decode (drop (at + 1) t))) where
+  pub string-token : (n : ℕ) → r ≡ Closed n → Tok 3 n 1 n ≡ pieceOf at (at + 1) (decode (drop (at + 1) t)) (stringStep (decode (drop (at + 1) t)))
+  unfolding stringStep kindNumber tokenValue
+  string-token n e =
+      let cs : List ℕ = decode (drop (at + 1) t) in
+      let w = string-inv false (at + 1) cs n (sym s ∙ e) in
+      let v : List ℕ = w .0 in
+      let k : ℕ = w .1 in
+      let p = w .3 in
+      piece-of at (at + 1) cs _ (tok (str v) (1 + sizes (take k cs)) 1 1 k) _ (rw (w .2, stringStep))
+      (piece-tok at (at + 1) cs (str v) (1 + sizes (take k cs)) 1 1 k n 1 n (omega arith) (omega arith) p)
+
+  pub string-rest : (l : Line) → r ≡ Unclosed → l ≡ lineAt (at + 1) (decode (drop (at + 1) t))
+      → Tok 14 (l .trimmed) 0 (l .end) ≡ pieceOf at (at + 1) (decode (drop (at + 1) t)) (stringStep (decode (drop (at + 1) t)))
+  unfolding stringStep kindNumber tokenValue lineAt
+  string-rest l e g =
+      let cs : List ℕ = decode (drop (at + 1) t) in
+      let p : l .trimmed ≡ at + 1 + sizes (trimEnd (line cs)) = ap (λ (x : Line). x .trimmed) g in
+      let q : l .end ≡ at + 1 + sizes (line cs) = ap (λ (x : Line). x .end) g in
+      piece-of at (at + 1) cs _ (tok unterminatedString (1 + sizes (trimEnd (line cs))) 0 0 (length (line cs))) _ (rw (string-open false (at + 1) cs (sym s ∙ e), stringStep))
+      (piece-tok at (at + 1) cs unterminatedString (1 + sizes (trimEnd (line cs))) 0 0 (length (line cs)) (l .trimmed) 0 (l .end) (omega arith) refl
+      (q ∙ ap (λ (x : List ℕ). at + 1 + sizes x) (sym (line-prefix cs))))
+
+-- ---- a comment
+size-pos : (c : ℕ) (r : List ℕ) → sizes (c ∷ r) ≡ 0 → ⊥
+size-pos c r e = omega (arith, sizes-cons c r, size-range c .0)
+
+no-sizes : (l : List ℕ) → sizes l ≡ 0 → l ≡ []
+no-sizes [] e = refl
+no-sizes (c ∷ r) e = absurd (size-pos c r e)
+
+indent-none : (l : List ℕ) → sizes l ≡ 0 → indent l ≡ 0
+unfolding indent
+indent-none l e = ap indent (no-sizes l e)
+
+-- a trimmed line, where it is not empty, begins as the text does
+trim-head : (c : ℕ) (l : List ℕ) → (sizes (trimCons c l) ≡ 0 → ⊥) → (m : List ℕ) × (trimCons c l ≡ c ∷ m)
+unfolding trimCons isWhitespace
+trim-head c [] f = byTest (isWhitespace c) (λ e. absurd (f (rw (e, trimCons) sizes-nil))) (λ e. ([], rw (e, trimCons)))
+trim-head c (d ∷ r) f = (d ∷ r, refl)
+
+indent-cons : (c : ℕ) (m : List ℕ) (b : Bool) → b ≡ eqb c 0x20 → indent (c ∷ m) ≡ cond b 1 0
+unfolding indent
+indent-cons c m true e = rw (← e, indent)
+indent-cons c m false e = rw (← e, indent)
+
+indent-head : (cs : List ℕ) (b : Bool) → (sizes (trimEnd (line cs)) ≡ 0 → ⊥) → b ≡ startsWith 0x20 cs → indent (trimEnd (line cs)) ≡ cond b 1 0
+unfolding line trimEnd startsWith
+indent-head [] b f e = absurd (f sizes-nil)
+indent-head (c ∷ r) b f e =
+    byTest (eqb c 10)
+    (λ p. absurd (f (rw (p, line) sizes-nil)))
+    (λ p.
+    let w = trim-head c (trimEnd (line r)) (λ (z : sizes (trimCons c (trimEnd (line r))) ≡ 0). f (rw (p, line) z)) in
+    rw (p, line) (ap indent (w .1) ∙ indent-cons c (w .0) b e))
+
+module _ (t : List ℕ) (at : ℕ) (l : Line) (g : l ≡ lineAt (at + 2) (decode (drop (at + 2) t))) where
+  -- the token, where n bytes stand before the text
+  comment-token : (n : ℕ) → indent (trimEnd (line (decode (drop (at + 2) t)))) ≡ n
+      → Tok 12 (l .trimmed) (2 + n) (l .end) ≡ pieceOf at (at + 1) (0x2F ∷ decode (drop (at + 2) t)) (commentStep (decode (drop (at + 2) t)))
+  unfolding commentStep kindNumber tokenValue lineAt sizes size
+  comment-token n e =
+      let r : List ℕ = decode (drop (at + 2) t) in
+      let u : List ℕ = trimEnd (line r) in
+      let p : l .trimmed ≡ at + 2 + sizes u = ap (λ (x : Line). x .trimmed) g in
+      let q : l .end ≡ at + 2 + sizes (line r) = ap (λ (x : Line). x .end) g in
+      let o : sizes (take (length (line r)) r) ≡ sizes (line r) = ap sizes (line-prefix r) in
+      piece-tok at (at + 1) (0x2F ∷ r) (comment (commentText u)) (2 + sizes u) (2 + indent u) 0 (suc (length (line r))) (l .trimmed) (2 + n) (l .end)
+      (omega arith) (omega arith) (omega arith)
+
+  pub comment-empty : l .trimmed ≡ at + 2 → Tok 12 (l .trimmed) 2 (l .end) ≡ pieceOf at (at + 1) (0x2F ∷ decode (drop (at + 2) t)) (commentStep (decode (drop (at + 2) t)))
+  unfolding lineAt
+  comment-empty e =
+      let r : List ℕ = decode (drop (at + 2) t) in
+      let p : l .trimmed ≡ at + 2 + sizes (trimEnd (line r)) = ap (λ (x : Line). x .trimmed) g in
+      comment-token 0 (indent-none (trimEnd (line r)) (omega arith))
+
+  module _ (f : l .trimmed ≡ at + 2 → ⊥) (b : Bool) (h : b ≡ startsWith 0x20 (decode (drop (at + 2) t))) where
+    indent-is : indent (trimEnd (line (decode (drop (at + 2) t)))) ≡ cond b 1 0
+    unfolding lineAt
+    indent-is =
+        let r : List ℕ = decode (drop (at + 2) t) in
+        let p : l .trimmed ≡ at + 2 + sizes (trimEnd (line r)) = ap (λ (x : Line). x .trimmed) g in
+        indent-head r b (λ (z : sizes (trimEnd (line r)) ≡ 0). f (omega arith)) h
+
+    pub comment-space : b ≡ true → Tok 12 (l .trimmed) 3 (l .end) ≡ pieceOf at (at + 1) (0x2F ∷ decode (drop (at + 2) t)) (commentStep (decode (drop (at + 2) t)))
+    comment-space e = comment-token 1 (indent-is ∙ ap (λ (x : Bool). cond x 1 0) e)
+
+    pub comment-plain : b ≡ false → Tok 12 (l .trimmed) 2 (l .end) ≡ pieceOf at (at + 1) (0x2F ∷ decode (drop (at + 2) t)) (commentStep (decode (drop (at + 2) t)))
+    comment-plain e = comment-token 0 (indent-is ∙ ap (λ (x : Bool). cond x 1 0) e)
+
+-- ---- a slash
+slash-slash : (r : List ℕ) → slashStep (0x2F ∷ r) ≡ commentStep r
+unfolding slashStep
+slash-slash r = refl
+
+slash-alone : (cs : List ℕ) → startsWith 0x2F cs ≡ false → slashStep cs ≡ tok (sign 0x2F) 1 0 0 0
+unfolding slashStep startsWith
+slash-alone [] e = refl
+slash-alone (d ∷ r) e = rw (e, slashStep)
+
+module _ (t : List ℕ) (at : ℕ) (b : Bool) (h : b ≡ startsWith 0x2F (decode (drop (at + 1) t))) where
+  pub slash-in : b ≡ true → at + 1 < length t
+  unfolding size
+  slash-in e = omega (arith, starts-in t (at + 1) 0x2F b h e)
+
+  pub slash-comment : (x : Piece) → b ≡ true → x ≡ pieceOf at (at + 1) (0x2F ∷ decode (drop (at + 2) t)) (commentStep (decode (drop (at + 2) t)))
+      → x ≡ pieceOf at (at + 1) (decode (drop (at + 1) t)) (slashStep (decode (drop (at + 1) t)))
+  unfolding size
+  slash-comment x e p =
+      let o : at + 1 + 1 ≡ at + 2 = omega arith in
+      let d : decode (drop (at + 1) t) ≡ 0x2F ∷ decode (drop (at + 2) t) = starts-rest t (at + 1) 0x2F b h e ∙ ap (λ (i : ℕ). 0x2F ∷ decode (drop i t)) o in
+      rw d (p ∙ sym (ap (pieceOf at (at + 1) (0x2F ∷ decode (drop (at + 2) t))) (slash-slash (decode (drop (at + 2) t)))))
+
+  pub slash-sign : b ≡ false → Tok 11 (at + 1) 0x2F (at + 1) ≡ pieceOf at (at + 1) (decode (drop (at + 1) t)) (slashStep (decode (drop (at + 1) t)))
+  unfolding kindNumber tokenValue sizes
+  slash-sign e =
+      piece-of at (at + 1) _ _ _ _ (slash-alone (decode (drop (at + 1) t)) (sym h ∙ e))
+      (piece-tok at (at + 1) (decode (drop (at + 1) t)) (sign 0x2F) 1 0 0 0 (at + 1) 0x2F (at + 1) refl refl (no-bytes (at + 1)))
