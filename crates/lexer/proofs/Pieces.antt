@@ -3,11 +3,11 @@ use mathlib.Core.Path.{_≡_, refl, sym, ap, subst, _∙_}
 use Prim.Native.Nat.{ℕ, zero, suc, _+_, _-_, _*_, _≤_, _<_, min}
 use native.Mathlib.Omega.{arith}
 use mathlib.Core.Bool.{Bool, true, false, cond, _&&_, not}
-use mathlib.Core.List.{List, [], _∷_, _++_, append-nil}
+use mathlib.Core.List.{List, [], _∷_, _++_, map}
 use lib.Dec.{eqb}
 use lib.ListN.{length, take, drop, take-append-drop}
 use borrow.Author.Tests.{eq-eqb, ne-eqb, eqb-true, eqb-false}
-use mir.Syntax.{w64}
+use mir.Syntax.{w32, w64}
 use mir.Val.{Fits}
 use Rattle.chars.specs.Utf8.{size, sizes, scalars, Front, front, decodedAt, decode, encode}
 use Rattle.chars.specs.Class.{classOf}
@@ -16,11 +16,12 @@ use Rattle.chars.specs.declared.Class.the-variants.{Letter, Digit, Space, Sign,
 use Rattle.chars.specs.declared.Decoded.{Decoded}
 use Rattle.chars.specs.declared.Decoded.the-variants.{Char, Invalid}
 use Rattle.chars.specs.declared.Decoded
+use Rattle.chars.proofs.Tests.{and-both}
 use Rattle.chars.proofs.Encoding.{size-range}
 use Rattle.chars.proofs.Laws.{char-next, char-decode, char-le, invalid-decode, end-decode, points-next, points-le}
 use Rattle.chars.proofs.Theorems.{part-bytes, part-scalars, encode-injective}
 use Rattle.lexer.specs.Text.{same}
-use Rattle.lexer.specs.Tokens.{TokenKind, word, number, quoted, str, sign, comment, newline, unterminatedString, unterminatedQuote, Span, Token, tokenAt, isAsciiDigit, isWordContinue, isWhitespace, run, line, trimCons, trimEnd, indent, commentText, Inside, closed, unclosed, inside, Step, gap, tok, wordStep, numberStep, stringStep, quotedStep, commentStep, slashStep, otherStep, step}
+use Rattle.lexer.specs.Tokens.{TokenKind, word, number, quoted, str, sign, comment, newline, unterminatedString, unterminatedQuote, Span, Token, tokenAt, isDigit, isAsciiDigit, isWordContinue, isWhitespace, run, line, trimCons, trimEnd, indent, commentText, Inside, closed, unclosed, inside, Step, gap, tok, wordStep, numberStep, stringStep, quotedStep, commentStep, slashStep, otherStep, step}
 use Rattle.lexer.specs.Words.{keywords, keywordBytes, keyword, position, value, signNumber, kindNumber, wordValue, tokenValue}
 use Rattle.lexer.specs.Places.{startsWith, part, lineAt, stringEnd, pieceOf, piece}
 use Rattle.lexer.specs.declared.Line.{Line}
@@ -279,3 +280,252 @@ module _ (t : List ℕ) (at : ℕ) (b : Bool) (h : b ≡ startsWith 0x2F (decode
   slash-sign e =
       piece-of at (at + 1) _ _ _ _ (slash-alone (decode (drop (at + 1) t)) (sym h ∙ e))
       (piece-tok at (at + 1) (decode (drop (at + 1) t)) (sign 0x2F) 1 0 0 0 (at + 1) 0x2F (at + 1) refl refl (no-bytes (at + 1)))
+
+-- ---- k characters on
+pub jump : (k : ℕ) (t : List ℕ) (i : ℕ) (cs : List ℕ) → decode (drop i t) ≡ cs → decode (drop (i + sizes (take k cs)) t) ≡ drop k cs
+unfolding sizes
+jump zero t i cs p = ap (λ (j : ℕ). decode (drop j t)) (sym (no-bytes i)) ∙ p
+jump (suc k) t i [] p = ap (λ (j : ℕ). decode (drop j t)) (sym (no-bytes i)) ∙ p
+jump (suc k) t i (c ∷ r) p =
+    let o : i + (size c + sizes (take k r)) ≡ i + size c + sizes (take k r) = omega arith in
+    ap (λ (j : ℕ). decode (drop j t)) o ∙ jump k t (i + size c) r (points-next t i c r p)
+
+pub jump-le : (k : ℕ) (t : List ℕ) (i : ℕ) (cs : List ℕ) → decode (drop i t) ≡ cs → i ≤ length t → i + sizes (take k cs) ≤ length t
+unfolding sizes
+jump-le zero t i cs p h = omega arith
+jump-le (suc k) t i [] p h = omega arith
+jump-le (suc k) t i (c ∷ r) p h = omega (arith, jump-le k t (i + size c) r (points-next t i c r p) (points-le t i c r p))
+
+-- the bytes of the first k characters
+pub jump-part : (k : ℕ) (t : List ℕ) (i : ℕ) (cs : List ℕ) → decode (drop i t) ≡ cs → i ≤ length t → part t i (i + sizes (take k cs)) ≡ encode (take k cs)
+jump-part k t i cs p h =
+    let n : ℕ = sizes (take k cs) in
+    let o : i + n - i ≡ n = omega arith in
+    sym (part-inside t i (i + n) (omega arith) (jump-le k t i cs p h)) ∙ ap (λ (j : ℕ). take j (drop i t)) o
+    ∙ part-bytes (take k cs) (drop k cs) t i (p ∙ sym (take-append-drop k cs))
+
+pub jump-scalars : (k : ℕ) (t : List ℕ) (i : ℕ) (cs : List ℕ) → decode (drop i t) ≡ cs → scalars (take k cs) ≡ true
+jump-scalars k t i cs p = part-scalars (take k cs) (drop k cs) (drop i t) (p ∙ sym (take-append-drop k cs))
+
+-- ---- keywords, as bytes and as characters
+abbrev allScalars : List (List ℕ) → Bool
+allScalars [] = true
+allScalars (k ∷ ks) = scalars k && allScalars ks
+
+keywords-scalars : allScalars keywords ≡ true
+unfolding scalars
+keywords-scalars = refl
+
+pub same-encode : (a b : List ℕ) → scalars a ≡ true → scalars b ≡ true → same (encode a) (encode b) ≡ same a b
+same-encode a b s u =
+    tests-equal (same (encode a) (encode b)) (same a b)
+    (λ e. let p = encode-injective a b s u (same-true (encode a) (encode b) e) in rw p (same-refl b))
+    (λ e. let p = same-true a b e in rw p (same-refl (encode b)))
+
+position-bytes : (ks : List (List ℕ)) (n : ℕ) (w : List ℕ) → allScalars ks ≡ true → scalars w ≡ true → position n (map encode ks) (encode w) ≡ position n ks w
+unfolding position
+position-bytes [] n w g s = refl
+position-bytes (k ∷ ks) n w g s =
+    let u = and-both (scalars k) (allScalars ks) g in
+    let e = same-encode k w (u .0) s in
+    byTest (same k w)
+    (λ p. rw (p, position) (rw (e ∙ p, position)))
+    (λ p. rw (p, position) (rw (e ∙ p, position) (position-bytes ks (suc n) w (u .1) s)))
+
+pub keyword-bytes : (w : List ℕ) → scalars w ≡ true → position 1 keywordBytes (encode w) ≡ keyword w
+unfolding keywordBytes keyword
+keyword-bytes w s = position-bytes keywords 1 w keywords-scalars s
+
+position-le : (ks : List (List ℕ)) (n : ℕ) (w : List ℕ) → position n ks w ≤ n + length ks
+unfolding position
+position-le [] n w = omega arith
+position-le (k ∷ ks) n w =
+    byTest (same k w)
+    (λ p. rw (p, position) (omega arith))
+    (λ p. rw (p, position) (omega (arith, position-le ks (suc n) w)))
+
+-- ---- a word
+module _ (t : List ℕ) (at c next end : ℕ) (m : next ≡ at + size c) (d : decode (drop at t) ≡ c ∷ decode (drop next t)) (h : next ≤ length t)
+    (g : end ≡ next + sizes (run isWordContinue (decode (drop next t)))) where
+  tail : List ℕ
+  tail = run isWordContinue (decode (drop next t))
+
+  word-token : (v : ℕ) → v ≡ wordValue (c ∷ tail) → Tok 0 end v end ≡ pieceOf at next (decode (drop next t)) (wordStep c (decode (drop next t)))
+  unfolding tail wordStep kindNumber tokenValue
+  word-token v e =
+      let r : List ℕ = decode (drop next t) in
+      piece-tok at next r (word (c ∷ tail)) (size c + sizes tail) 0 0 (length tail) end v end (omega arith) e
+      (g ∙ ap (λ (l : List ℕ). next + sizes l) (sym (run-prefix isWordContinue r)))
+
+  pub word-one : end ≡ next → Tok 0 end c end ≡ pieceOf at next (decode (drop next t)) (wordStep c (decode (drop next t)))
+  unfolding tail wordValue
+  word-one e = word-token c (sym (ap (λ (l : List ℕ). wordValue (c ∷ l)) (no-sizes tail (omega arith))))
+
+  long-value : (l : List ℕ) → (sizes l ≡ 0 → ⊥) → wordValue (c ∷ l) ≡ 0x110000 + keyword (c ∷ l)
+  unfolding wordValue sizes
+  long-value [] f = absurd (f refl)
+  long-value (x ∷ l) f = refl
+
+  -- the word's bytes
+  word-part : part t at end ≡ encode (c ∷ tail)
+  unfolding tail sizes
+  word-part =
+      let r : List ℕ = decode (drop next t) in
+      let k : ℕ = suc (length tail) in
+      let p : take k (c ∷ r) ≡ c ∷ tail = ap (λ (l : List ℕ). c ∷ l) (run-prefix isWordContinue r) in
+      let o : end ≡ at + sizes (take k (c ∷ r)) = omega (arith, ap sizes p) in
+      rw o (jump-part k t at (c ∷ r) d (omega arith) ∙ ap encode p)
+
+  word-scalars : scalars (c ∷ tail) ≡ true
+  unfolding tail
+  word-scalars =
+      let r : List ℕ = decode (drop next t) in
+      sym (ap scalars (ap (λ (l : List ℕ). c ∷ l) (run-prefix isWordContinue r))) ∙ jump-scalars (suc (length tail)) t at (c ∷ r) d
+
+  pub word-long : (name : List ℕ) (k : ℕ) → (end ≡ next → ⊥) → name ≡ part t at end → k ≡ position 1 keywordBytes name
+      → Tok 0 end (0x110000 + k) end ≡ pieceOf at next (decode (drop next t)) (wordStep c (decode (drop next t)))
+  unfolding tail
+  word-long name k f p q =
+      let e : k ≡ keyword (c ∷ tail) = q ∙ ap (position 1 keywordBytes) (p ∙ word-part) ∙ keyword-bytes (c ∷ tail) word-scalars in
+      word-token (0x110000 + k) (ap (λ (x : ℕ). 0x110000 + x) e ∙ sym (long-value tail (λ (z : sizes tail ≡ 0). f (omega arith))))
+
+pub word-fits : (name : List ℕ) (k : ℕ) → k ≡ position 1 keywordBytes name → Fits w32 (0x110000 + k)
+unfolding keywordBytes
+word-fits name k q = omega (arith, position-le keywordBytes 1 name)
+
+-- ---- a number
+pub number-token : (t : List ℕ) (at c next end v : ℕ) → next ≡ at + size c → decode (drop at t) ≡ c ∷ decode (drop next t) → isAsciiDigit c ≡ true
+    → end ≡ next + sizes (run isAsciiDigit (decode (drop next t))) → v ≡ min (value (run isAsciiDigit (decode (drop at t)))) 256
+    → Tok 1 end v end ≡ pieceOf at next (decode (drop next t)) (numberStep c (decode (drop next t)))
+unfolding numberStep kindNumber tokenValue
+number-token t at c next end v m d p g e =
+    let r : List ℕ = decode (drop next t) in
+    let w : List ℕ = run isAsciiDigit r in
+    piece-tok at next r (number (c ∷ w)) (size c + sizes w) 0 0 (length w) end v end (omega arith)
+    (e ∙ ap (λ (l : List ℕ). min (value l) 256) (ap (run isAsciiDigit) d ∙ run-true isAsciiDigit c r p))
+    (g ∙ ap (λ (l : List ℕ). next + sizes l) (sym (run-prefix isAsciiDigit r)))
+
+-- ---- a character of no class, and the first character of any piece
+step-word : (c : ℕ) (r : List ℕ) → c ≡ 0x5F → otherStep c r ≡ wordStep c r
+unfolding otherStep
+step-word c r e = rw (eq-eqb c 0x5F e, otherStep)
+
+step-string : (c : ℕ) (r : List ℕ) → c ≡ 0x22 → otherStep c r ≡ stringStep r
+unfolding otherStep
+step-string c r e = ap (λ (x : ℕ). otherStep x r) e
+
+step-quoted : (c : ℕ) (r : List ℕ) → c ≡ 0x27 → otherStep c r ≡ quotedStep r
+unfolding otherStep
+step-quoted c r e = ap (λ (x : ℕ). otherStep x r) e
+
+step-slash : (c : ℕ) (r : List ℕ) → c ≡ 0x2F → otherStep c r ≡ slashStep r
+unfolding otherStep
+step-slash c r e = ap (λ (x : ℕ). otherStep x r) e
+
+step-sign : (c : ℕ) (r : List ℕ) → (c ≡ 0x5F → ⊥) → (c ≡ 0x22 → ⊥) → (c ≡ 0x27 → ⊥) → (c ≡ 0x2F → ⊥) → otherStep c r ≡ tok (sign c) (size c) 0 0 0
+unfolding otherStep
+step-sign c r f g h k = rw (ne-eqb c 0x5F f, otherStep) (rw (ne-eqb c 0x22 g, ne-eqb c 0x27 h, ne-eqb c 0x2F k))
+
+sign-token : (at c next k : ℕ) (r : List ℕ) → next ≡ at + size c → k ≡ signNumber c → Tok k next c next ≡ pieceOf at next r (tok (sign c) (size c) 0 0 0)
+unfolding kindNumber tokenValue sizes
+sign-token at c next k r m e = rw e (piece-tok at next r (sign c) (size c) 0 0 0 next c next m refl (no-bytes next))
+
+-- a character of one byte: the next stands one further on
+one-next : (at c n next : ℕ) → next ≡ at + size c → c ≡ n → size n ≡ 1 → at + 1 ≡ next
+one-next at c n next m e s = omega (arith, ap size e)
+
+-- what a character that is no line feed begins, by its class
+abbrev byClass : Class → ℕ → List ℕ → Step
+byClass Space c r = gap
+byClass Letter c r = wordStep c r
+byClass Digit c r = numberStep c r
+byClass Sign c r = tok (sign c) (size c) 0 0 0
+byClass Other c r = otherStep c r
+
+step-class : (c : ℕ) (r : List ℕ) → (c ≡ 10 → ⊥) → (x : Class) → classOf c ≡ x → step c r ≡ byClass x c r
+unfolding step
+step-class c r f Space e = rw (ne-eqb c 10 f, step) (rw e)
+step-class c r f Letter e = rw (ne-eqb c 10 f, step) (rw e)
+step-class c r f Digit e = rw (ne-eqb c 10 f, step) (rw e)
+step-class c r f Sign e = rw (ne-eqb c 10 f, step) (rw e)
+step-class c r f Other e = rw (ne-eqb c 10 f, step) (rw e)
+
+module _ (t : List ℕ) (at c next : ℕ) (m : next ≡ at + size c) where
+  pub other-word : (x : Piece) → c ≡ 0x5F → x ≡ pieceOf at next (decode (drop next t)) (wordStep c (decode (drop next t))) → x ≡ pieceOf at next (decode (drop next t)) (otherStep c (decode (drop next t)))
+  other-word x e p = piece-of at next _ _ _ x (step-word c (decode (drop next t)) e) p
+
+  -- the piece at the place behind a character of one byte
+  moved : (x : Piece) (s : List ℕ → Step) → at + 1 ≡ next → otherStep c (decode (drop next t)) ≡ s (decode (drop next t))
+      → x ≡ pieceOf at (at + 1) (decode (drop (at + 1) t)) (s (decode (drop (at + 1) t))) → x ≡ pieceOf at next (decode (drop next t)) (otherStep c (decode (drop next t)))
+  moved x s o q p = piece-of at next _ _ _ x q (p ∙ ap (λ (j : ℕ). pieceOf at j (decode (drop j t)) (s (decode (drop j t)))) o)
+
+  pub other-string : (x : Piece) → c ≡ 0x22 → x ≡ pieceOf at (at + 1) (decode (drop (at + 1) t)) (stringStep (decode (drop (at + 1) t)))
+      → x ≡ pieceOf at next (decode (drop next t)) (otherStep c (decode (drop next t)))
+  unfolding size
+  other-string x e p = moved x stringStep (one-next at c 0x22 next m e refl) (step-string c (decode (drop next t)) e) p
+
+  pub other-quoted : (x : Piece) → c ≡ 0x27 → x ≡ pieceOf at (at + 1) (decode (drop (at + 1) t)) (quotedStep (decode (drop (at + 1) t)))
+      → x ≡ pieceOf at next (decode (drop next t)) (otherStep c (decode (drop next t)))
+  unfolding size
+  other-quoted x e p = moved x quotedStep (one-next at c 0x27 next m e refl) (step-quoted c (decode (drop next t)) e) p
+
+  pub other-slash : (x : Piece) → c ≡ 0x2F → x ≡ pieceOf at (at + 1) (decode (drop (at + 1) t)) (slashStep (decode (drop (at + 1) t)))
+      → x ≡ pieceOf at next (decode (drop next t)) (otherStep c (decode (drop next t)))
+  unfolding size
+  other-slash x e p = moved x slashStep (one-next at c 0x2F next m e refl) (step-slash c (decode (drop next t)) e) p
+
+  pub other-sign : (k : ℕ) → (c ≡ 0x5F → ⊥) → (c ≡ 0x22 → ⊥) → (c ≡ 0x27 → ⊥) → (c ≡ 0x2F → ⊥) → k ≡ signNumber c
+      → Tok k next c next ≡ pieceOf at next (decode (drop next t)) (otherStep c (decode (drop next t)))
+  other-sign k f g h i e = piece-of at next _ _ _ _ (step-sign c (decode (drop next t)) f g h i) (sign-token at c next k (decode (drop next t)) m e)
+
+  -- ---- by class
+  pub from-feed : c ≡ 10 → Tok 13 next 0 next ≡ pieceOf at next (decode (drop next t)) (step c (decode (drop next t)))
+  unfolding step kindNumber tokenValue sizes size
+  from-feed e =
+      piece-of at next _ _ (tok newline 1 0 0 0) _ (rw (eq-eqb c 10 e, step))
+      (piece-tok at next (decode (drop next t)) newline 1 0 0 0 next 0 next (sym (one-next at c 10 next m e refl)) refl (no-bytes next))
+
+  module _ (f : c ≡ 10 → ⊥) (k : Class) (e : k ≡ classOf c) where
+    from-class : (x : Class) (y : Piece) → k ≡ x → y ≡ pieceOf at next (decode (drop next t)) (byClass x c (decode (drop next t)))
+        → y ≡ pieceOf at next (decode (drop next t)) (step c (decode (drop next t)))
+    from-class x y p q = piece-of at next _ _ _ y (step-class c (decode (drop next t)) f x (sym e ∙ p)) q
+
+    pub from-space : k ≡ Space → Gap next ≡ pieceOf at next (decode (drop next t)) (step c (decode (drop next t)))
+    unfolding pieceOf
+    from-space p = from-class Space (Gap next) p refl
+
+    pub from-letter : (y : Piece) → k ≡ Letter → y ≡ pieceOf at next (decode (drop next t)) (wordStep c (decode (drop next t)))
+        → y ≡ pieceOf at next (decode (drop next t)) (step c (decode (drop next t)))
+    from-letter y p q = from-class Letter y p q
+
+    pub from-digit : (y : Piece) → k ≡ Digit → y ≡ pieceOf at next (decode (drop next t)) (numberStep c (decode (drop next t)))
+        → y ≡ pieceOf at next (decode (drop next t)) (step c (decode (drop next t)))
+    from-digit y p q = from-class Digit y p q
+
+    pub from-sign : (n : ℕ) → k ≡ Sign → n ≡ signNumber c → Tok n next c next ≡ pieceOf at next (decode (drop next t)) (step c (decode (drop next t)))
+    from-sign n p q = from-class Sign (Tok n next c next) p (sign-token at c next n (decode (drop next t)) m q)
+
+    pub from-other : (y : Piece) → k ≡ Other → y ≡ pieceOf at next (decode (drop next t)) (otherStep c (decode (drop next t)))
+        → y ≡ pieceOf at next (decode (drop next t)) (step c (decode (drop next t)))
+    from-other y p q = from-class Other y p q
+
+-- a digit by its class
+pub digit-by : (c : ℕ) (k : Class) → k ≡ classOf c → k ≡ Digit → isAsciiDigit c ≡ true
+unfolding isAsciiDigit
+digit-by c k e p = ap isDigit (sym e ∙ p)
+
+-- ---- the piece at a place
+module _ (t : List ℕ) (at : ℕ) (r : Decoded) (s : r ≡ decodedAt at (front (drop at t))) where
+  pub piece-char : (c n : ℕ) (y : Piece) → r ≡ Char c n → y ≡ pieceOf at n (decode (drop n t)) (step c (decode (drop n t))) → y ≡ piece at (decode (drop at t))
+  unfolding piece
+  piece-char c n y e p =
+      p ∙ ap (λ (j : ℕ). pieceOf at j (decode (drop n t)) (step c (decode (drop n t)))) (char-next t at r s c n e)
+      ∙ sym (ap (piece at) (char-decode t at r s c n e))
+
+  pub piece-invalid : r ≡ Invalid → End ≡ piece at (decode (drop at t))
+  unfolding piece
+  piece-invalid e = sym (ap (piece at) (invalid-decode t at r s e))
+
+  pub piece-end : r ≡ Decoded.End → End ≡ piece at (decode (drop at t))
+  unfolding piece
+  piece-end e = sym (ap (piece at) (end-decode t at r s e))

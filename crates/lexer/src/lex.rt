@@ -118,7 +118,7 @@ fn slash(text: &[u8], at: usize) -> Piece
 
 // A character of no class: the beginning of a word, a string, a quoted character or a comment; or a token of its own.
 fn other(text: &[u8], at: usize, c: u32, next: usize) -> Piece
-    requires { ⌜ (next ≡ at + size c) × (rest (now text) at ≡ c ∷ rest (now text) next) × (next ≤ length (now text)) ⌝ }
+    requires { ⌜ (next ≡ at + size c) × (rest (now text) at ≡ c ∷ rest (now text) next) × (at < length (now text)) × (next ≤ length (now text)) ⌝ }
     ensures { λ r. ⌜ r ≡ pieceOf at next (rest (now (text .entry)) next) (otherStep c (rest (now (text .entry)) next)) ⌝ }
 {
     if c == 0x5F {
@@ -138,7 +138,7 @@ fn other(text: &[u8], at: usize, c: u32, next: usize) -> Piece
 
 // What begins with the character c at a place; the next stands at next.
 fn piece_from(text: &[u8], at: usize, c: u32, next: usize) -> Piece
-    requires { ⌜ (next ≡ at + size c) × (rest (now text) at ≡ c ∷ rest (now text) next) × (next ≤ length (now text)) ⌝ }
+    requires { ⌜ (next ≡ at + size c) × (rest (now text) at ≡ c ∷ rest (now text) next) × (at < length (now text)) × (next ≤ length (now text)) ⌝ }
     ensures { λ r. ⌜ r ≡ pieceOf at next (rest (now (text .entry)) next) (step c (rest (now (text .entry)) next)) ⌝ }
 {
     if c == 10 {
