@@ -1,3 +1,4 @@
 pub mod Scans
 pub mod Keywords
 pub mod Pieces
+pub mod Steps

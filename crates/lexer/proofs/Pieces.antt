@@ -435,14 +435,14 @@ one-next : (at c n next : ℕ) → next ≡ at + size c → c ≡ n → size n �
 one-next at c n next m e s = omega (arith, ap size e)
 
 -- what a character that is no line feed begins, by its class
-abbrev byClass : Class → ℕ → List ℕ → Step
+abbrev pub byClass : Class → ℕ → List ℕ → Step
 byClass Space c r = gap
 byClass Letter c r = wordStep c r
 byClass Digit c r = numberStep c r
 byClass Sign c r = tok (sign c) (size c) 0 0 0
 byClass Other c r = otherStep c r
 
-step-class : (c : ℕ) (r : List ℕ) → (c ≡ 10 → ⊥) → (x : Class) → classOf c ≡ x → step c r ≡ byClass x c r
+pub step-class : (c : ℕ) (r : List ℕ) → (c ≡ 10 → ⊥) → (x : Class) → classOf c ≡ x → step c r ≡ byClass x c r
 unfolding step
 step-class c r f Space e = rw (ne-eqb c 10 f, step) (rw e)
 step-class c r f Letter e = rw (ne-eqb c 10 f, step) (rw e)

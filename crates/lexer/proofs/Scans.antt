@@ -315,15 +315,15 @@ end-pass i c cs (closed w n) = ap Closed (omega arith)
 end-pass i c cs unclosed = refl
 
 -- how a string goes on behind a character that is no line feed: not at all, with a backslash standing before, or plainly
-inside-quote : (c : ℕ) (r : List ℕ) → c ≡ 0x22 → inside false (c ∷ r) ≡ closed [] 1
+pub inside-quote : (c : ℕ) (r : List ℕ) → c ≡ 0x22 → inside false (c ∷ r) ≡ closed [] 1
 unfolding inside
 inside-quote c r e = rw e
 
-inside-slash : (c : ℕ) (r : List ℕ) → c ≡ 0x5C → inside false (c ∷ r) ≡ pass (inside true r)
+pub inside-slash : (c : ℕ) (r : List ℕ) → c ≡ 0x5C → inside false (c ∷ r) ≡ pass (inside true r)
 unfolding inside
 inside-slash c r e = rw e
 
-inside-plain : (c : ℕ) (r : List ℕ) → (c ≡ 10 → ⊥) → (c ≡ 0x22 → ⊥) → (c ≡ 0x5C → ⊥) → inside false (c ∷ r) ≡ put c (pass (inside false r))
+pub inside-plain : (c : ℕ) (r : List ℕ) → (c ≡ 10 → ⊥) → (c ≡ 0x22 → ⊥) → (c ≡ 0x5C → ⊥) → inside false (c ∷ r) ≡ put c (pass (inside false r))
 unfolding inside
 inside-plain c r f g h = rw (ne-eqb c 0x22 g, inside) (rw (ne-eqb c 10 f, ne-eqb c 0x5C h))
 
