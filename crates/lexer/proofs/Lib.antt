@@ -2,3 +2,4 @@ pub mod Scans
 pub mod Keywords
 pub mod Pieces
 pub mod Steps
+pub mod Writes
