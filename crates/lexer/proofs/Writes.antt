@@ -6,6 +6,8 @@ use native.Mathlib.Nat.{zero-add}
 use mathlib.Core.List.{List, [], _∷_, _++_}
 use lib.ListN.{length, take, drop, length-append, length-take}
 use lib.Seq.{sets, sets-eq, length-sets, take-take}
+use lib.Dec.{leb}
+use borrow.Author.Tests.{le-leb, lt-leb}
 use mir.Syntax.{w32}
 use mir.Val.{Fits}
 use Rattle.chars.specs.Utf8.{size, sizes, decode}
@@ -13,7 +15,7 @@ use Rattle.chars.proofs.Encoding.{size-range}
 use Rattle.chars.proofs.Laws.{points-next, points-le}
 use Rattle.chars.proofs.Theorems.{sizes-append}
 use Rattle.lexer.specs.Tokens.{TokenKind, newline, Span, span, Token, tokenAt, Step, gap, tok, step, emit, tokensFrom, tokens}
-use Rattle.lexer.specs.Words.{kindNumber, tokenValue, tokenWords, flat, onto}
+use Rattle.lexer.specs.Words.{kindNumber, tokenValue, tokenWords, flat, onto, tokenized}
 use Rattle.lexer.specs.Places.{pieceOf, piece}
 use Rattle.lexer.specs.declared.Piece.{Piece}
 use Rattle.lexer.specs.declared.Piece.the-variants.{Token as Tok, Gap, End}
@@ -210,3 +212,18 @@ module _ (t w₀ w : List ℕ) (at n : ℕ) (r : Piece) (st : State t w₀ w at 
         let f : 0 + length (flat ts) ≤ length w₀ = omega (arith, length-flat ts, done-count, st .few, st .place) in
         q ∙ sym (ap (λ (l : List (Token Span)). sets w (4 * n) (flat l)) left) ∙ st .words ∙ sets-eq (flat ts) w₀ 0 f
         ∙ ap (λ (z : ℕ). flat ts ++ drop z w₀) (zero-add (length (flat ts)))
+
+-- ---- the whole call
+module _ (t w : List ℕ) where
+  pub refused-long : 0x400000 < length t → _≡_ {A = ℕ × List ℕ} (0xffff_ffff_ffff_ffff, w) (tokenized t w)
+  unfolding tokenized
+  refused-long h = rw (lt-leb (length t) 0x400000 h)
+
+  pub refused-short : length w < 6 * length t + 6 → _≡_ {A = ℕ × List ℕ} (0xffff_ffff_ffff_ffff, w) (tokenized t w)
+  unfolding tokenized
+  refused-short h = rw (lt-leb (6 * length t + 6) (length w) h) (byTest (leb (length t) 0x400000) (λ e. rw e) (λ e. rw e))
+
+  pub answered : (r : ℕ) (w′ : List ℕ) → length t ≤ 0x400000 → 6 * length t + 6 ≤ length w → r ≡ length (tokens (decode t)) → w′ ≡ onto (flat (tokens (decode t))) w
+      → _≡_ {A = ℕ × List ℕ} (r, w′) (tokenized t w)
+  unfolding tokenized
+  answered r w′ g h p q = rw (le-leb (length t) 0x400000 g, le-leb (6 * length t + 6) (length w) h) (λ i. (p i, q i))

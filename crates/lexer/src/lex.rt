@@ -8,11 +8,13 @@ ghost use Rattle.chars.specs.Utf8.{size};
 ghost use Rattle.lexer.specs.Tokens.{isAsciiDigit, step, wordStep, numberStep, stringStep, quotedStep, commentStep, slashStep, otherStep};
 ghost use Rattle.lexer.specs.Words.{signNumber};
 ghost use Rattle.lexer.specs.Places.{rest, pieceOf, piece};
+use crate::Piece;
+use crate::StringEnd;
 use crate::kind;
 use crate::names;
 use crate::scan;
-use crate::{Piece, StringEnd};
-use chars::{Class, Decoded};
+use chars::Class;
+use chars::Decoded;
 
 // The number of a sign's kind.
 pub fn sign_number(c: u32) -> u32

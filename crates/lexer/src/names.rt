@@ -6,9 +6,35 @@ ghost use Rattle.lexer.specs.Places.{part};
 use crate::Span;
 
 // The keywords one behind the other, and where each starts.
-const KEYWORDS: [u8; 115] = *b"machinekindinputoutputtapesQ\xCE\xA3Sigma\xCE\x93GammablankstartF\xCE\xB4deltaacceptortransducerenumeratorbeaverwordunarybinarylsbmsb";
+const KEYWORDS: [u8; 115] =
+    *b"machinekindinputoutputtapesQ\xCE\xA3Sigma\xCE\x93GammablankstartF\xCE\xB4deltaacceptortransducerenumeratorbeaverwordunarybinarylsbmsb";
+
 const STARTS: [u8; 25] = [
-    0, 7, 11, 16, 22, 27, 28, 30, 35, 37, 42, 47, 52, 53, 55, 60, 68, 78, 88, 94, 98, 103, 109, 112, 115,
+    0,
+    7,
+    11,
+    16,
+    22,
+    27,
+    28,
+    30,
+    35,
+    37,
+    42,
+    47,
+    52,
+    53,
+    55,
+    60,
+    68,
+    78,
+    88,
+    94,
+    98,
+    103,
+    109,
+    112,
+    115,
 ];
 
 // The part of the text between two offsets; empty where they do not lie inside it.

@@ -6,8 +6,10 @@ ghost use Rattle.chars.specs.Utf8.{sizes};
 ghost use Rattle.lexer.specs.Tokens.{isWordStart, isWordContinue, isAsciiDigit, isWhitespace, run};
 ghost use Rattle.lexer.specs.Words.{value};
 ghost use Rattle.lexer.specs.Places.{rest, startsWith, lineAt, stringEnd};
-use crate::{Line, StringEnd};
-use chars::{Class, Decoded};
+use crate::Line;
+use crate::StringEnd;
+use chars::Class;
+use chars::Decoded;
 
 // Whether c can start a word.
 pub fn is_word_start(c: u32) -> bool
@@ -171,15 +173,24 @@ pub fn line_end(text: &[u8], at: usize) -> Line
         match s {
             Decoded::Char(c, next) => {
                 if c == 10 {
-                    return Line { trimmed: trimmed, end: i };
+                    return Line {
+                        trimmed: trimmed,
+                        end: i,
+                    };
                 }
                 i = next;
                 if !is_whitespace(c) {
                     trimmed = next;
                 }
             }
-            Decoded::Invalid => return Line { trimmed: trimmed, end: i },
-            Decoded::End => return Line { trimmed: trimmed, end: i },
+            Decoded::Invalid => return Line {
+                trimmed: trimmed,
+                end: i,
+            },
+            Decoded::End => return Line {
+                trimmed: trimmed,
+                end: i,
+            },
         }
     }
 }
