@@ -15,8 +15,7 @@ use Rattle.chars.specs.declared.Class.{Class}
 use Rattle.chars.specs.declared.Class.the-variants.{Letter, Digit, Space, Sign, Other}
 use Rattle.chars.proofs.Tests.{and-both}
 use Rattle.chars.proofs.Theorems.{sizes-append}
-use Rattle.lexer.specs.Tokens.{TokenKind, word, number, quoted, str, sign, comment, newline, unterminatedString, unterminatedQuote, isAsciiDigit, isWordContinue, isWhitespace, run, line, trimCons, trimEnd, indent, commentText, escape, Inner, ends, breaks, escapes, stands, innerOf, Inside, closed, unclosed, put, pass, inside, Step, gap, tok, wordStep, numberStep, stringStep, quotedStep, commentStep, slashStep, otherStep, step}
-use Rattle.lexer.specs.Places.{unescapeFrom, unescape}
+use Rattle.lexer.specs.Tokens.{TokenKind, word, number, quoted, str, sign, comment, newline, unterminatedString, unterminatedQuote, isAsciiDigit, isWordContinue, isWhitespace, run, line, trimCons, trimEnd, indent, commentText, escape, Inner, ends, breaks, escapes, stands, innerOf, Inside, closed, unclosed, put, pass, inside, unescape, Step, gap, tok, wordStep, numberStep, stringStep, quotedStep, commentStep, slashStep, otherStep, step}
 use Rattle.lexer.proofs.Scans.{byTest, sizes-nil, sizes-cons, inside-quote, inside-slash, inside-plain}
 use Rattle.lexer.proofs.Pieces.{run-prefix, line-prefix, step-class, byClass}
 
@@ -88,12 +87,12 @@ quoted-fits (x ∷ q ∷ r) =
     (λ e. rw (e, quotedStep) (one-fits unterminatedQuote 0x27 (x ∷ q ∷ r) 1 refl tt))
 
 -- ---- a string
--- a string behind its quote, k characters with the closing one: that one, and the value of those before it
+-- a string behind its quote, k characters with the closing one: that one, and the same string with nothing behind it
 record Close (b : Bool) (r v : List ℕ) (k : ℕ) : Type 0 where
   inner : ℕ
   count : k ≡ suc inner
   ended : take (suc inner) r ≡ take inner r ++ (0x22 ∷ [])
-  value : unescapeFrom b (take inner r) ≡ v
+  alone : inside b (take (suc inner) r) ≡ closed v k
 
 pass-inv : (x : Inside) (v : List ℕ) (k : ℕ) → pass x ≡ closed v k → (j : ℕ) × (x ≡ closed v j) × (k ≡ suc j)
 unfolding pass
@@ -105,37 +104,26 @@ unfolding put
 put-inv c (closed u j) v k e = (u, cc, cc)
 put-inv c unclosed v k e = let z : _≡_ {A = ℕ} 0 1 = cc in absurd (omega arith)
 
-unescape-nil : unescapeFrom false [] ≡ []
-unfolding unescapeFrom
-unescape-nil = refl
-
--- one more character in front
-close-more : (b′ b : Bool) (c : ℕ) (r v u : List ℕ) (k j : ℕ) → Close b′ r u j → k ≡ suc j → ((m : List ℕ) → unescapeFrom b′ m ≡ u → unescapeFrom b (c ∷ m) ≡ v) → Close b (c ∷ r) v k
-close-more b′ b c r v u k j h e f = record {
-  inner = suc (h .inner);
-  count = e ∙ ap suc (h .count);
-  ended = ap (λ (l : List ℕ). c ∷ l) (h .ended);
-  value = f (take (h .inner) r) (h .value);
-}
-
-unescape-slash : (c : ℕ) (m : List ℕ) → c ≡ 0x5C → unescapeFrom false (c ∷ m) ≡ unescapeFrom true m
-unfolding unescapeFrom
-unescape-slash c m e = rw (eq-eqb c 0x5C e, unescapeFrom)
-
-unescape-plain : (c : ℕ) (m : List ℕ) → (c ≡ 0x5C → ⊥) → unescapeFrom false (c ∷ m) ≡ c ∷ unescapeFrom false m
-unfolding unescapeFrom
-unescape-plain c m f = rw (ne-eqb c 0x5C f, unescapeFrom)
-
-unescape-some : (c x : ℕ) (m : List ℕ) → escape c ≡ some x → unescapeFrom true (c ∷ m) ≡ x ∷ unescapeFrom false m
-unfolding unescapeFrom
-unescape-some c x m e = rw (e, unescapeFrom)
-
-unescape-none : (c : ℕ) (m : List ℕ) → escape c ≡ none → unescapeFrom true (c ∷ m) ≡ 0x5C ∷ c ∷ unescapeFrom false m
-unfolding unescapeFrom
-unescape-none c m e = rw (e, unescapeFrom)
-
 not-closed : (x : Inside) (v : List ℕ) (k : ℕ) → x ≡ unclosed → x ≡ closed v k → ⊥
 not-closed x v k p q = let z : _≡_ {A = ℕ} 0 1 = cc in omega arith
+
+-- a character in front of a string that goes on as f says
+module _ (b′ b : Bool) (c : ℕ) (f : Inside → Inside) (on : (m : List ℕ) → inside b (c ∷ m) ≡ f (inside b′ m)) where
+  close-more : (r v u : List ℕ) (k j : ℕ) → Close b′ r u j → f (closed u j) ≡ closed v k → k ≡ suc j → Close b (c ∷ r) v k
+  close-more r v u k j h e n = record {
+    inner = suc (h .inner);
+    count = n ∙ ap suc (h .count);
+    ended = ap (λ (l : List ℕ). c ∷ l) (h .ended);
+    alone = on (take (suc (h .inner)) r) ∙ ap f (h .alone) ∙ e;
+  }
+
+inside-some : (c x : ℕ) (m : List ℕ) → escape c ≡ some x → inside true (c ∷ m) ≡ put x (pass (inside false m))
+unfolding inside
+inside-some c x m e = rw (e, inside)
+
+inside-none : (c : ℕ) (m : List ℕ) → escape c ≡ none → eqb c 10 ≡ false → inside true (c ∷ m) ≡ put 0x5C (put c (pass (inside false m)))
+unfolding inside
+inside-none c m e f = rw (e, inside) (rw f)
 
 close : (b : Bool) (r v : List ℕ) (k : ℕ) → inside b r ≡ closed v k → Close b r v k
 unfolding inside
@@ -146,42 +134,45 @@ close false (c ∷ r) v k e =
     (λ q.
     let p = eqb-true c 0x22 q in
     let w : closed [] 1 ≡ closed v k = sym (inside-quote c r p) ∙ e in
-    record { inner = 0; count = cc; ended = ap (λ (y : ℕ). y ∷ []) p; value = unescape-nil ∙ cc })
+    record { inner = 0; count = cc; ended = ap (λ (y : ℕ). y ∷ []) p; alone = inside-quote c [] p ∙ w })
     (λ q.
     byTest (eqb c 10)
     (λ f. absurd (not-closed (inside false (c ∷ r)) v k (rw (eqb-true c 10 f)) e))
     (λ f.
     byTest (eqb c 0x5C)
     (λ s.
-    let p = eqb-true c 0x5C s in
-    let w = pass-inv (inside true r) v k (sym (inside-slash c r p) ∙ e) in
-    close-more true false c r v v k (w .0) (close true r v (w .0) (w .1)) (w .2) (λ (m : List ℕ) (g : unescapeFrom true m ≡ v). unescape-slash c m p ∙ g))
+    let on : (m : List ℕ) → inside false (c ∷ m) ≡ pass (inside true m) = λ (m : List ℕ). inside-slash c m (eqb-true c 0x5C s) in
+    let w = pass-inv (inside true r) v k (sym (on r) ∙ e) in
+    close-more true false c pass on r v v k (w .0) (close true r v (w .0) (w .1)) (ap pass (sym (w .1)) ∙ sym (on r) ∙ e) (w .2))
     (λ s.
-    let n = eqb-false c 0x5C s in
-    let w = put-inv c (pass (inside false r)) v k (sym (inside-plain c r (eqb-false c 10 f) (eqb-false c 0x22 q) n) ∙ e) in
+    let on : (m : List ℕ) → inside false (c ∷ m) ≡ put c (pass (inside false m)) = λ (m : List ℕ). inside-plain c m (eqb-false c 10 f) (eqb-false c 0x22 q) (eqb-false c 0x5C s) in
+    let w = put-inv c (pass (inside false r)) v k (sym (on r) ∙ e) in
     let u = pass-inv (inside false r) (w .0) k (w .1) in
-    close-more false false c r v (w .0) k (u .0) (close false r (w .0) (u .0) (u .1)) (u .2)
-    (λ (m : List ℕ) (g : unescapeFrom false m ≡ w .0). unescape-plain c m n ∙ ap (λ (l : List ℕ). c ∷ l) g ∙ sym (w .2)))))
+    close-more false false c (λ (x : Inside). put c (pass x)) on r v (w .0) k (u .0) (close false r (w .0) (u .0) (u .1))
+    (ap (λ (x : Inside). put c (pass x)) (sym (u .1)) ∙ sym (on r) ∙ e) (u .2))))
 close true (c ∷ r) v k e = go (escape c) refl (λ (u : List ℕ) (j : ℕ) (q : inside false r ≡ closed u j). close false r u j q)
   where
     go : (o : Option ℕ) → escape c ≡ o → ((u : List ℕ) (j : ℕ) → inside false r ≡ closed u j → Close false r u j) → Close true (c ∷ r) v k
     go (some x) p ih =
-        let q : put x (pass (inside false r)) ≡ closed v k = sym (rw (p, inside)) ∙ e in
-        let w = put-inv x (pass (inside false r)) v k q in
+        let on : (m : List ℕ) → inside true (c ∷ m) ≡ put x (pass (inside false m)) = λ (m : List ℕ). inside-some c x m p in
+        let w = put-inv x (pass (inside false r)) v k (sym (on r) ∙ e) in
         let u = pass-inv (inside false r) (w .0) k (w .1) in
-        close-more false true c r v (w .0) k (u .0) (ih (w .0) (u .0) (u .1)) (u .2)
-        (λ (m : List ℕ) (g : unescapeFrom false m ≡ w .0). unescape-some c x m p ∙ ap (λ (l : List ℕ). x ∷ l) g ∙ sym (w .2))
+        close-more false true c (λ (y : Inside). put x (pass y)) on r v (w .0) k (u .0) (ih (w .0) (u .0) (u .1))
+        (ap (λ (y : Inside). put x (pass y)) (sym (u .1)) ∙ sym (on r) ∙ e) (u .2)
     go none p ih =
         byTest (eqb c 10)
         (λ f. absurd (not-closed (inside true (c ∷ r)) v k (rw (eqb-true c 10 f)) e))
         (λ f.
-        let q : put 0x5C (put c (pass (inside false r))) ≡ closed v k = sym (rw (p, inside) (rw f)) ∙ e in
-        let w = put-inv 0x5C (put c (pass (inside false r))) v k q in
+        let on : (m : List ℕ) → inside true (c ∷ m) ≡ put 0x5C (put c (pass (inside false m))) = λ (m : List ℕ). inside-none c m p f in
+        let w = put-inv 0x5C (put c (pass (inside false r))) v k (sym (on r) ∙ e) in
         let x = put-inv c (pass (inside false r)) (w .0) k (w .1) in
         let u = pass-inv (inside false r) (x .0) k (x .1) in
-        close-more false true c r v (x .0) k (u .0) (ih (x .0) (u .0) (u .1)) (u .2)
-        (λ (m : List ℕ) (g : unescapeFrom false m ≡ x .0).
-        unescape-none c m p ∙ ap (λ (l : List ℕ). 0x5C ∷ c ∷ l) g ∙ sym (w .2 ∙ ap (λ (l : List ℕ). 0x5C ∷ l) (x .2))))
+        close-more false true c (λ (y : Inside). put 0x5C (put c (pass y))) on r v (x .0) k (u .0) (ih (x .0) (u .0) (u .1))
+        (ap (λ (y : Inside). put 0x5C (put c (pass y))) (sym (u .1)) ∙ sym (on r) ∙ e) (u .2))
+
+unescape-closed : (cs v : List ℕ) (k : ℕ) → inside false (cs ++ (0x22 ∷ [])) ≡ closed v k → unescape cs ≡ v
+unfolding unescape
+unescape-closed cs v k e = rw (e, unescape)
 
 -- ---- a trimmed line
 trim-front : (c : ℕ) (u r : List ℕ) → take (length u) r ≡ u → take (length (trimCons c u)) (c ∷ r) ≡ trimCons c u
@@ -203,7 +194,7 @@ trimmed-prefix r =
     sym (take-take m (length (line r)) r (trim-short (line r))) ∙ ap (take m) (line-prefix r) ∙ trim-prefix (line r)
 
 string-fits : (r : List ℕ) → Fits (0x22 ∷ r) (stringStep r)
-unfolding stringStep sizes size unescape
+unfolding stringStep sizes size
 string-fits r = go (inside false r) refl
   where
     go : (x : Inside) → inside false r ≡ x → Fits (0x22 ∷ r) (stringStep r)
@@ -215,7 +206,7 @@ string-fits r = go (inside false r) refl
         let q : sizes (take (suc k) r) ≡ sizes (take k r) + 1 = ap sizes (h .ended) ∙ sizes-append (take k r) (0x22 ∷ []) in
         let g : sizes (take n r) ≡ sizes (take (suc k) r) = ap (λ (j : ℕ). sizes (take j r)) p in
         rw (e, stringStep)
-        (record { last = suc n; first = 1; stop = suc k; width = refl; before = refl; behind = omega arith; order = omega arith; short = omega arith; within = omega arith; says = rw z (h .value) })
+        (record { last = suc n; first = 1; stop = suc k; width = refl; before = refl; behind = omega arith; order = omega arith; short = omega arith; within = omega arith; says = rw z (unescape-closed (take k r) v n (ap (inside false) (sym (h .ended)) ∙ h .alone)) })
     go unclosed e =
         let m : ℕ = length (trimEnd (line r)) in
         rw (e, stringStep)
