@@ -50,6 +50,12 @@ pub enum StringEnd {
     Unclosed,
 }
 
+// The one character that a token may be.
+pub enum Character {
+    One(u32),
+    No,
+}
+
 // Token number n, as four words of work.
 fn push(work: &mut [u32], n: usize, kind: u32, start: u32, end: u32, value: u32)
     requires { ⌜ 4 * n + 4 ≤ length (now work) ⌝ }
