@@ -7,9 +7,11 @@ ghost use Rattle.lexer.specs.Tokens.{span};
 ghost use Rattle.lexer.specs.Words.{keyword};
 ghost use Rattle.lexer.specs.Places.{part};
 ghost use Rattle.lexer.specs.View.{tokenIn, characterIn, keywordIn};
+use crate::Character;
+use crate::Span;
+use crate::Token;
 use crate::kind;
 use crate::names;
-use crate::{Character, Span, Token};
 
 // Token number i of those in work.
 pub fn token_at(work: &[u32], i: usize) -> Token
