@@ -3,5 +3,4 @@ pub mod Keywords
 pub mod Pieces
 pub mod Steps
 pub mod Writes
-pub mod Views
 pub mod Placed

@@ -2,4 +2,3 @@ pub mod Text
 pub mod Tokens
 pub mod Words
 pub mod Places
-pub mod View

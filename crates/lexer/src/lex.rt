@@ -17,7 +17,7 @@ use chars::Class;
 use chars::Decoded;
 
 // The number of a sign's kind.
-pub fn sign_number(c: u32) -> u32
+pub(crate) fn sign_number(c: u32) -> u32
     ensures { λ r. ⌜ r ≡ signNumber c ⌝ }
 {
     match c {
@@ -157,7 +157,7 @@ fn piece_from(text: &[u8], at: usize, c: u32, next: usize) -> Piece
 }
 
 // What stands at a place.
-pub fn piece_at(text: &[u8], at: usize) -> Piece
+pub(crate) fn piece_at(text: &[u8], at: usize) -> Piece
     ensures { λ r. ⌜ r ≡ piece at (rest (now (text .entry)) at) ⌝ }
 {
     let s = chars::char_at(text, at);

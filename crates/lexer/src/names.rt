@@ -3,7 +3,6 @@ ghost use mathlib.Core.Path.{_≡_};
 ghost use Rattle.lexer.specs.Text.{same};
 ghost use Rattle.lexer.specs.Words.{position, keywordBytes};
 ghost use Rattle.lexer.specs.Places.{part};
-use crate::Span;
 
 // The keywords one behind the other, and where each starts.
 const KEYWORDS: [u8; 115] =
@@ -67,17 +66,8 @@ pub fn same_part(a: &[u8], b: &[u8]) -> bool
     true
 }
 
-// Whether the names at two places are equal.
-pub fn same_name(text: &[u8], a: Span, b: Span) -> bool
-    ensures { λ r. ⌜ r ≡ same (part (now (text .entry)) (a .start) (a .end)) (part (now (text .entry)) (b .start) (b .end)) ⌝ }
-{
-    let x = part_of(text, a.start as usize, a.end as usize);
-    let y = part_of(text, b.start as usize, b.end as usize);
-    same_part(x, y)
-}
-
 // A word's number among the keywords, or 0.
-pub fn keyword_of(name: &[u8]) -> u32
+pub(crate) fn keyword_of(name: &[u8]) -> u32
     ensures { λ r. ⌜ r ≡ position 1 keywordBytes (now (name .entry)) ⌝ }
 {
     let names = KEYWORDS;

@@ -1,8 +1,8 @@
--- `lexer::view::character_of` meets its contract: one law for each return. Assumes nothing.
-use Rattle.lexer.proofs.Views.{characters}
+-- `tokens::character_of` meets its contract: one law for each return. Assumes nothing.
+use Rattle.tokens.proofs.Views.{characters}
 use borrow.Author.Needs.{needs}
-use Rattle.lexer.proofs.view.character_of.Statement.{statement}
-use Rattle.lexer.proofs.view.character_of.Tie as tie
+use Rattle.tokens.proofs.character_of.Statement.{statement}
+use Rattle.tokens.proofs.character_of.Tie as tie
 
 pub character-of-spec : {M : Type 1} → statement M
 character-of-spec =

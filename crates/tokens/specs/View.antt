@@ -4,11 +4,11 @@ use mathlib.Core.Bool.{Bool, true, false, cond, _&&_}
 use mathlib.Core.List.{List, [], _∷_}
 use lib.Dec.{eqb, leb, ltb}
 use lib.ListN.{getD}
 use Rattle.lexer.specs.Tokens.{TokenKind, word, number, quoted, str, sign, comment, newline, unterminatedString, unterminatedQuote, Span, Token}
 use Rattle.lexer.specs.Words.{keyword, kindNumber, tokenValue}
-use Rattle.lexer.specs.declared.Token.{Token as Words}
-use Rattle.lexer.specs.declared.Character.{Character}
-use Rattle.lexer.specs.declared.Character.the-variants.{One, No}
+use Rattle.tokens.specs.declared.Token.{Token as Words}
+use Rattle.tokens.specs.declared.Character.{Character}
+use Rattle.tokens.specs.declared.Character.the-variants.{One, No}
 
 -- the words of a token
 abbrev pub wordsOf : Token Span → Words

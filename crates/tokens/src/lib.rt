@@ -3,15 +3,28 @@ ghost use mathlib.Core.Path.{_≡_};
 ghost use Prim.Native.Nat.{_+_, _*_, _-_, _≤_, _<_};
 ghost use mathlib.Core.List.{[], _∷_};
 ghost use lib.ListN.{length};
+ghost use Rattle.lexer.specs.Text.{same};
 ghost use Rattle.lexer.specs.Tokens.{span};
 ghost use Rattle.lexer.specs.Words.{keyword};
 ghost use Rattle.lexer.specs.Places.{part};
-ghost use Rattle.lexer.specs.View.{tokenIn, characterIn, keywordIn};
-use crate::Character;
-use crate::Span;
-use crate::Token;
-use crate::kind;
-use crate::names;
+ghost use Rattle.tokens.specs.View.{tokenIn, characterIn, keywordIn};
+use lexer::Span;
+use lexer::kind;
+use lexer::names;
+
+// A token as its four words: kind, start, end and value.
+pub struct Token {
+    pub kind: u32,
+    pub start: u32,
+    pub end: u32,
+    pub value: u32,
+}
+
+// The one character that a token may be.
+pub enum Character {
+    One(u32),
+    No,
+}
 
 // Token number i of those in work.
 pub fn token_at(work: &[u32], i: usize) -> Token
@@ -92,7 +105,7 @@ pub fn character_of(t: Token) -> Character
 }
 
 // The number among the keywords of a word of one character.
-pub fn character_keyword(c: u32) -> u32
+fn character_keyword(c: u32) -> u32
     ensures { λ r. ⌜ r ≡ keyword (c ∷ []) ⌝ }
 {
     match c {
@@ -123,4 +136,13 @@ pub fn text_at(text: &[u8], p: Span) -> &[u8]
     ensures { λ r. ⌜ now r ≡ part (now (text .entry)) (p .start) (p .end) ⌝ }
 {
     names::part_of(text, p.start as usize, p.end as usize)
+}
+
+// Whether the names at two places are equal.
+pub fn same_name(text: &[u8], a: Span, b: Span) -> bool
+    ensures { λ r. ⌜ r ≡ same (part (now (text .entry)) (a .start) (a .end)) (part (now (text .entry)) (b .start) (b .end)) ⌝ }
+{
+    let x = names::part_of(text, a.start as usize, a.end as usize);
+    let y = names::part_of(text, b.start as usize, b.end as usize);
+    names::same_part(x, y)
 }

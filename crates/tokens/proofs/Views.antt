@@ -11,18 +11,18 @@ use lib.ListN.{length, getD, take, drop, length-take, length-drop, List·getD-ap
 use Rattle.chars.specs.Utf8.{scalar, scalars, size, sizes, encode}
 use Rattle.chars.proofs.Tests.{split, and-both, or-cases}
 use Rattle.chars.proofs.Theorems.{length-encode}
 use Rattle.lexer.specs.Text.{same}
 use Rattle.lexer.specs.Tokens.{TokenKind, word, number, quoted, str, sign, comment, newline, unterminatedString, unterminatedQuote, Span, span, Token, isAsciiDigit}
 use Rattle.lexer.specs.Words.{keywords, keyword, position, valueFrom, value, signNumber, kindNumber, wordValue, tokenValue, tokenWords, flat, onto}
-use Rattle.lexer.specs.View.{wordsOf, tokenIn, single, characterOf, characterIn, keywordOf, keywordIn}
+use Rattle.tokens.specs.View.{wordsOf, tokenIn, single, characterOf, characterIn, keywordOf, keywordIn}
 use Rattle.lexer.specs.Places.{charsAt}
 use Rattle.lexer.proofs.Scans.{byTest, digit-range}
 use Rattle.lexer.proofs.Keywords.{part-inside, same-true, tests-equal, allBelow, all-below, position-true, position-false}
 use Rattle.lexer.proofs.Steps.{digits, Good, Says}
 use Rattle.lexer.proofs.Placed.{Placed, Shape}
-use Rattle.lexer.specs.declared.Token.{Token as Words}
-use Rattle.lexer.specs.declared.Character.{Character}
-use Rattle.lexer.specs.declared.Character.the-variants.{One, No}
+use Rattle.tokens.specs.declared.Token.{Token as Words}
+use Rattle.tokens.specs.declared.Character.{Character}
+use Rattle.tokens.specs.declared.Character.the-variants.{One, No}
 
 -- ---- a keyword of one character
 and-no : (b : Bool) → (b && false) ≡ false

@@ -1,9 +1,9 @@
--- `lexer::view::keyword_in` meets its contract: by the same tests. Assumes nothing.
+-- `tokens::keyword_in` meets its contract: by the same tests. Assumes nothing.
 use Rattle.chars.proofs.Tests.{tests}
-use Rattle.lexer.specs.View.{keywordIn}
+use Rattle.tokens.specs.View.{keywordIn}
 use borrow.Author.Needs.{needs}
-use Rattle.lexer.proofs.view.keyword_in.Statement.{statement}
-use Rattle.lexer.proofs.view.keyword_in.Tie as tie
+use Rattle.tokens.proofs.keyword_in.Statement.{statement}
+use Rattle.tokens.proofs.keyword_in.Tie as tie
 
 pub keyword-in-spec : {M : Type 1} → statement M
 unfolding keywordIn
