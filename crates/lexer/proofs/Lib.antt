@@ -4,3 +4,4 @@ pub mod Pieces
 pub mod Steps
 pub mod Writes
 pub mod Placed
+pub mod Examples
