@@ -31,7 +31,7 @@ samples =
     record { text = codes "\"\\\"\\\\\\n\\t\\x\""; all = around (str (codes "\"\\\n\t\\x")) 0 12 1 11 ∷ at newline 12 12 ∷ [] } ∷
     record { text = codes "\"a\\\" \n\""; all = at unterminatedString 0 4 ∷ at newline 5 6 ∷ at unterminatedString 6 7 ∷ at newline 7 7 ∷ [] } ∷
     -- white space: carriage return, U+0085, U+00A0
-    record { text = codes "Q\r\n\u{85}Σ\u{A0}"; all = at (word (codes "Q")) 0 1 ∷ at newline 2 3 ∷ at (word (codes "Σ")) 5 7 ∷ at newline 9 9 ∷ [] } ∷
+    record { text = codes "Q\r\n\u{85}Σ\u{a0}"; all = at (word (codes "Q")) 0 1 ∷ at newline 2 3 ∷ at (word (codes "Σ")) 5 7 ∷ at newline 9 9 ∷ [] } ∷
     -- comments: one space goes, the end is trimmed
     record { text = codes "//  c \n// \n/ /"; all = around (comment (codes " c")) 0 5 3 5 ∷ at newline 6 7 ∷ around (comment []) 7 9 9 9 ∷ at newline 10 11 ∷ at (sign 0x2F) 11 12 ∷ at (sign 0x2F) 13 14 ∷ at newline 14 14 ∷ [] } ∷
     -- a word does not start with a digit

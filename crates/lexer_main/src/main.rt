@@ -45,13 +45,19 @@ fn main() {
     // an unterminated string goes to the end of its line, trimmed
     check::expect(tokens_are(b"\"a\\\" \n", &[14, 0, 4, 0, 13, 5, 6, 0, 13, 6, 6, 0]));
     // a lone quote
-    check::expect(tokens_are(b"'\n'", &[15, 0, 1, 0, 13, 1, 2, 0, 15, 2, 3, 0, 13, 3, 3, 0]));
+    check::expect(tokens_are(
+        b"'\n'",
+        &[15, 0, 1, 0, 13, 1, 2, 0, 15, 2, 3, 0, 13, 3, 3, 0],
+    ));
     // a carriage return is white space
     check::expect(tokens_are(b"Q\r\n", &[0, 0, 1, 0x51, 13, 2, 3, 0, 13, 3, 3, 0]));
     // U+0085 parts words
     check::expect(tokens_are(b"a\xC2\x85b", &[0, 0, 1, 0x61, 0, 3, 4, 0x62, 13, 4, 4, 0]));
     // one space behind the slashes is no part of a comment's text, the end is trimmed
-    check::expect(tokens_are(b"//  c \n//", &[12, 0, 5, 3, 13, 6, 7, 0, 12, 7, 9, 2, 13, 9, 9, 0]));
+    check::expect(tokens_are(
+        b"//  c \n//",
+        &[12, 0, 5, 3, 13, 6, 7, 0, 12, 7, 9, 2, 13, 9, 9, 0],
+    ));
     // values stop at 256
     check::expect(tokens_are(b"255 0256", &[1, 0, 3, 255, 1, 4, 8, 256, 13, 8, 8, 0]));
 }

@@ -66,8 +66,9 @@ pub fn comment_text(t: Token) -> Span
     requires { ⌜ t .start + t .value ≤ t .end ⌝ }
     ensures { λ r. ⌜ r ≡ span (t .start + t .value) (t .end) ⌝ }
 {
+    let start = t.start + t.value;
     Span {
-        start: t.start + t.value,
+        start: start,
         end: t.end,
     }
 }
@@ -125,10 +126,10 @@ pub fn keyword_in(t: Token) -> u32
     if t.kind != kind::WORD {
         return 0;
     }
-    if t.value < 0x110000 {
-        return character_keyword(t.value);
+    if 0x110000 <= t.value {
+        return t.value - 0x110000;
     }
-    t.value - 0x110000
+    character_keyword(t.value)
 }
 
 // The part of the text at a place; empty where the place is not inside it.

@@ -11,6 +11,6 @@ keyword-in-spec =
     tie.close
     (tie.spec
     (λ c. search tests)
-    (λ c κs. search tests)
     (λ c. search tests)
+    (λ c κs. search tests)
     (λ c. search tests))
