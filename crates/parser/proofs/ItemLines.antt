@@ -21,8 +21,8 @@ use Rattle.parser.specs.Row.{peek}
 use Rattle.parser.specs.Views.{spanOf, isKind, isChoice, isState, isSymbol, keywordOf, leadOf}
 use Rattle.parser.specs.declared.Keyword.{Keyword}
 use Rattle.parser.specs.Lines.{codeOf, one, set, output, noParts, on, plain, value, transition, spanning, newlineAt, finish, valueAt, lineOn, lineOf, itemOf, itemFrom, item, isComment, line}
-use Rattle.parser.specs.Meaning.{tokenOf, placeOf, at, between, located, seen, textOf, decoderAt, ruleOf, itemMeans, remarkOf, commentOf, ownComment, lineMeans, Counted, CountedAs, LineCounted, Sound, Closed}
-use Rattle.parser.specs.declared.Token.{Token as Words}
+use Rattle.parser.specs.Meaning.{tokenOf, at, between, located, seen, textOf, decoderAt, ruleOf, itemMeans, remarkOf, commentOf, ownComment, lineMeans, Counted, CountedAs, LineCounted, Sound, Closed}
+use Rattle.tokens.specs.declared.Token.{Token as Words}
 use Rattle.parser.specs.declared.Parsed.{Parsed}
 use Rattle.parser.specs.declared.Parsed.the-variants.{Done, Failed}
 use Rattle.parser.specs.declared.Parts.{Parts}
@@ -132,7 +132,7 @@ module _ (ts : List (Token Span)) (junk : List Words) (z : Token Span) (more : L
     abbrev whole : Span
     whole = covering (t₀ .place) (lastPlace (t₀ .place) l₀)
 
-    row-span : (j : ℕ) → j ≡ i₀ + length (t₀ ∷ l₀) → placeOf (spanning ws i₀ j) ≡ whole
+    row-span : (j : ℕ) → j ≡ i₀ + length (t₀ ∷ l₀) → spanning ws i₀ j ≡ whole
     unfolding tokenOf
     row-span j e =
         let a : peek ws i₀ .start ≡ t₀ .place .start = ap (λ (x : Words). x .start) (at-first ts junk z more i₀ t₀ l₀ row₀ .1) in
@@ -159,7 +159,7 @@ module _ (ts : List (Token Span)) (junk : List Words) (z : Token Span) (more : L
         p : peek ws j ≡ tokenOf z
         p = at-stop ts junk z more j at₁ .1
 
-        placed : placeOf (spanning ws i₀ j) ≡ whole
+        placed : spanning ws i₀ j ≡ whole
         placed = row-span j (d ∙ ap (λ (x : List (Token Span)). i₀ + length x) (sym (e ∙ append-nil f)))
 
         stopped : Stops (z .kind) → Means ts (finish k ws i₀ v j q) (itemLine it whole note)

@@ -18,7 +18,7 @@ use Rattle.language.proofs.Every.{Every}
 use Rattle.parser.specs.Row.{tokensIn, peek}
 use Rattle.parser.specs.Lines.{line, lineLength, lineEnd}
 use Rattle.parser.specs.Meaning.{tokenOf, lineMeans, Sound, Closed, Lexed, AllLexed, LineAt}
-use Rattle.parser.specs.declared.Token.{Token as Words}
+use Rattle.tokens.specs.declared.Token.{Token as Words}
 use Rattle.parser.proofs.Simulates.{Stops, Goes, At}
 use Rattle.parser.proofs.ItemLines.{goes-kind, feed-kind, noteOf, Means, line-means}
 

@@ -13,8 +13,8 @@ use borrow.Author.Tests.{eq-eqb, ne-eqb, eqb-true}
 use Rattle.parser.specs.Row.{tokensIn, ended, peek}
 use Rattle.parser.specs.Views.{isKind, isChoice, isState, isSymbol, isWrite, isDirection, isText}
 use Rattle.parser.specs.Lines.{Parser, then, unexpected, one, direction, separator, entriesFrom, entries, set, tuple, readEntry, output}
-use Rattle.parser.specs.declared.Token.{Token}
-use Rattle.parser.specs.declared.Span.{Span}
+use Rattle.tokens.specs.declared.Token.{Token}
+use Rattle.lexer.specs.declared.Span.{Span}
 use Rattle.parser.specs.declared.Parsed.{Parsed}
 use Rattle.parser.specs.declared.Parsed.the-variants.{Done, Failed}
 use Rattle.parser.proofs.Laws.{length-tokens, inside}

@@ -19,7 +19,7 @@ use Rattle.parser.specs.Row.{peek}
 use Rattle.parser.specs.Views.{isChoice, isSymbol}
 use Rattle.parser.specs.Lines.{then, one, output}
 use Rattle.parser.specs.Meaning.{tokenOf, at, orElse, located, decoderAt, SoundAs}
-use Rattle.parser.specs.declared.Token.{Token as Words}
+use Rattle.tokens.specs.declared.Token.{Token as Words}
 use Rattle.parser.specs.declared.Parsed.{Parsed}
 use Rattle.parser.specs.declared.Parsed.the-variants.{Done, Failed}
 use Rattle.parser.proofs.Tables.{true-false, find}

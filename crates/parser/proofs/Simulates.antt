@@ -21,8 +21,8 @@ use Rattle.language.proofs.Every.{byTest, Every}
 use Rattle.parser.specs.Row.{peek}
 use Rattle.parser.specs.Views.{spanOf, isKind, isDirection, isText}
 use Rattle.parser.specs.Lines.{then, codeOf, unexpected as refused, one, direction, separator, entries, set, tuple}
-use Rattle.parser.specs.Meaning.{tokenOf, placeOf, nothing, at, between, SoundAs, Sound}
-use Rattle.parser.specs.declared.Token.{Token as Words}
+use Rattle.parser.specs.Meaning.{tokenOf, nothing, at, between, SoundAs, Sound}
+use Rattle.tokens.specs.declared.Token.{Token as Words}
 use Rattle.parser.specs.declared.Parsed.{Parsed}
 use Rattle.parser.specs.declared.Parsed.the-variants.{Done, Failed}
 use Rattle.parser.proofs.Lists.{Within, Steps, turn, entries-turn}
@@ -38,7 +38,7 @@ abbrev pub Fits : {A : Type 0} → ℕ → List (Token Span) → (List (Token Sp
 Fits i l Means count (Done j n) (ok a r) = (f : List (Token Span)) × (l ≡ f ++ r) × (j ≡ i + length f) × (n ≡ count a) × Means f a
 Fits i l Means count (Done j n) (fail c p) = ⊥
 Fits i l Means count (Failed c s) (ok a r) = ⊥
-Fits i l Means count (Failed c s) (fail d p) = (c ≡ d) × (placeOf s ≡ p)
+Fits i l Means count (Failed c s) (fail d p) = (c ≡ d) × (s ≡ p)
 
 -- ---- one token
 -- a parser that goes by a test of the token, with the code where it fails

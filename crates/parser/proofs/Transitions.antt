@@ -14,11 +14,11 @@ use Rattle.language.specs.Lines.{RawSymbol, RawTransition, stateIn, symbolIn, b
 use Rattle.parser.specs.Views.{isKind, isState, isWrite}
 use Rattle.parser.specs.Lines.{then, one, direction, tuple, readEntry, side, equals, leftParts, on, onValue, left, right, transition}
 use Rattle.parser.specs.Row.{peek}
-use Rattle.parser.specs.Meaning.{tokenOf, placeOf, at, between, orElse, located, seen, readSets, readPart, passes, ruleOf}
+use Rattle.parser.specs.Meaning.{tokenOf, at, between, orElse, located, seen, readSets, readPart, passes, ruleOf}
 use Rattle.lexer.specs.Words.{kindNumber}
 use lib.Dec.{eqb}
-use Rattle.parser.specs.declared.Token.{Token as Words}
-use Rattle.parser.specs.declared.Span.{Span as Place}
+use Rattle.tokens.specs.declared.Token.{Token as Words}
+use Rattle.lexer.specs.declared.Span.{Span as Place}
 use Rattle.parser.specs.declared.Parsed.{Parsed}
 use Rattle.parser.specs.declared.Parsed.the-variants.{Done, Failed}
 use Rattle.parser.specs.declared.Parts.{Parts}
@@ -33,7 +33,7 @@ abbrev pub Gives : {B : Type 0} → ℕ → List (Token Span) → (Parts → ℕ
 Gives i l Means (Ended j q) (ok b r) = (f : List (Token Span)) × (l ≡ f ++ r) × (j ≡ i + length f) × Means q j b
 Gives i l Means (Ended j q) (fail c p) = ⊥
 Gives i l Means (Broken c s) (ok b r) = ⊥
-Gives i l Means (Broken c s) (fail d p) = (c ≡ d) × (placeOf s ≡ p)
+Gives i l Means (Broken c s) (fail d p) = (c ≡ d) × (s ≡ p)
 
 -- one part behind another
 on-then : (x : Parsed) (k : ℕ → ℕ → Parsed) (f : ℕ → ℕ → Value) → on (then x k) f ≡ on x (λ j n. on (k j n) f)

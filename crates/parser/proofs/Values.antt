@@ -16,8 +16,8 @@ use Rattle.language.proofs.Every.{byTest}
 use Rattle.parser.specs.Row.{peek}
 use Rattle.parser.specs.Views.{spanOf, isKind, isChoice, isState, isSymbol, isWrite, isDirection, isText}
 use Rattle.parser.specs.Lines.{then, codeOf, one, direction, entries, set, tuple, readEntry}
-use Rattle.parser.specs.Meaning.{tokenOf, placeOf, at, seenOn, seen, textOf, ReadPart, opens, closes, passes, reads, readPart, joins, outside, inside, readSets, Sound}
-use Rattle.parser.specs.declared.Token.{Token as Words}
+use Rattle.parser.specs.Meaning.{tokenOf, at, seenOn, seen, textOf, ReadPart, opens, closes, passes, reads, readPart, joins, outside, inside, readSets, Sound}
+use Rattle.tokens.specs.declared.Token.{Token as Words}
 use Rattle.parser.specs.declared.Parsed.{Parsed}
 use Rattle.parser.specs.declared.Parsed.the-variants.{Done, Failed}
 use Rattle.parser.proofs.Lists.{Steps, state-steps, symbol-steps, read-steps, write-steps, direction-steps}

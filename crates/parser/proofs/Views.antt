@@ -18,7 +18,7 @@ use Rattle.language.proofs.Every.{byTest}
 use Rattle.parser.specs.Views.{isKind, isState, isSymbol, isWrite, isMove, isDirection, isText}
 use Rattle.parser.specs.Lines.{codeOf}
 use Rattle.parser.specs.Meaning.{tokenOf, SoundAs, Sound}
-use Rattle.parser.specs.declared.Token.{Token as Words}
+use Rattle.tokens.specs.declared.Token.{Token as Words}
 use Rattle.parser.proofs.Tables.{true-false}
 
 abbrev pub isSome : {A : Type 0} → Option A → Bool

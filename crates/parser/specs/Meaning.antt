@@ -12,8 +12,8 @@ use Rattle.language.specs.Machine.{Located, transducer, lsb}
 use Rattle.language.specs.Parser.{isSign}
 use Rattle.language.specs.Lines.{RawSymbol, rawBlank, RawDecoder, rawWord, rawUnary, rawBinary, RawTransition, Text, Item, machineItem, inputItem, kindItem, outputItem, tapesItem, statesItem, finalItem, inputAlphabetItem, tapeAlphabetItem, blankItem, startItem, transitionItem, Line, blankLine, commentLine, itemLine, errorLine, stateIn, symbolIn, writeIn, directionIn, stringIn, numberIn, wordIn, kinds, outputs, orders, OutputWord, wordOutput, unaryOutput, binaryOutput, Ending, lineFeed, goesBy, remark, endingOf, lines, covering}
 use Rattle.parser.specs.Lines.{line, lineEnd}
-use Rattle.parser.specs.declared.Token.{Token as Words}
-use Rattle.parser.specs.declared.Span.{Span as Place}
+use Rattle.tokens.specs.declared.Token.{Token as Words}
+use Rattle.tokens.specs.View.{wordsOf}
 use Rattle.parser.specs.declared.Parts.{Parts}
 use Rattle.parser.specs.declared.ItemKind.{ItemKind}
 use Rattle.parser.specs.declared.ItemKind.the-variants.{Machine, Kind, Input, Output, Tapes, States, InputAlphabet, TapeAlphabet, Blank as BlankSymbol, Start, Final, Transition}
@@ -24,11 +24,7 @@ use Rattle.parser.specs.declared.Line.the-variants.{Blank, Comment, Item
 -- a token as its four words
 unfoldable pub tokenOf : Token Span → Words
 unfolding kindNumber tokenValue
-tokenOf t = record { kind = kindNumber (t .kind); start = t .place .start; end = t .place .end; value = tokenValue t }
-
--- a span as a place
-abbrev pub placeOf : Place → Span
-placeOf s = span (s .start) (s .end)
+tokenOf t = wordsOf t
 
 -- what stands behind the last token
 abbrev pub nothing : Token Span
@@ -161,8 +157,8 @@ unfoldable pub lineMeans : List (Token Span) → Parsed → Line Span
 unfolding itemMeans ownComment remarkOf
 lineMeans ts Blank = blankLine
 lineMeans ts (Comment i) = commentLine (commentOf (at ts i))
-lineMeans ts (Read r) = itemLine (itemMeans ts (r .kind) (r .value) (r .end) (r .parts)) (placeOf (r .span)) (ownComment ts (r .end) (r .newline))
-lineMeans ts (Error c s) = errorLine c (placeOf s)
+lineMeans ts (Read r) = itemLine (itemMeans ts (r .kind) (r .value) (r .end) (r .parts)) (r .span) (ownComment ts (r .end) (r .newline))
+lineMeans ts (Error c s) = errorLine c (s)
 
 -- the counts of a rule's parts are the lengths of its lists
 pub record Counted (ts : List (Token Span)) (r : Found) : Type 0 where

@@ -5,9 +5,9 @@ ghost use Rattle.parser.specs.Row.{tokensIn, peek};
 ghost use Rattle.parser.specs.Views.{isKind, isChoice, isState, isSymbol, isWrite};
 ghost use Rattle.parser.specs.Lines.{codeOf, unexpected, one, direction, separator, entries, set, tuple, readEntry, output};
 use crate::Parsed;
-use crate::Span;
-use crate::Token;
-use crate::kind;
+use lexer::Span;
+use lexer::kind;
+use tokens::Token;
 use crate::row::token_at;
 use crate::view;
 

@@ -11,10 +11,10 @@ use crate::Lead;
 use crate::Line;
 use crate::Parsed;
 use crate::Parts;
-use crate::Span;
+use lexer::Span;
 use crate::Value;
 use crate::elements;
-use crate::kind;
+use lexer::kind;
 use crate::row::token_at;
 use crate::view;
 
