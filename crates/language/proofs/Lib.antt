@@ -14,3 +14,4 @@ pub mod PlainSamples
 pub mod Samples
 pub mod Counts
 pub mod ParseHolds
+pub mod AssemblyHolds

@@ -119,7 +119,7 @@ GoodEnding good (remark s) = good s
 -- what holds of each name, string, symbol and comment
 pub record Goods (P : Type 0) : Type 1 where
   pub name : Located P (List ℕ) → Type 0
-  pub text : Text P → Type 0
+  pub text : Located P (List ℕ) → Type 0
   pub sym : RawSymbol → Type 0
   pub note : Located P (List ℕ) → Type 0
 
@@ -137,8 +137,8 @@ module _ {P : Type 0} (S : Goods P) where
   GoodDecoder (rawBinary o) = Unit {0}
 
   abbrev pub GoodItem : Item P → Type 0
-  GoodItem (machineItem x) = S .text x
-  GoodItem (inputItem x) = S .text x
+  GoodItem (machineItem x) = S .text (x .value)
+  GoodItem (inputItem x) = S .text (x .value)
   GoodItem (kindItem x) = Unit {0}
   GoodItem (outputItem x) = GoodDecoder x
   GoodItem (tapesItem x) = Unit {0}
@@ -252,20 +252,20 @@ module _ {P : Type 0} (G : Token P → Type 0) where
 
   -- ---- items: `name-view` and the like say what the tokens give
   module _ (S : Goods P) (name-view : Views (S .name) stateIn) (sym-view : Views (λ s. S .sym (s .value)) symbolIn)
-      (text-view : (t : Token P) → G t → Maybe (λ s. S .text (record { value = record { value = s; place = t .inner }; place = t .place })) (stringIn (t .kind)))
+      (text-view : (t : Token P) → G t → Maybe (λ s. S .text (record { value = s; place = t .inner })) (stringIn (t .kind)))
       (note-view : (t : Token P) → G t → GoodEnding (λ s. S .note (record { value = s; place = t .inner })) (endingOf (t .kind))) where
     module _ (stop : P) where
-      string-taken : (o : Option (List ℕ)) (t : Token P) (ts : List (Token P)) → Maybe (λ s. S .text (record { value = record { value = s; place = t .inner }; place = t .place })) o → Every G ts → Good (S .text) (stringTaken o t ts)
+      string-taken : (o : Option (List ℕ)) (t : Token P) (ts : List (Token P)) → Maybe (λ s. S .text (record { value = s; place = t .inner })) o → Every G ts → Good (λ x. S .text (x .value)) (stringTaken o t ts)
       unfolding stringTaken
       string-taken none t ts h g = tt
       string-taken (some s) t ts h g = (h, g)
 
-      string-g : (ts : List (Token P)) → Every G ts → Good (S .text) (string stop ts)
+      string-g : (ts : List (Token P)) → Every G ts → Good (λ x. S .text (x .value)) (string stop ts)
       unfolding string
       string-g [] h = tt
       string-g (t ∷ ts) h = string-taken (stringIn (t .kind)) t ts (text-view t (h .0)) (h .1)
 
-      string-gives : Gives (S .text) (string stop)
+      string-gives : Gives (λ x. S .text (x .value)) (string stop)
       string-gives = record { gives = string-g }
 
       state-gives : Gives (S .name) (state stop)
