@@ -15,3 +15,4 @@ pub mod Samples
 pub mod Counts
 pub mod ParseHolds
 pub mod AssemblyHolds
+pub mod ReadCounts
