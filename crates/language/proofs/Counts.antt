@@ -175,7 +175,7 @@ section-three : (l : List (State Span)) → length (flat stateWords l) ≡ lengt
 unfolding stateWords
 section-three l = flat-length stateWords 3 l (every-any _ (λ s. refl) l)
 
-symbol-length : (s : Symbol Span) → length (symbolWords s) ≡ 3
+pub symbol-length : (s : Symbol Span) → length (symbolWords s) ≡ 3
 unfolding symbolWords
 symbol-length s = placed (s .declaredAt)
   where

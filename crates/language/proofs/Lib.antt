@@ -17,3 +17,4 @@ pub mod ParseHolds
 pub mod AssemblyHolds
 pub mod ReadCounts
 pub mod TokenPlaces
+pub mod AnswerBack
