@@ -26,7 +26,7 @@ abbrev pub IsNumber : List ℕ → Type 0
 IsNumber [] = ⊥
 IsNumber (c ∷ w) = (isAsciiDigit c ≡ true) × All isAsciiDigit w
 
-digit-no-feed : (c : ℕ) → isAsciiDigit c ≡ true → eqb c 10 ≡ false
+pub digit-no-feed : (c : ℕ) → isAsciiDigit c ≡ true → eqb c 10 ≡ false
 unfolding isAsciiDigit
 digit-no-feed c h = byTest (eqb c 10) (λ e. absurd (false≢true (sym (ap isAsciiDigit (eqb-true c 10 e)) ∙ h))) (λ e. e)
 

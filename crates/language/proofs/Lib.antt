@@ -10,5 +10,6 @@ pub mod InferAgain
 pub mod PlainAssembly
 pub mod ParsePlaces
 pub mod AssemblyPlaces
+pub mod ParseSound
 pub mod PlainSamples
 pub mod Samples
