@@ -15,24 +15,24 @@ use Rattle.language.proofs.Every.{byTest, map-ext}
 use Rattle.language.proofs.Facts.{Facts, mapOption, factsFrom, factsOf, map-append}
 use Rattle.language.proofs.ParsePlaces.{onLoc, onText, onRaw, onItem, onLine}
 
-found-none : {P A : Type 0} (part : Parts P → Option A) (i : Located P (Item P)) (is : List (Located P (Item P))) → part (parts (i .value)) ≡ none → found (first part (i ∷ is)) ≡ found (first part is)
+pub found-none : {P A : Type 0} (part : Parts P → Option A) (i : Located P (Item P)) (is : List (Located P (Item P))) → part (parts (i .value)) ≡ none → found (first part (i ∷ is)) ≡ found (first part is)
 unfolding first
 found-none part i is e = rw (e, first)
 
-found-some : {P A : Type 0} (part : Parts P → Option A) (i : Located P (Item P)) (is : List (Located P (Item P))) {a : A} → part (parts (i .value)) ≡ some a → found (first part (i ∷ is)) ≡ some a
+pub found-some : {P A : Type 0} (part : Parts P → Option A) (i : Located P (Item P)) (is : List (Located P (Item P))) {a : A} → part (parts (i .value)) ≡ some a → found (first part (i ∷ is)) ≡ some a
 unfolding first found
 found-some part i is e = rw (e, first)
 
 module _ {P : Type 0} (n : ℕ) (r : RuleLine P) (rs : List (RuleLine P)) where
-  kept-expands : verdict n (r .raw) ≡ expands → kept n (r ∷ rs) ≡ r ∷ kept (n + combinations (r .raw .read)) rs
+  pub kept-expands : verdict n (r .raw) ≡ expands → kept n (r ∷ rs) ≡ r ∷ kept (n + combinations (r .raw .read)) rs
   unfolding kept
   kept-expands e = rw (e, kept)
 
-  kept-arity : verdict n (r .raw) ≡ wrongArity → kept n (r ∷ rs) ≡ kept n rs
+  pub kept-arity : verdict n (r .raw) ≡ wrongArity → kept n (r ∷ rs) ≡ kept n rs
   unfolding kept
   kept-arity e = rw (e, kept)
 
-  kept-many : verdict n (r .raw) ≡ tooMany → kept n (r ∷ rs) ≡ kept n rs
+  pub kept-many : verdict n (r .raw) ≡ tooMany → kept n (r ∷ rs) ≡ kept n rs
   unfolding kept
   kept-many e = rw (e, kept)
 

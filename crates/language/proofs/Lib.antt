@@ -11,5 +11,6 @@ pub mod PlainAssembly
 pub mod ParsePlaces
 pub mod AssemblyPlaces
 pub mod ParseSound
+pub mod AssemblySound
 pub mod PlainSamples
 pub mod Samples
