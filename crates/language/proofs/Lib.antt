@@ -12,5 +12,6 @@ pub mod ParsePlaces
 pub mod AssemblyPlaces
 pub mod ParseSound
 pub mod AssemblySound
+pub mod ContentSound
 pub mod PlainSamples
 pub mod Samples
