@@ -200,3 +200,183 @@ content-parsable m g = record {
 
 pub content-assembles : (m : Content) → GoodContent m → Assembles m
 content-assembles m g = record { tapes-byte = g .c-tapes; few-rules = g .c-count; test = g .c-test; names = g .c-names; marks = g .c-marks }
+
+-- ---- the characters of a plain form
+
+allFine : List ℕ → Bool
+unfolding fine
+allFine [] = true
+allFine (c ∷ l) = fine c && allFine l
+
+all-fine : (l : List ℕ) → allFine l ≡ true → AllFine l
+unfolding allFine
+all-fine [] e = tt
+all-fine (c ∷ l) e = (and-left (fine c) (allFine l) e, all-fine l (and-right (fine c) (allFine l) e))
+
+fine-append : (l r : List ℕ) → AllFine l → AllFine r → AllFine (l ++ r)
+fine-append l r h k = every-append (λ c. fine c ≡ true) l r h k
+
+all-digits : below (λ n. allFine (digits n)) 256 ≡ true
+unfolding below allFine digits
+all-digits = refl
+
+fine-digits : (n : ℕ) → n < 256 → AllFine (digits n)
+fine-digits n h = all-fine (digits n) (at-below (λ n. allFine (digits n)) 256 all-digits n h)
+
+-- a piece adds only characters of the set
+pub record FinePiece (p : Piece) : Type 0 where
+  pub adds : (rest : List ℕ) → AllFine rest → AllFine (p rest)
+
+say-adds : (s : S.String) → allFine (codes s) ≡ true → (rest : List ℕ) → AllFine rest → AllFine (say s rest)
+unfolding allFine
+say-adds S.[] e rest h = h
+say-adds (S._∷_ c s) e rest h = (and-left (fine (code c)) (allFine (codes s)) e, say-adds s (and-right (fine (code c)) (allFine (codes s)) e) rest h)
+
+fine-say : (s : S.String) → allFine (codes s) ≡ true → FinePiece (say s)
+fine-say s e = record { adds = say-adds s e }
+
+infixr 20 _then_
+_then_ : {p q : Piece} → FinePiece p → FinePiece q → FinePiece (p ⨾ q)
+_then_ {p} {q} h k = record { adds = λ rest g. h .adds (q rest) (k .adds rest g) }
+
+fine-nothing : FinePiece (λ rest. rest)
+fine-nothing = record { adds = λ rest g. g }
+
+fine-verbatim : (w : List ℕ) → AllFine w → FinePiece (verbatim w)
+fine-verbatim w h = record { adds = λ rest g. fine-append w rest h g }
+
+fine-end : FinePiece end
+unfolding fine
+fine-end = record { adds = λ rest g. (refl, g) }
+
+fine-only : (b : Bool) (p : Piece) → (b ≡ true → FinePiece p) → FinePiece (only b p)
+fine-only true p h = h refl
+fine-only false p h = fine-nothing
+
+each-adds : {A : Type 0} (good : A → Type 0) (show : A → Piece) → ((a : A) → good a → FinePiece (show a)) → (l : List A) → Every good l → (rest : List ℕ) → AllFine rest → AllFine (each show l rest)
+unfolding each
+each-adds good show e [] h rest g = g
+each-adds good show e (a ∷ l) h rest g = e a (h .0) .adds (each show l rest) (each-adds good show e l (h .1) rest g)
+
+fine-each : {A : Type 0} (good : A → Type 0) (show : A → Piece) → ((a : A) → good a → FinePiece (show a)) → (l : List A) → Every good l → FinePiece (each show l)
+fine-each good show e l h = record { adds = each-adds good show e l h }
+
+commas-adds : {A : Type 0} (good : A → Type 0) (show : A → Piece) → ((a : A) → good a → FinePiece (show a)) → (l : List A) → Every good l → (rest : List ℕ) → AllFine rest → AllFine (commas show l rest)
+unfolding commas fine
+commas-adds good show e [] h rest g = g
+commas-adds good show e (a ∷ []) h rest g = e a (h .0) .adds rest g
+commas-adds good show e (a ∷ b ∷ l) h rest g = e a (h .0) .adds (say ", " (commas show (b ∷ l) rest)) (refl, (refl, commas-adds good show e (b ∷ l) (h .1) rest g))
+
+fine-commas : {A : Type 0} (good : A → Type 0) (show : A → Piece) → ((a : A) → good a → FinePiece (show a)) → (l : List A) → Every good l → FinePiece (commas show l)
+fine-commas good show e l h = record { adds = commas-adds good show e l h }
+
+fine-symbol : (c : ℕ) → Fine c → FinePiece (symbol c)
+unfolding fine
+fine-symbol c h = record { adds = λ rest g. (refl, (h, (refl, g))) }
+
+fine-direction : (d : Dir) → FinePiece (direction d)
+unfolding fine
+fine-direction left = record { adds = λ rest g. (refl, g) }
+fine-direction right = record { adds = λ rest g. (refl, g) }
+fine-direction stay = record { adds = λ rest g. (refl, g) }
+
+escaped-fine : (c : ℕ) → Maybe Fine (escaped c)
+unfolding escaped fine
+escaped-fine c = byTest (eqb c 0x22) (λ t. rw (t, escaped) refl) (λ t. rw (t, escaped)
+    (byTest (eqb c 0x5C) (λ t. rw t refl) (λ t. rw t (byTest (eqb c 10) (λ t. rw t refl) (λ t. rw t (byTest (eqb c 9) (λ t. rw t refl) (λ t. rw t tt)))))))
+
+in-string : (o : Option ℕ) (c : ℕ) → Maybe Fine o → Fine c → (rest : List ℕ) → AllFine rest → AllFine (inString o c rest)
+unfolding inString fine
+in-string none c h k rest g = (k, g)
+in-string (some e) c h k rest g = (refl, (h, g))
+
+text-adds : (s : List ℕ) → AllFine s → (rest : List ℕ) → AllFine rest → AllFine (escapedText s rest)
+unfolding escapedText
+text-adds [] h rest g = g
+text-adds (c ∷ s) h rest g = in-string (escaped c) c (escaped-fine c) (h .0) (escapedText s rest) (text-adds s (h .1) rest g)
+
+fine-string : (s : List ℕ) → AllFine s → FinePiece (string s)
+unfolding string fine
+fine-string s h = record { adds = λ rest g. (refl, text-adds s h (0x22 ∷ rest) (refl, g)) }
+
+fine-decimal : (n : ℕ) → n < 256 → FinePiece (decimal n)
+fine-decimal n h = record { adds = λ rest g. subst AllFine (sym (decimal-digits n rest)) (fine-append (digits n) rest (fine-digits n h) g) }
+
+fine-comment : (s : List ℕ) → AllFine s → FinePiece (comment s)
+unfolding fine
+fine-comment [] h = record { adds = λ rest g. (refl, (refl, g)) }
+fine-comment (c ∷ s) h = record { adds = λ rest g. (refl, (refl, (refl, fine-append (c ∷ s) rest h g))) }
+
+fine-line : (s : List ℕ) → GoodComment s → FinePiece (commentLine s)
+fine-line s h = fine-comment s (h .1) then fine-end
+
+fine-own : (o : Option (List ℕ)) → Maybe GoodComment o → FinePiece (ownComment o)
+unfolding allFine
+fine-own none h = fine-nothing
+fine-own (some s) h = fine-say " " refl then fine-comment s (h .1)
+
+fine-kind : (k : Kind) → FinePiece (say (kindName k))
+unfolding allFine
+fine-kind acceptor = fine-say "acceptor" refl
+fine-kind transducer = fine-say "transducer" refl
+fine-kind enumerator = fine-say "enumerator" refl
+fine-kind beaver = fine-say "beaver" refl
+
+fine-decoder : (d : Decoder) → GoodDecoder d → FinePiece (decoder d)
+unfolding allFine
+fine-decoder asWord h = fine-say "word" refl
+fine-decoder (asUnary c) h = fine-say "unary " refl then fine-symbol c (h .1)
+fine-decoder (asBinary lsb) h = fine-say "binary lsb" refl
+fine-decoder (asBinary msb) h = fine-say "binary msb" refl
+
+fine-names : (l : List (List ℕ)) → Every AllFine l → FinePiece (nameSet l)
+unfolding nameSet allFine
+fine-names l h = fine-say "{" refl then fine-commas AllFine verbatim fine-verbatim l h then fine-say "}" refl
+
+fine-symbols : (l : List ℕ) → Every GoodCode l → FinePiece (symbolSet l)
+unfolding symbolSet allFine
+fine-symbols l h = fine-say "{" refl then fine-commas GoodCode symbol (λ c g. fine-symbol c (g .1)) l h then fine-say "}" refl
+
+fine-rule : (r : RuleContent) → GoodRule r → FinePiece (rule r)
+unfolding rule allFine
+fine-rule r h =
+    fine-say "δ(" refl then fine-verbatim (r .from) (h .rule-from .name-fine) then fine-say ", (" refl
+    then fine-commas GoodAction (λ a. symbol (a .read)) (λ a g. fine-symbol (a .read) (g .0 .1)) (r .actions) (h .rule-actions)
+    then fine-say ")) = (" refl then fine-verbatim (r .to) (h .rule-to .name-fine) then fine-say ", (" refl
+    then fine-commas GoodAction (λ a. symbol (a .write)) (λ a g. fine-symbol (a .write) (g .1 .1)) (r .actions) (h .rule-actions)
+    then fine-say "), (" refl then fine-commas GoodAction (λ a. direction (a .dir)) (λ a g. fine-direction (a .dir)) (r .actions) (h .rule-actions) then fine-say "))" refl
+
+fine-rules : (r : RuleContent) → GoodRule r → FinePiece (ruleLines r)
+unfolding ruleLines
+fine-rules r h = fine-each GoodComment commentLine fine-line (r .leading) (h .rule-leads) then fine-rule r h then fine-own (r .comment) (h .rule-own) then fine-end
+
+state-fine : (l : List StateContent) → Every (λ s. GoodName (s .name)) l → Every AllFine (map (λ s. s .name) l)
+state-fine l h = every-map (λ s. GoodName (s .name)) AllFine (λ s. s .name) (λ s g. g .name-fine) l h
+
+finals-fine : (l : List StateContent) → Every (λ s. GoodName (s .name)) l → Every AllFine (finalNames l)
+unfolding finalNames
+finals-fine [] h = tt
+finals-fine (s ∷ l) h = byTest (s .final) (λ e. rw (e, finalNames) (h .0 .name-fine, finals-fine l (h .1))) (λ e. rw (e, finalNames) (finals-fine l (h .1)))
+
+fine-pieces : (m : Content) → GoodContent m → FinePiece (pieces m)
+unfolding pieces allFine
+fine-pieces m g =
+    fine-each GoodComment commentLine fine-line (m .header) (g .c-header)
+    then fine-say "machine " refl then fine-string (m .name) (g .c-name) then fine-end
+    then fine-say "kind " refl then fine-kind (m .kind) then fine-end
+    then fine-say "input " refl then fine-string (m .input) (g .c-input) then fine-end
+    then fine-say "output " refl then fine-decoder (m .output) (g .c-output) then fine-end
+    then fine-say "tapes = " refl then fine-decimal (m .tapes) (g .c-tapes) then fine-end
+    then fine-only (m .declared .states) _ (λ e. fine-say "Q = " refl then fine-names (map (λ s. s .name) (m .states)) (state-fine (m .states) (g .c-states)) then fine-end)
+    then fine-only (m .declared .inputAlphabet) _ (λ e. fine-say "Σ = " refl then fine-symbols (m .sigma) (g .c-sigma e) then fine-end)
+    then fine-only (m .declared .tapeAlphabet) _ (λ e. fine-say "Γ = " refl then fine-symbols (m .gamma) (g .c-gamma e) then fine-end)
+    then fine-only (m .declared .blank) _ (λ e. fine-say "blank = " refl then fine-symbol (m .blank) (g .c-blank .1) then fine-end)
+    then fine-only (m .declared .start) _ (λ e. fine-say "start = " refl then fine-verbatim (m .start) (g .c-start e .name-fine) then fine-end)
+    then fine-say "F = " refl then fine-names (finalNames (m .states)) (finals-fine (m .states) (g .c-states)) then fine-end
+    then fine-each GoodRule ruleLines fine-rules (m .rules) (g .c-rules)
+    then fine-each GoodComment commentLine fine-line (m .trailing) (g .c-trailing)
+
+-- every character of a plain form is of the set
+pub plain-fine : (m : Content) → GoodContent m → AllFine (plain m)
+unfolding plain
+plain-fine m g = fine-pieces m g .adds [] tt
