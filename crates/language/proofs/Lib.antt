@@ -15,3 +15,7 @@ pub mod AssemblySound
 pub mod ContentSound
 pub mod PlainSamples
 pub mod Samples
+pub mod Counts
+pub mod ParseHolds
+pub mod AssemblyHolds
+pub mod ReadCounts
