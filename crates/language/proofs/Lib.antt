@@ -13,6 +13,7 @@ pub mod AssemblyPlaces
 pub mod ParseSound
 pub mod AssemblySound
 pub mod ContentSound
+pub mod RoundTrip
 pub mod PlainSamples
 pub mod Samples
 pub mod Counts
