@@ -10,6 +10,10 @@ pub mod InferAgain
 pub mod PlainAssembly
 pub mod ParsePlaces
 pub mod AssemblyPlaces
+pub mod ParseSound
+pub mod AssemblySound
+pub mod ContentSound
+pub mod RoundTrip
 pub mod PlainSamples
 pub mod Samples
 pub mod Counts
