@@ -1,27 +1,27 @@
 -- An answer gives back the machine: its sections are as long as the head's counts, and the characters at each place are the machine's.
-use Prim.Native.Nat.{ℕ, zero, suc, _+_, _-_, _*_, _≤_, _<_}
+use Prim.Native.Nat.{ℕ, _+_, _*_, _<_}
 use native.Mathlib.Omega.{arith}
-use mathlib.Core.Bool.{Bool, true, false, _&&_, not}
+use mathlib.Core.Bool.{Bool, true, false, not}
 use mathlib.Core.List.{List, [], _∷_, _++_, map, map-map, append-assoc, append-nil}
 use mathlib.Core.Option.{Option, none, some}
 use mathlib.Core.Path.{_≡_, refl, ap, ap₂, _∙_, sym}
-use borrow.Author.Tests.{eqb-true, ne-eqb}
+use borrow.Author.Tests.{ne-eqb}
 use lib.Dec.{eqb}
 use lib.ListN.{length, getD, take, drop, length-append}
 use lib.Seq.{take-at, drop-at, drop-append-add}
 use Rattle.chars.specs.Utf8.{scalars, sizes, encode, decode, validUpTo}
 use Rattle.lexer.specs.Text.{codes, same}
 use Rattle.chars.proofs.Theorems.{sizes-append, length-encode, decode-scalars, valid-whole}
-use Rattle.lexer.specs.Tokens.{TokenKind, Token, Span, span, unescape, tokens, word, number, quoted, str, sign, comment, newline, unterminatedString, unterminatedQuote}
+use Rattle.lexer.specs.Tokens.{TokenKind, Token, Span, unescape, tokens, word, number, quoted, str, sign, comment, newline, unterminatedString, unterminatedQuote}
 use Rattle.language.specs.Machine.{Located, Dir, left, right, stay, State, Action, Rule, Symbol, Machine}
 use Rattle.language.specs.Content.{StateContent, ActionContent, RuleContent, Content, valueOr, optional, values, ruleContent, contentOf}
 use Rattle.language.specs.Parser.{when}
-use Rattle.language.specs.Lines.{Line, RawSymbol, stateIn, symbolIn, stringIn, endingOf, lines, covering, readLines}
+use Rattle.language.specs.Lines.{stateIn, symbolIn, stringIn, endingOf, covering, readLines}
 use Rattle.language.specs.Infer.{machineOf}
-use Rattle.language.specs.Layout.{noPlace, placeOrNone, placeWords, locatedWords, flat, Head, headOf, flag, stateWords, symbolWords, dirNumber, actionWords, ruleLength, ruleWords, sheetWords}
-use Rattle.language.specs.Agreement.{Answer, groups, records, at, placeAt, dirOf, actionIn, charactersAt, stringAt, commentAt, textIn, ruleIn, contentOfAnswer}
+use Rattle.language.specs.Layout.{placeOrNone, placeWords, locatedWords, flat, headOf, flag, stateWords, symbolWords, dirNumber, actionWords, ruleLength, ruleWords, sheetWords}
+use Rattle.language.specs.Agreement.{groups, records, at, dirOf, actionIn, charactersAt, stringAt, commentAt, textIn, ruleIn, contentOfAnswer}
 use Rattle.language.specs.Agreement as A
-use Rattle.language.proofs.Every.{byTest, Every, Maybe, every-any, map-ext}
+use Rattle.language.proofs.Every.{Every, Maybe, every-any, map-ext}
 use Rattle.language.proofs.ParseHolds.{Any, any-maybe, Goods, GoodEnding, lines-good}
 use Rattle.language.proofs.AssemblyHolds.{GoodRuleOf, GoodMachine, machine-good}
 use Rattle.language.proofs.Counts.{flat-length, rule-length, symbol-length}

@@ -1,11 +1,11 @@
 -- The characters at a token's place are its value: each step of the lexer takes its token from the front of what is left.
 use Prim.Native.Nat.{ℕ, zero, suc, _+_, _-_}
 use native.Mathlib.Omega.{arith}
-use mathlib.Core.Bool.{Bool, true, false, _&&_, _||_, not}
+use mathlib.Core.Bool.{Bool, true, false, _&&_, not}
 use mathlib.Core.List.{List, [], _∷_, _++_, append-assoc}
 use mathlib.Core.Option.{Option, none, some}
-use mathlib.Core.Path.{_≡_, refl, ap, ap₂, _∙_, sym, subst}
-use borrow.Author.Tests.{eqb-true, eqb-false, not-true}
+use mathlib.Core.Path.{_≡_, refl, ap, _∙_, sym}
+use borrow.Author.Tests.{eqb-true}
 use lib.Dec.{eqb}
 use lib.ListN.{length, take, drop, length-append}
 use lib.Seq.{take-at, drop-at}
@@ -15,7 +15,7 @@ use Rattle.chars.specs.declared.Class.{Class}
 use Rattle.chars.specs.declared.Class.the-variants.{Letter, Digit, Space, Sign, Other}
 use Rattle.chars.proofs.Theorems.{encode-append, decode-encode, length-encode, sizes-append}
 use Rattle.lexer.specs.Tokens.{TokenKind, word, number, quoted, str, sign, comment, newline, unterminatedString, unterminatedQuote, Span, span, Token, run, line, trimCons, trimEnd, isWhitespace, indent, commentText, escape, Inner, ends, breaks, escapes, stands, innerOf, Inside, closed, unclosed, put, pass, inside, unescape, Step, gap, tok, wordStep, numberStep, stringStep, quotedStep, slashStep, otherStep, step, emit, tokensFrom, tokens, isWordContinue, isAsciiDigit}
-use Rattle.language.specs.Agreement.{charactersAt, stringAt}
+use Rattle.language.specs.Agreement.{charactersAt}
 use Rattle.language.proofs.Every.{byTest, Every, and-left, and-right, and-both}
 
 -- ---- places

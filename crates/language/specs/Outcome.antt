@@ -3,14 +3,13 @@ use Prim.Native.Nat.{ℕ, _+_, _-_, _*_, _/_}
 use mathlib.Core.Bool.{Bool, true, false, _||_}
 use mathlib.Core.List.{List, [], _∷_, _++_}
 use mathlib.Core.Option.{Option, none, some}
-use lib.Dec.{ltb, eqb}
+use lib.Dec.{ltb}
 use lib.ListN.{length, drop, replicate}
 use Rattle.chars.specs.Utf8.{decode, encode, validUpTo}
 use Rattle.chars.specs.Class.{firstOutside}
 use Rattle.chars.specs.declared.Outside.the-variants.{At, Nowhere}
 use Rattle.lexer.specs.Tokens.{Span}
-use Rattle.language.specs.Machine.{Machine}
-use Rattle.language.specs.Content.{Content, contentOf}
+use Rattle.language.specs.Content.{contentOf}
 use Rattle.language.specs.Lines.{Line, readLines}
 use Rattle.language.specs.Assembly.{Diagnostic, diagnostics, bodyOf, kept}
 use Rattle.language.specs.Infer.{machineOf}
