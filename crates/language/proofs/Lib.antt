@@ -22,3 +22,4 @@ pub mod AssemblyHolds
 pub mod ReadCounts
 pub mod TokenPlaces
 pub mod AnswerBack
+pub mod Entries
