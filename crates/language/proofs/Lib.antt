@@ -23,3 +23,4 @@ pub mod ReadCounts
 pub mod TokenPlaces
 pub mod AnswerBack
 pub mod Entries
+pub mod Claim
