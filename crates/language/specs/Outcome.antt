@@ -18,6 +18,7 @@ use Rattle.language.specs.Plain.{plain}
 
 -- ---- refusals
 
+-- why a call is refused
 pub data Refusal : Type 0 where
   textTooLong workTooShort : Refusal
   invalidUtf8 outsideSet : ℕ → Refusal
@@ -87,6 +88,7 @@ admitted t = elim (refusalOf t (workNeeded (length t))) [ none ↦ true | some r
 abbrev pub zeros : ℕ → List ℕ
 zeros n = replicate n 0
 
+-- what a reading call answers: a machine's head, a count of diagnostics, or a refusal
 pub data Reply : Type 0 where
   machine : Head → Reply
   diagnosed : ℕ → Reply
@@ -102,6 +104,7 @@ replyNumber (machine h) = 0
 replyNumber (diagnosed n) = diagnosticsNumber
 replyNumber (refused r) = refusalNumber r
 
+-- and the value
 abbrev pub replyValue : Reply → ℕ
 replyValue (machine h) = 0
 replyValue (diagnosed n) = n
@@ -153,6 +156,7 @@ readMachine ls log sheet =
       | false ↦ record { reply = machine (headOf m); log = zeros log; sheet = filled (sheetWords m) sheet }
     ]
 
+-- lines with their diagnostics: with any there is no machine
 unfoldable pub readWith : List (Diagnostic Span) → List (Line Span) → ℕ → ℕ → ReadOutcome
 unfolding readDiagnostics readMachine
 readWith [] ls log sheet = readMachine ls log sheet
@@ -168,6 +172,7 @@ readOutcome t work log sheet = elim (refusalOf t work) [
 
 -- ---- writing
 
+-- what a writing call answers: the form's length, a count of diagnostics, or a refusal
 pub data WriteReply : Type 0 where
   written : ℕ → WriteReply
   notWritten : ℕ → WriteReply
@@ -179,6 +184,7 @@ writeNumber (written n) = 0
 writeNumber (notWritten n) = diagnosticsNumber
 writeNumber (notRead r) = refusalNumber r
 
+-- and the value
 abbrev pub writeValue : WriteReply → ℕ
 writeValue (written n) = n
 writeValue (notWritten n) = n
