@@ -26,7 +26,7 @@ abbrev pub IsNumber : List ℕ → Type 0
 IsNumber [] = ⊥
 IsNumber (c ∷ w) = (isAsciiDigit c ≡ true) × All isAsciiDigit w
 
-digit-no-feed : (c : ℕ) → isAsciiDigit c ≡ true → eqb c 10 ≡ false
+pub digit-no-feed : (c : ℕ) → isAsciiDigit c ≡ true → eqb c 10 ≡ false
 unfolding isAsciiDigit
 digit-no-feed c h = byTest (eqb c 10) (λ e. absurd (false≢true (sym (ap isAsciiDigit (eqb-true c 10 e)) ∙ h))) (λ e. e)
 
@@ -89,25 +89,25 @@ right : ℕ → Bool
 unfolding digits value someDigits
 right n = eqb (value (digits n)) n && someDigits (digits n)
 
-below : ℕ → Bool
-unfolding right
-below zero = true
-below (suc n) = right n && below n
+-- a test holds of each number below k
+unfoldable pub below : (ℕ → Bool) → ℕ → Bool
+below p zero = true
+below p (suc n) = p n && below p n
 
-all-right : below 256 ≡ true
-unfolding below
+all-right : below right 256 ≡ true
+unfolding below right
 all-right = refl
 
-at-below : (k : ℕ) → below k ≡ true → (n : ℕ) → n < k → right n ≡ true
+pub at-below : (p : ℕ → Bool) (k : ℕ) → below p k ≡ true → (n : ℕ) → n < k → p n ≡ true
 unfolding below
-at-below zero e n h = absurd (omega arith)
-at-below (suc k) e n h = byTest (eqb n k)
-    (λ t. ap right (eqb-true n k t) ∙ and-left (right k) (below k) e)
-    (λ t. let ne : n ≡ k → ⊥ = eqb-false n k t in at-below k (and-right (right k) (below k) e) n (omega arith))
+at-below p zero e n h = absurd (omega arith)
+at-below p (suc k) e n h = byTest (eqb n k)
+    (λ t. ap p (eqb-true n k t) ∙ and-left (p k) (below p k) e)
+    (λ t. let ne : n ≡ k → ⊥ = eqb-false n k t in at-below p k (and-right (p k) (below p k) e) n (omega arith))
 
 pub value-digits : (n : ℕ) → n < 256 → value (digits n) ≡ n
 unfolding right
-value-digits n h = eqb-true (value (digits n)) n (and-left (eqb (value (digits n)) n) (someDigits (digits n)) (at-below 256 all-right n h))
+value-digits n h = eqb-true (value (digits n)) n (and-left (eqb (value (digits n)) n) (someDigits (digits n)) (at-below right 256 all-right n h))
 
 all-of : (l : List ℕ) → allDigits l ≡ true → All isAsciiDigit l
 unfolding allDigits
@@ -121,4 +121,4 @@ some-of (d ∷ l) e = all-of (d ∷ l) e
 
 pub digits-number : (n : ℕ) → n < 256 → IsNumber (digits n)
 unfolding right
-digits-number n h = some-of (digits n) (and-right (eqb (value (digits n)) n) (someDigits (digits n)) (at-below 256 all-right n h))
+digits-number n h = some-of (digits n) (and-right (eqb (value (digits n)) n) (someDigits (digits n)) (at-below right 256 all-right n h))

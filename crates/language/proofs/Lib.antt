@@ -10,7 +10,17 @@ pub mod InferAgain
 pub mod PlainAssembly
 pub mod ParsePlaces
 pub mod AssemblyPlaces
+pub mod ParseSound
+pub mod AssemblySound
+pub mod ContentSound
+pub mod RoundTrip
 pub mod PlainSamples
 pub mod Samples
 pub mod Counts
 pub mod ParseHolds
+pub mod AssemblyHolds
+pub mod ReadCounts
+pub mod TokenPlaces
+pub mod AnswerBack
+pub mod Entries
+pub mod Claim

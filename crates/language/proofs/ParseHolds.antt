@@ -1,97 +1,14 @@
 -- What holds of each token holds of what the parsers make of them: names, strings and symbols are taken from tokens, and read sets are not empty.
 use Prim.Native.Nat.{ℕ, zero, suc}
 use mathlib.Core.Bool.{Bool, true, false}
-use mathlib.Core.List.{List, [], _∷_, _++_, map}
+use mathlib.Core.List.{List, [], _∷_}
 use mathlib.Core.Option.{Option, none, some}
-use mathlib.Core.Path.{_≡_, refl, ap, _∙_, sym}
+use mathlib.Core.Path.{sym}
 use lib.ListN.{length}
-use Rattle.lexer.specs.Tokens.{TokenKind, word, number, quoted, str, sign, comment, newline, unterminatedString, unterminatedQuote, Token}
-use Rattle.language.specs.Machine.{Located, Kind, BitOrder, Dir}
+use Rattle.lexer.specs.Tokens.{TokenKind, comment, Token}
+use Rattle.language.specs.Machine.{Located}
 use Rattle.language.specs.Parser.{Result, ok, fail, Parser, then, _>>=_, give, unexpected, isSign, goesOn, taken, branch, goOn, one, expect, opened, atMost, entries, single, tuple, set}
-use Rattle.language.specs.Lines.{
-  RawSymbol,
-  RawDecoder,
-  rawWord,
-  rawUnary,
-  rawBinary,
-  RawTransition,
-  Text,
-  Item,
-  machineItem,
-  inputItem,
-  kindItem,
-  outputItem,
-  tapesItem,
-  statesItem,
-  finalItem,
-  inputAlphabetItem,
-  tapeAlphabetItem,
-  blankItem,
-  startItem,
-  transitionItem,
-  Line,
-  blankLine,
-  commentLine,
-  itemLine,
-  errorLine,
-  stateIn,
-  symbolIn,
-  writeIn,
-  directionIn,
-  notDirection,
-  stringIn,
-  numberIn,
-  Spelled,
-  wordIn,
-  Keyword,
-  machineWord,
-  kindWord,
-  inputWord,
-  outputWord,
-  tapesWord,
-  statesWord,
-  sigmaWord,
-  gammaWord,
-  blankWord,
-  startWord,
-  finalWord,
-  deltaWord,
-  keywords,
-  kinds,
-  OutputWord,
-  wordOutput,
-  unaryOutput,
-  binaryOutput,
-  outputs,
-  orders,
-  stringTaken,
-  string,
-  numeral,
-  choice,
-  state,
-  symbol,
-  direction,
-  readEntry,
-  writeEntry,
-  transition,
-  output,
-  itemOf,
-  item,
-  Row,
-  Ending,
-  lineFeed,
-  goesBy,
-  remark,
-  endingOf,
-  inFront,
-  rows,
-  lastPlace,
-  finished,
-  emptyLine,
-  lineFrom,
-  lineOf,
-  lines,
-}
+use Rattle.language.specs.Lines.{RawSymbol, RawDecoder, rawWord, rawUnary, rawBinary, RawTransition, Item, machineItem, inputItem, kindItem, outputItem, tapesItem, statesItem, finalItem, inputAlphabetItem, tapeAlphabetItem, blankItem, startItem, transitionItem, Line, blankLine, commentLine, itemLine, errorLine, stateIn, symbolIn, writeIn, directionIn, notDirection, stringIn, numberIn, Spelled, wordIn, Keyword, machineWord, kindWord, inputWord, outputWord, tapesWord, statesWord, sigmaWord, gammaWord, blankWord, startWord, finalWord, deltaWord, keywords, kinds, OutputWord, wordOutput, unaryOutput, binaryOutput, outputs, orders, stringTaken, string, choice, state, symbol, direction, readEntry, writeEntry, transition, output, itemOf, item, Row, Ending, lineFeed, goesBy, remark, endingOf, inFront, rows, lastPlace, finished, emptyLine, lineFrom, lineOf, lines}
 use Rattle.language.proofs.Every.{Every, Maybe, Filled, every-map}
 
 -- a value as it is taken from a token
@@ -119,17 +36,18 @@ GoodEnding good (remark s) = good s
 -- what holds of each name, string, symbol and comment
 pub record Goods (P : Type 0) : Type 1 where
   pub name : Located P (List ℕ) → Type 0
-  pub text : Text P → Type 0
+  pub text : Located P (List ℕ) → Type 0
   pub sym : RawSymbol → Type 0
   pub note : Located P (List ℕ) → Type 0
 
 module _ {P : Type 0} (S : Goods P) where
-  -- a rule's names and symbols are good, and each of its read sets has a member
+  -- a rule's names and symbols are good; it has a tape, and each of its read sets a member
   pub record GoodRaw (r : RawTransition P) : Type 0 where
     pub from-good : S .name (r .from)
     pub to-good : S .name (r .to)
     pub read-good : Some (Some (λ s. S .sym (s .value))) (r .read)
-    pub write-good : Every (λ w. Maybe (S .sym) (w .value)) (r .write)
+    pub write-good : Some (λ w. Maybe (S .sym) (w .value)) (r .write)
+    pub dir-good : Filled (r .dir)
 
   abbrev pub GoodDecoder : RawDecoder → Type 0
   GoodDecoder rawWord = Unit {0}
@@ -137,8 +55,8 @@ module _ {P : Type 0} (S : Goods P) where
   GoodDecoder (rawBinary o) = Unit {0}
 
   abbrev pub GoodItem : Item P → Type 0
-  GoodItem (machineItem x) = S .text x
-  GoodItem (inputItem x) = S .text x
+  GoodItem (machineItem x) = S .text (x .value)
+  GoodItem (inputItem x) = S .text (x .value)
   GoodItem (kindItem x) = Unit {0}
   GoodItem (outputItem x) = GoodDecoder x
   GoodItem (tapesItem x) = Unit {0}
@@ -252,20 +170,20 @@ module _ {P : Type 0} (G : Token P → Type 0) where
 
   -- ---- items: `name-view` and the like say what the tokens give
   module _ (S : Goods P) (name-view : Views (S .name) stateIn) (sym-view : Views (λ s. S .sym (s .value)) symbolIn)
-      (text-view : (t : Token P) → G t → Maybe (λ s. S .text (record { value = record { value = s; place = t .inner }; place = t .place })) (stringIn (t .kind)))
+      (text-view : (t : Token P) → G t → Maybe (λ s. S .text (record { value = s; place = t .inner })) (stringIn (t .kind)))
       (note-view : (t : Token P) → G t → GoodEnding (λ s. S .note (record { value = s; place = t .inner })) (endingOf (t .kind))) where
     module _ (stop : P) where
-      string-taken : (o : Option (List ℕ)) (t : Token P) (ts : List (Token P)) → Maybe (λ s. S .text (record { value = record { value = s; place = t .inner }; place = t .place })) o → Every G ts → Good (S .text) (stringTaken o t ts)
+      string-taken : (o : Option (List ℕ)) (t : Token P) (ts : List (Token P)) → Maybe (λ s. S .text (record { value = s; place = t .inner })) o → Every G ts → Good (λ x. S .text (x .value)) (stringTaken o t ts)
       unfolding stringTaken
       string-taken none t ts h g = tt
       string-taken (some s) t ts h g = (h, g)
 
-      string-g : (ts : List (Token P)) → Every G ts → Good (S .text) (string stop ts)
+      string-g : (ts : List (Token P)) → Every G ts → Good (λ x. S .text (x .value)) (string stop ts)
       unfolding string
       string-g [] h = tt
       string-g (t ∷ ts) h = string-taken (stringIn (t .kind)) t ts (text-view t (h .0)) (h .1)
 
-      string-gives : Gives (S .text) (string stop)
+      string-gives : Gives (λ x. S .text (x .value)) (string stop)
       string-gives = record { gives = string-g }
 
       state-gives : Gives (S .name) (state stop)
@@ -308,8 +226,8 @@ module _ {P : Type 0} (G : Token P → Type 0) where
           bind-gives _ (expect-gives stop 0x28) (λ _ _. bind-gives _ state-gives (λ from f. bind-gives _ (expect-gives stop 0x2C) (λ _ _.
           bind-gives _ (tuple-gives stop read-gives) (λ read r. bind-gives _ (expect-gives stop 0x29) (λ _ _. bind-gives _ (expect-gives stop 0x3D) (λ _ _.
           bind-gives _ (expect-gives stop 0x28) (λ _ _. bind-gives _ state-gives (λ to t. bind-gives _ (expect-gives stop 0x2C) (λ _ _.
-          bind-gives _ (tuple-gives stop write-gives) (λ write w. bind-gives _ (expect-gives stop 0x2C) (λ _ _. bind-gives _ (tuple-gives stop direction-gives) (λ dir _.
-          bind-gives _ (expect-gives stop 0x29) (λ _ _. give-gives (record { from-good = f; to-good = t; read-good = r; write-good = w .1 }))))))))))))))
+          bind-gives _ (tuple-gives stop write-gives) (λ write w. bind-gives _ (expect-gives stop 0x2C) (λ _ _. bind-gives _ (tuple-gives stop direction-gives) (λ dir d.
+          bind-gives _ (expect-gives stop 0x29) (λ _ _. give-gives (record { from-good = f; to-good = t; read-good = r; write-good = w; dir-good = d .0 }))))))))))))))
 
       output-gives : (w : OutputWord) → Gives (GoodDecoder S) (output stop w)
       unfolding output
