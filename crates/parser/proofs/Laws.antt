@@ -29,7 +29,7 @@ length-tokens (a ∷ b ∷ []) = (omega arith, omega arith)
 length-tokens (a ∷ b ∷ c ∷ []) = (omega arith, omega arith)
 length-tokens (k ∷ s ∷ e ∷ v ∷ r) = let ih = length-tokens r in (omega arith, omega arith)
 
-pub peek-words : (w : List ℕ) (i : ℕ) → i < length w / 4 → tokenIn w i ≡ peek (tokensIn w) i
+peek-words : (w : List ℕ) (i : ℕ) → i < length w / 4 → tokenIn w i ≡ peek (tokensIn w) i
 unfolding tokensIn
 peek-words w i h = go w i (omega arith)
   where
@@ -43,6 +43,9 @@ peek-words w i h = go w i (omega arith)
         let q : (n : ℕ) → 4 * suc i + n ≡ suc (suc (suc (suc (4 * i + n)))) = λ n. omega arith in
         let q₀ : 4 * suc i ≡ suc (suc (suc (suc (4 * i)))) = omega arith in
         rw (q 1, q 2, q 3, q₀) (go r i (omega arith))
+
+pub peek-read : (w : List ℕ) (i : ℕ) (t : Token) → t ≡ tokenIn w i → i < length w / 4 → t ≡ peek (tokensIn w) i
+peek-read w i t e h = e ∙ peek-words w i h
 
 pub peek-past : (w : List ℕ) (i : ℕ) → length w / 4 ≤ i → ended ≡ peek (tokensIn w) i
 peek-past w i h = sym (List·getD-eq-default (tokensIn w) ended (omega (arith, length-tokens w)))
