@@ -11,3 +11,4 @@ pub mod Transitions
 pub mod Outputs
 pub mod ItemLines
 pub mod Lines
+pub mod Lexed
