@@ -204,9 +204,9 @@ spanning-of ts i j a b s e f g p q = rw (p, q, f, g)
 
 -- ---- the line of an item
 module _ (k : ItemKind) (ts : List Token) (i v j : ℕ) (q : Parts) (n : ℕ) (t : Token) (e : n ≡ newlineAt ts j) (f : t ≡ peek ts n) where
-  pub finish-error : (c : ℕ) → (t .kind ≡ 13 → ⊥) → c ≡ codeOf t → Error c (spanOf t) ≡ finish k ts i v j q
+  pub finish-error : (c : ℕ) (s : Span) → (t .kind ≡ 13 → ⊥) → c ≡ codeOf t → s ≡ spanOf t → Error c s ≡ finish k ts i v j q
   unfolding finish
-  finish-error c g h = rw (← e, ← f, ne-eqb (t .kind) 13 g, h)
+  finish-error c s g h a = rw (← e, ← f, ne-eqb (t .kind) 13 g, h, a)
 
   pub finish-item : (s x : Span) → t .kind ≡ 13 → s ≡ spanning ts i j → x ≡ spanning ts v j
       → Read (record { kind = k; value = v; end = j; newline = n; span = s; «value_span» = x; parts = q }) ≡ finish k ts i v j q
@@ -245,9 +245,9 @@ module _ (ts : List Token) (i : ℕ) (t : Token) (k : Keyword) (e : t ≡ peek t
   keyword-here : keywordOf (peek ts i) ≡ k
   keyword-here = ap keywordOf (sym e) ∙ sym f
 
-  pub item-other : (c : ℕ) → k ≡ Other → c ≡ codeOf t → Error c (spanOf t) ≡ item ts i
+  pub item-other : (c : ℕ) (s : Span) → k ≡ Other → c ≡ codeOf t → s ≡ spanOf t → Error c s ≡ item ts i
   unfolding item itemFrom
-  item-other c d g = let q : keywordOf (peek ts i) ≡ Other = keyword-here ∙ d in rw (q, ← e, g)
+  item-other c s d g h = let q : keywordOf (peek ts i) ≡ Other = keyword-here ∙ d in rw (q, ← e, g, h)
 
   module _ (x : ItemKind) (d : k ≡ Starts x) where
     pub item-starts : (v : Line) → v ≡ itemOf x ts i → v ≡ item ts i

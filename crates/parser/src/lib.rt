@@ -1,8 +1,8 @@
 // Lines of a description, read from the tokens in a row of words (the source's dsl/parser.rs, Parser).
-pub mod elements;
+mod elements;
 pub mod items;
-pub mod row;
-pub mod view;
+mod row;
+mod view;
 
 use lexer::Span;
 

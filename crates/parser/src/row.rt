@@ -5,7 +5,7 @@ use lexer::kind;
 use tokens::Token;
 
 // The token at an index; past the last one, a line feed.
-pub fn token_at(work: &[u32], at: usize) -> Token
+pub(crate) fn token_at(work: &[u32], at: usize) -> Token
     ensures { λ r. ⌜ r ≡ peek (tokensIn (now (work .entry))) at ⌝ }
 {
     if at < work.len() / 4 {
