@@ -12,3 +12,4 @@ pub mod Outputs
 pub mod ItemLines
 pub mod Lines
 pub mod Lexed
+pub mod Examples

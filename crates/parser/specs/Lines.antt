@@ -23,6 +23,7 @@ use Rattle.parser.specs.declared.Item.{Item}
 use Rattle.parser.specs.declared.Line.{Line}
 use Rattle.parser.specs.declared.Line.the-variants.{Blank as Empty, Comment, Item as Read, Error}
 
+-- a parser: from an index on, the index behind what it reads and a count, or a failure
 abbrev pub Parser : Type 0
 Parser = List Token → ℕ → Parsed
 
@@ -35,6 +36,7 @@ then (Failed c s) f = Failed c s
 unfoldable pub codeOf : Token → ℕ
 codeOf t = cond (eqb (t .kind) 14) 2 1
 
+-- the failure at such a token
 unfoldable pub unexpected : Token → Parsed
 unfolding codeOf
 unexpected t = Failed (codeOf t) (spanOf t)
@@ -66,6 +68,7 @@ entriesFrom p close ts (suc k) i n =
     then (p ts i) λ j _.
     then (separator close ts j) λ next more. elim (eqb more 0) [ true ↦ Done next (n + 1) | false ↦ entriesFrom p close ts k next (n + 1) ]
 
+-- all entries: each takes a token, so there are no more of them than tokens
 unfoldable pub entries : Parser → ℕ → List Token → ℕ → ℕ → Parsed
 unfolding entriesFrom
 entries p close ts i n = entriesFrom p close ts (suc (length ts)) i n
@@ -119,6 +122,7 @@ unfoldable pub on : Parsed → (ℕ → ℕ → Value) → Value
 on (Done i n) f = f i n
 on (Failed c s) f = Broken c s
 
+-- go on behind a value, or keep its failure
 unfoldable pub onValue : Value → (ℕ → Parts → Value) → Value
 onValue (Ended i q) f = f i q
 onValue (Broken c s) f = Broken c s
@@ -199,6 +203,7 @@ unfoldable pub lineOn : Parsed → (ℕ → ℕ → Line) → Line
 lineOn (Done i n) f = f i n
 lineOn (Failed c s) f = Error c s
 
+-- the line of a value, or its failure
 unfoldable pub lineOf : Value → (ℕ → Parts → Line) → Line
 lineOf (Ended i q) f = f i q
 lineOf (Broken c s) f = Error c s

@@ -21,6 +21,7 @@ pub(crate) fn code_of(t: Token) -> u32
     1
 }
 
+// The failure at a token that is not what is due.
 pub(crate) fn unexpected(t: Token) -> Parsed
     ensures { λ r. ⌜ r ≡ unexpected t ⌝ }
 {
@@ -50,6 +51,7 @@ pub(crate) fn choice(work: &[u32], at: usize, first: u32, last: u32) -> Parsed
     unexpected(t)
 }
 
+// A state's name.
 pub(crate) fn state(work: &[u32], at: usize) -> Parsed
     ensures { λ r. ⌜ r ≡ one isState (tokensIn (now (work .entry))) at ⌝ }
 {
@@ -60,6 +62,7 @@ pub(crate) fn state(work: &[u32], at: usize) -> Parsed
     unexpected(t)
 }
 
+// A symbol.
 pub(crate) fn symbol(work: &[u32], at: usize) -> Parsed
     ensures { λ r. ⌜ r ≡ one isSymbol (tokensIn (now (work .entry))) at ⌝ }
 {
@@ -81,6 +84,7 @@ pub(crate) fn write_entry(work: &[u32], at: usize) -> Parsed
     unexpected(t)
 }
 
+// A direction; what may look like one is E008.
 pub(crate) fn direction(work: &[u32], at: usize) -> Parsed
     ensures { λ r. ⌜ r ≡ direction (tokensIn (now (work .entry))) at ⌝ }
 {

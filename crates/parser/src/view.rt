@@ -7,6 +7,7 @@ use crate::Lead;
 use lexer::kind;
 use tokens::Token;
 
+// A token of a kind.
 pub(crate) fn is_kind(t: Token, kind: u32) -> bool
     ensures { λ r. ⌜ r ≡ isKind kind t ⌝ }
 {
@@ -132,6 +133,7 @@ pub(crate) fn keyword(t: Token) -> Keyword
     }
 }
 
+// What leads an item's value.
 pub(crate) fn lead(kind: ItemKind) -> Lead
     ensures { λ r. ⌜ r ≡ leadOf kind ⌝ }
 {
