@@ -1,27 +1,26 @@
 -- A line over the row means the language's line.
 use mathlib.Core.Path.{_≡_, refl, sym, ap, subst, _∙_}
-use Prim.Native.Nat.{ℕ, zero, suc, _+_, _-_, _≤_, _<_}
+use Prim.Native.Nat.{ℕ, _+_, _-_}
 use native.Mathlib.Omega.{arith}
-use mathlib.Core.Bool.{Bool, true, false, cond}
-use mathlib.Core.Logic.{_⊎_, inl, inr}
-use mathlib.Core.List.{List, [], _∷_, _++_, map, append-nil, append-assoc}
+use mathlib.Core.Bool.{true, false}
+use mathlib.Core.Logic.{inl, inr}
+use mathlib.Core.List.{List, [], _∷_, _++_, append-nil, append-assoc}
 use mathlib.Core.Option.{Option, none, some}
 use lib.Dec.{eqb}
 use lib.ListN.{length, drop, length-append}
 use lib.Seq.{drop-drop}
 use borrow.Author.Tests.{eq-eqb, ne-eqb}
-use Rattle.lexer.specs.Tokens.{TokenKind, word, number, quoted, str, sign, comment, newline, unterminatedString, unterminatedQuote, Span, span, Token}
+use Rattle.lexer.specs.Tokens.{TokenKind, word, number, quoted, str, sign, comment, newline, unterminatedString, unterminatedQuote, Span, Token}
 use Rattle.lexer.specs.Words.{signNumber, kindNumber}
 use Rattle.language.specs.Machine.{Located, Kind, transducer}
 use Rattle.language.specs.Parser.{Result, ok, fail, Parser, unexpected, isSign, taken, give, _>>=_}
 use Rattle.language.specs.Parser.{then as bind, one as token, expect, set as braced}
-use Rattle.language.specs.Lines.{RawSymbol, rawBlank, RawDecoder, RawTransition, Text, Item, machineItem, inputItem, kindItem, outputItem, tapesItem, statesItem, finalItem, inputAlphabetItem, tapeAlphabetItem, blankItem, startItem, transitionItem, Line, blankLine, commentLine, itemLine, errorLine, stateIn, symbolIn, numberIn, Spelled, wordIn, kinds, outputs, Keyword as Name, machineWord, kindWord, inputWord, outputWord, tapesWord, statesWord, sigmaWord, gammaWord, blankWord, startWord, finalWord, deltaWord, keywords, string, numeral, choice, state, symbol, output as decoder, transition as ruled, itemOf as itemBy, item as itemAt, Ending, lineFeed, goesBy, remark, endingOf, lastPlace, finished, emptyLine, lineFrom, covering}
-use Rattle.language.proofs.Every.{byTest}
+use Rattle.language.specs.Lines.{RawSymbol, rawBlank, RawTransition, Text, Item, machineItem, inputItem, kindItem, outputItem, tapesItem, statesItem, finalItem, inputAlphabetItem, tapeAlphabetItem, blankItem, startItem, transitionItem, Line, itemLine, errorLine, stateIn, symbolIn, numberIn, Spelled, wordIn, kinds, outputs, Keyword as Name, machineWord, kindWord, inputWord, outputWord, tapesWord, statesWord, sigmaWord, gammaWord, blankWord, startWord, finalWord, deltaWord, keywords, string, numeral, choice, state, symbol, output as decoder, transition as ruled, itemOf as itemBy, item as itemAt, Ending, lineFeed, goesBy, remark, endingOf, lastPlace, finished, emptyLine, lineFrom, covering}
 use Rattle.parser.specs.Row.{peek}
-use Rattle.parser.specs.Views.{spanOf, isKind, isChoice, isState, isSymbol, keywordOf, leadOf}
+use Rattle.parser.specs.Views.{isKind, isChoice, isState, isSymbol, keywordOf, leadOf}
 use Rattle.parser.specs.declared.Keyword.{Keyword}
-use Rattle.parser.specs.Lines.{codeOf, one, set, output, noParts, on, plain, value, transition, spanning, newlineAt, finish, valueAt, lineOn, lineOf, itemOf, itemFrom, item, isComment, line}
-use Rattle.parser.specs.Meaning.{tokenOf, at, between, located, seen, textOf, decoderAt, ruleOf, itemMeans, remarkOf, commentOf, ownComment, lineMeans, Counted, CountedAs, LineCounted, Sound, Closed}
+use Rattle.parser.specs.Lines.{one, set, output, noParts, on, plain, value, transition, spanning, newlineAt, finish, valueAt, lineOn, lineOf, itemOf, itemFrom, item, isComment, line}
+use Rattle.parser.specs.Meaning.{tokenOf, at, between, seen, textOf, decoderAt, itemMeans, remarkOf, ownComment, lineMeans, CountedAs, LineCounted, Closed}
 use Rattle.tokens.specs.declared.Token.{Token as Words}
 use Rattle.parser.specs.declared.Parsed.{Parsed}
 use Rattle.parser.specs.declared.Parsed.the-variants.{Done, Failed}
@@ -32,11 +31,10 @@ use Rattle.parser.specs.declared.ItemKind.{ItemKind}
 use Rattle.parser.specs.declared.ItemKind.the-variants.{Machine, Kind as KindOf, Input, Output, Tapes, States, InputAlphabet, TapeAlphabet, Blank, Start, Final, Transition}
 use Rattle.parser.specs.declared.Item.{Item as Found}
 use Rattle.parser.specs.declared.Line.{Line as Parse}
-use Rattle.parser.specs.declared.Line.the-variants.{Blank as Empty, Comment, Item as Read, Error}
 use Rattle.parser.proofs.Tables.{true-false}
 use Rattle.parser.proofs.Views.{isSome, sign-rule, unnamed-number, names-eq, code-view}
 use Rattle.parser.proofs.Keywords.{kindOf, startOf, keyword-view}
-use Rattle.parser.proofs.Simulates.{Stops, Fits, Goes, One, once, At, row, at-first, at-stop, at-behind, at-between, at-token, sign-fits}
+use Rattle.parser.proofs.Simulates.{Stops, Fits, One, once, At, row, at-first, at-stop, at-behind, at-between, at-token, sign-fits}
 use Rattle.parser.proofs.Values.{Texts, Says, state-fits, symbol-fits, number-fits, kind-fits, string-fits, states-fits, symbols-fits}
 use Rattle.parser.proofs.Transitions.{Gives, Ruled, located-at, transition-gives}
 use Rattle.parser.proofs.Outputs.{decoder-fits}

@@ -11,15 +11,15 @@ use Rattle.chars.specs.Utf8.{size, sizes, decode}
 use Rattle.chars.specs.Class.{classOf}
 use Rattle.chars.specs.declared.Class.{Class}
 use Rattle.chars.specs.declared.Class.the-variants.{Letter, Digit, Space, Sign, Other}
-use Rattle.lexer.specs.Tokens.{TokenKind, word, number, quoted, str, sign, comment, newline, unterminatedString, unterminatedQuote, Span, Token, Step, gap, tok, Inside, closed, unclosed, line, run, inside, trimEnd, wordStep, numberStep, stringStep, quotedStep, commentStep, slashStep, otherStep, step, tokenAt, emit, tokensFrom, tokens}
+use Rattle.lexer.specs.Tokens.{TokenKind, word, number, quoted, str, sign, comment, newline, unterminatedString, unterminatedQuote, Span, Token, Step, gap, tok, Inside, closed, unclosed, line, inside, trimEnd, wordStep, numberStep, stringStep, quotedStep, commentStep, slashStep, otherStep, step, emit, tokensFrom, tokens}
 use Rattle.lexer.proofs.Pieces.{byClass, step-class}
 use Rattle.lexer.proofs.Placed.{Placed, All, placed}
 use Rattle.tokens.proofs.Views.{digits-sizes, first-below, word-scalars, number-digits, token-width}
-use Rattle.language.specs.Lines.{Ending, lineFeed, goesBy, remark, endingOf}
+use Rattle.language.specs.Lines.{lineFeed, goesBy, remark, endingOf}
 use Rattle.language.proofs.Every.{byTest}
 use Rattle.lexer.specs.Words.{flat, onto}
 use Rattle.parser.specs.Row.{tokensIn}
-use Rattle.parser.specs.Meaning.{SoundAs, Sound, Closed, Lexed, AllLexed, LineAt}
+use Rattle.parser.specs.Meaning.{SoundAs, Closed, AllLexed, LineAt}
 use Rattle.parser.proofs.Lines.{line-rule}
 
 feed-step : (c : ℕ) (r : List ℕ) → eqb c 10 ≡ true → step c r ≡ tok newline 1 0 0 0

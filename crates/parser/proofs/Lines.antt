@@ -2,24 +2,22 @@
 use mathlib.Core.Path.{_≡_, refl, sym, ap, subst, _∙_}
 use Prim.Native.Nat.{ℕ, zero, suc, _+_, _-_, _≤_, _<_}
 use native.Mathlib.Omega.{arith}
-use native.Mathlib.Numerals.{add-one}
-use mathlib.Core.Bool.{Bool, true, false, cond}
-use mathlib.Core.Logic.{_⊎_, inl, inr}
-use mathlib.Core.List.{List, [], _∷_, _++_, map, append-nil, append-assoc}
-use mathlib.Core.Option.{Option, none, some}
+use mathlib.Core.Bool.{Bool, true, false}
+use mathlib.Core.Logic.{inl, inr}
+use mathlib.Core.List.{List, [], _∷_, _++_, map}
+use mathlib.Core.Option.{some}
 use lib.Dec.{eqb}
-use lib.ListN.{length, drop, length-drop, length-map, length-append}
-use lib.Seq.{drop-append-le, drop-drop, drop-append-seam}
+use lib.ListN.{length, drop, length-drop, length-map}
+use lib.Seq.{drop-append-le, drop-drop}
 use Rattle.lexer.specs.Tokens.{TokenKind, word, number, quoted, str, sign, comment, newline, unterminatedString, unterminatedQuote, Span, Token}
-use Rattle.lexer.specs.Words.{kindNumber, tokenValue, tokenWords, flat}
-use Rattle.language.specs.Machine.{Located}
-use Rattle.language.specs.Lines.{Line, Row, Ending, lineFeed, goesBy, remark, endingOf, inFront, rows, lineFrom, lineOf, lines, covering}
+use Rattle.lexer.specs.Words.{kindNumber, tokenWords, flat}
+use Rattle.language.specs.Lines.{Line, Ending, lineFeed, goesBy, remark, endingOf, inFront, rows, lineFrom, lineOf, lines, covering}
 use Rattle.language.proofs.Every.{Every}
-use Rattle.parser.specs.Row.{tokensIn, peek}
+use Rattle.parser.specs.Row.{tokensIn}
 use Rattle.parser.specs.Lines.{line, lineLength, lineEnd}
-use Rattle.parser.specs.Meaning.{tokenOf, lineMeans, Sound, Closed, Lexed, AllLexed, LineAt}
+use Rattle.parser.specs.Meaning.{tokenOf, Sound, Closed, AllLexed, LineAt}
 use Rattle.tokens.specs.declared.Token.{Token as Words}
-use Rattle.parser.proofs.Simulates.{Stops, Goes, At}
+use Rattle.parser.proofs.Simulates.{Stops, Goes}
 use Rattle.parser.proofs.ItemLines.{goes-kind, feed-kind, noteOf, Means, line-means}
 
 -- the first line of some tokens: its own tokens, what ends them, and the tokens of the other lines, `next` further than its line feed

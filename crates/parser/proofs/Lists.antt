@@ -1,18 +1,18 @@
 -- Laws of the lists of entries: an element reads at least one token of the row, so a list's definition goes on at the next entry.
 use mathlib.Core.Path.{_≡_, refl, sym, ap, subst, _∙_}
-use Prim.Native.Nat.{ℕ, zero, suc, _+_, _-_, _*_, _≤_, _<_, _^_}
+use Prim.Native.Nat.{ℕ, zero, suc, _+_, _-_, _≤_, _<_, _^_}
 use native.Mathlib.Omega.{arith}
 use mathlib.Core.Bool.{Bool, true, false, cond}
-use mathlib.Core.List.{List, [], _∷_}
+use mathlib.Core.List.{List, []}
 use lib.ListN.{length}
 use lib.Dec.{eqb}
 use mir.Syntax.{w64}
 use mir.Val.{Fits}
 use borrow.Author.Needs.{needs}
-use borrow.Author.Tests.{eq-eqb, ne-eqb, eqb-true}
+use borrow.Author.Tests.{eq-eqb, ne-eqb}
 use Rattle.parser.specs.Row.{tokensIn, ended, peek}
-use Rattle.parser.specs.Views.{isKind, isChoice, isState, isSymbol, isWrite, isDirection, isText}
-use Rattle.parser.specs.Lines.{Parser, then, unexpected, one, direction, separator, entriesFrom, entries, set, tuple, readEntry, output}
+use Rattle.parser.specs.Views.{isKind, isState, isSymbol, isWrite, isDirection, isText}
+use Rattle.parser.specs.Lines.{Parser, then, unexpected, one, direction, separator, entriesFrom, entries, readEntry}
 use Rattle.tokens.specs.declared.Token.{Token}
 use Rattle.lexer.specs.declared.Span.{Span}
 use Rattle.parser.specs.declared.Parsed.{Parsed}

@@ -1,31 +1,30 @@
 -- The output declaration over the row is the language's.
 use mathlib.Core.Path.{_≡_, refl, sym, ap, subst, _∙_}
-use Prim.Native.Nat.{ℕ, suc, _+_}
+use Prim.Native.Nat.{ℕ, _+_}
 use native.Mathlib.Omega.{arith}
 use mathlib.Core.Bool.{Bool, true, false, cond}
 use mathlib.Core.List.{List, [], _∷_, _++_}
-use mathlib.Core.Option.{Option, none, some}
+use mathlib.Core.Option.{none, some}
 use lib.Dec.{eqb}
 use lib.ListN.{length}
 use borrow.Author.Tests.{eqb-true}
 use Rattle.lexer.specs.Tokens.{TokenKind, word, number, quoted, str, sign, comment, newline, unterminatedString, unterminatedQuote, Span, Token}
 use Rattle.lexer.specs.Words.{wordValue, tokenValue}
 use Rattle.language.specs.Machine.{Located, BitOrder, lsb}
-use Rattle.language.specs.Parser.{Result, ok, fail, Parser, give, _>>=_}
+use Rattle.language.specs.Parser.{_>>=_}
 use Rattle.language.specs.Parser.{then as bind}
-use Rattle.language.specs.Lines.{RawSymbol, rawBlank, RawDecoder, rawWord, rawUnary, rawBinary, symbolIn, Spelled, meaningOf, wordIn, outputs, orders, OutputWord, wordOutput, unaryOutput, binaryOutput, choice, symbol, output as decoder}
-use Rattle.language.proofs.Every.{byTest}
+use Rattle.language.specs.Lines.{RawSymbol, rawBlank, RawDecoder, rawWord, rawUnary, rawBinary, symbolIn, wordIn, outputs, orders, OutputWord, wordOutput, unaryOutput, binaryOutput, choice, symbol, output as decoder}
 use Rattle.parser.specs.Row.{peek}
 use Rattle.parser.specs.Views.{isChoice, isSymbol}
-use Rattle.parser.specs.Lines.{then, one, output}
-use Rattle.parser.specs.Meaning.{tokenOf, at, orElse, located, decoderAt, SoundAs}
+use Rattle.parser.specs.Lines.{one, output}
+use Rattle.parser.specs.Meaning.{tokenOf, at, located, decoderAt, SoundAs}
 use Rattle.tokens.specs.declared.Token.{Token as Words}
 use Rattle.parser.specs.declared.Parsed.{Parsed}
-use Rattle.parser.specs.declared.Parsed.the-variants.{Done, Failed}
+use Rattle.parser.specs.declared.Parsed.the-variants.{Done}
 use Rattle.parser.proofs.Tables.{true-false, find}
 use Rattle.parser.proofs.Views.{isSome}
 use Rattle.parser.proofs.Keywords.{codes-of, outputRows, output-rule}
-use Rattle.parser.proofs.Simulates.{Stops, Fits, One, once, At, row, at-first, at-behind, bind-fits, map-fits, weaken-fits}
+use Rattle.parser.proofs.Simulates.{Stops, Fits, One, once, At, row, at-first, bind-fits, map-fits, weaken-fits}
 use Rattle.parser.proofs.Values.{symbol-fits, output-fits, order-fits}
 use Rattle.parser.proofs.Transitions.{located-at, length-one}
 

@@ -1,11 +1,11 @@
 -- Laws of items and lines: a value ends behind where it began, in the row, and each part goes on where the one before it ended.
 use mathlib.Core.Path.{_≡_, refl, sym, ap, subst, _∙_}
-use Prim.Native.Nat.{ℕ, zero, suc, _+_, _-_, _*_, _≤_, _<_, _^_}
+use Prim.Native.Nat.{ℕ, suc, _+_, _-_, _≤_, _<_, _^_}
 use native.Mathlib.Omega.{arith}
 use native.Mathlib.Numerals.{add-one}
 use native.Mathlib.Decide.{decLt}
 use mathlib.Core.Bool.{Bool, true, false, cond}
-use mathlib.Core.List.{List, [], _∷_}
+use mathlib.Core.List.{List, []}
 use lib.ListN.{length, drop, drop-of-length-le, List·getD-eq-default}
 use lib.Seq.{drop-cons}
 use lib.Dec.{eqb}
@@ -15,7 +15,7 @@ use borrow.Author.Needs.{needs}
 use borrow.Author.Tests.{eq-eqb, ne-eqb}
 use Rattle.parser.specs.Row.{tokensIn, ended, peek}
 use Rattle.parser.specs.Views.{spanOf, isKind, isChoice, isState, isSymbol, isWrite, keywordOf, leadOf}
-use Rattle.parser.specs.Lines.{Parser, then, codeOf, unexpected, one, direction, entries, set, tuple, readEntry, output, side, equals, leftParts, noParts, on, onValue, left, right, transition, plain, value, spanning, newlineAt, finish, valueAt, lineOn, lineOf, itemFrom, itemOf, item, isComment, line, lineLength, lineEnd}
+use Rattle.parser.specs.Lines.{Parser, then, codeOf, one, direction, entries, set, tuple, readEntry, output, side, equals, leftParts, noParts, on, onValue, left, right, transition, plain, value, spanning, newlineAt, finish, valueAt, lineOn, lineOf, itemFrom, itemOf, item, isComment, line, lineLength, lineEnd}
 use Rattle.tokens.specs.declared.Token.{Token}
 use Rattle.lexer.specs.declared.Span.{Span}
 use Rattle.parser.specs.declared.Parsed.{Parsed}
@@ -30,8 +30,8 @@ use Rattle.parser.specs.declared.Keyword.{Keyword}
 use Rattle.parser.specs.declared.Keyword.the-variants.{Starts, Other}
 use Rattle.parser.specs.declared.Line.{Line}
 use Rattle.parser.specs.declared.Line.the-variants.{Blank as Empty, Comment, Item as Read, Error}
-use Rattle.parser.proofs.Laws.{length-tokens, inside}
-use Rattle.parser.proofs.Single.{kind-ended, next-fits, sign-fits}
+use Rattle.parser.proofs.Laws.{inside}
+use Rattle.parser.proofs.Single.{kind-ended, next-fits}
 use Rattle.parser.proofs.Lists.{Within, Steps, on-test, then-steps, further, one-steps, state-steps, symbol-steps, read-steps, write-steps, direction-steps, entries-within, chain}
 
 -- ---- the parts of a rule

@@ -1,15 +1,14 @@
 -- Laws of the parsers of one token.
 use mathlib.Core.Path.{_≡_, refl, sym, ap, _∙_}
-use Prim.Native.Nat.{ℕ, suc, _+_, _*_, _≤_, _<_, _^_}
+use Prim.Native.Nat.{ℕ, _+_, _<_, _^_}
 use native.Mathlib.Omega.{arith}
-use mathlib.Core.Bool.{Bool, true, false, cond}
-use mathlib.Core.List.{List, [], _∷_}
+use mathlib.Core.Bool.{Bool, true, false}
+use mathlib.Core.List.{List, []}
 use lib.ListN.{length}
-use lib.Dec.{eqb, ltb, leb}
 use mir.Syntax.{w64}
 use mir.Val.{Fits}
 use borrow.Author.Needs.{needs}
-use borrow.Author.Tests.{eq-eqb, ne-eqb, eqb-true}
+use borrow.Author.Tests.{eq-eqb, ne-eqb}
 use Rattle.parser.specs.Row.{tokensIn, ended, peek}
 use Rattle.parser.specs.Views.{spanOf, isKind, isChoice, isState, isSymbol, isWrite, isDirection, isText}
 use Rattle.parser.specs.Lines.{unexpected, one, direction, separator}

@@ -1,13 +1,13 @@
 -- A table of words and a table of their values say the same: one computed test of both over the keywords.
 use mathlib.Core.Path.{_≡_, refl, sym, ap, subst, _∙_}
-use Prim.Native.Nat.{ℕ, zero, suc, _+_, _-_, _≤_, _<_}
+use Prim.Native.Nat.{ℕ, suc, _+_, _-_, _<_}
 use native.Mathlib.Omega.{arith}
-use mathlib.Core.Bool.{Bool, true, false, cond, _&&_, _||_}
+use mathlib.Core.Bool.{Bool, true, false, _&&_, _||_}
 use mathlib.Core.List.{List, [], _∷_, map}
 use mathlib.Core.Option.{Option, none, some}
 use lib.Dec.{eqb, leb}
-use borrow.Author.Tests.{eqb-true, leb-true, leb-false, eq-eqb, le-leb}
-use Rattle.lexer.specs.Text.{codes, same}
+use borrow.Author.Tests.{eqb-true, leb-true}
+use Rattle.lexer.specs.Text.{same}
 use Rattle.lexer.specs.Words.{keywords, position, keyword, wordValue}
 use Rattle.language.specs.Lines.{Spelled, meaningOf}
 use Rattle.language.proofs.Every.{byTest, and-left, and-right}

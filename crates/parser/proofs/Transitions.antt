@@ -1,13 +1,13 @@
 -- A rule over the row is the language's, and its parts say where its lists stand and how long they are.
 use mathlib.Core.Path.{_≡_, refl, sym, ap, subst, _∙_}
-use Prim.Native.Nat.{ℕ, zero, suc, _+_, _-_, _≤_, _<_}
+use Prim.Native.Nat.{ℕ, _+_, _-_}
 use native.Mathlib.Omega.{arith}
-use mathlib.Core.Bool.{Bool, true, false, cond}
-use mathlib.Core.List.{List, [], _∷_, _++_, map, append-nil, append-assoc}
-use mathlib.Core.Option.{Option, none, some}
+use mathlib.Core.Bool.{Bool, true, false}
+use mathlib.Core.List.{List, [], _∷_, _++_, append-nil, append-assoc}
+use mathlib.Core.Option.{Option, none}
 use lib.ListN.{length, length-append}
 use Rattle.lexer.specs.Tokens.{TokenKind, sign, Span, Token}
-use Rattle.language.specs.Machine.{Located, Dir}
+use Rattle.language.specs.Machine.{Located}
 use Rattle.language.specs.Parser.{Result, ok, fail, Parser, isSign, give, _>>=_}
 use Rattle.language.specs.Parser.{then as bind, expect, tuple as tupled}
 use Rattle.language.specs.Lines.{RawSymbol, RawTransition, stateIn, symbolIn, bracket, writeIn, directionIn, state, direction as directed, readEntry as readOne, writeEntry, transition as ruled}
@@ -18,7 +18,6 @@ use Rattle.parser.specs.Meaning.{tokenOf, at, between, orElse, located, 
 use Rattle.lexer.specs.Words.{kindNumber}
 use lib.Dec.{eqb}
 use Rattle.tokens.specs.declared.Token.{Token as Words}
-use Rattle.lexer.specs.declared.Span.{Span as Place}
 use Rattle.parser.specs.declared.Parsed.{Parsed}
 use Rattle.parser.specs.declared.Parsed.the-variants.{Done, Failed}
 use Rattle.parser.specs.declared.Parts.{Parts}

@@ -1,30 +1,27 @@
 -- The elements of an item over the row are those of the language, and their values are what is seen in their tokens.
-use mathlib.Core.Path.{_≡_, refl, sym, ap, subst, _∙_}
-use Prim.Native.Nat.{ℕ, zero, suc, _+_, _-_, _≤_, _<_}
+use mathlib.Core.Path.{_≡_, refl, sym, ap, _∙_}
+use Prim.Native.Nat.{ℕ, _+_, _-_}
 use native.Mathlib.Omega.{arith}
 use mathlib.Core.Bool.{Bool, true, false, cond}
-use mathlib.Core.List.{List, [], _∷_, _++_, map, append-nil, append-assoc}
+use mathlib.Core.List.{List, [], _∷_, _++_}
 use mathlib.Core.Option.{Option, none, some}
-use lib.Dec.{eqb}
 use lib.ListN.{length}
 use Rattle.lexer.specs.Tokens.{TokenKind, sign, comment, newline, Span, Token}
-use Rattle.language.specs.Machine.{Located, Dir}
-use Rattle.language.specs.Parser.{Result, ok, fail, Parser, when, unexpected, signIn, isSign, give, _>>=_}
-use Rattle.language.specs.Parser.{then as bind, one as token, opened, entries as listed, single, tuple as tupled, set as braced, taken}
+use Rattle.language.specs.Machine.{Located}
+use Rattle.language.specs.Parser.{Result, ok, fail, Parser, unexpected, signIn, isSign, _>>=_}
+use Rattle.language.specs.Parser.{one as token, entries as listed, single, tuple as tupled, set as braced, taken}
 use Rattle.language.specs.Lines.{RawSymbol, Text, stateIn, symbolIn, bracket, writeIn, directionIn, notDirection, stringIn, numberIn, wordIn, kinds, outputs, orders, stringTaken, string, numeral, choice, state, symbol, direction as directed, readEntry as readOne, writeEntry}
-use Rattle.language.proofs.Every.{byTest}
-use Rattle.parser.specs.Row.{peek}
-use Rattle.parser.specs.Views.{spanOf, isKind, isChoice, isState, isSymbol, isWrite, isDirection, isText}
+use Rattle.parser.specs.Views.{isKind, isChoice, isState, isSymbol, isWrite, isDirection, isText}
 use Rattle.parser.specs.Lines.{then, codeOf, one, direction, entries, set, tuple, readEntry}
-use Rattle.parser.specs.Meaning.{tokenOf, at, seenOn, seen, textOf, ReadPart, opens, closes, passes, reads, readPart, joins, outside, inside, readSets, Sound}
+use Rattle.parser.specs.Meaning.{seenOn, seen, textOf, ReadPart, opens, closes, passes, reads, readPart, joins, outside, inside, readSets}
 use Rattle.tokens.specs.declared.Token.{Token as Words}
 use Rattle.parser.specs.declared.Parsed.{Parsed}
 use Rattle.parser.specs.declared.Parsed.the-variants.{Done, Failed}
 use Rattle.parser.proofs.Lists.{Steps, state-steps, symbol-steps, read-steps, write-steps, direction-steps}
 use Rattle.parser.proofs.Tables.{true-false}
-use Rattle.parser.proofs.Views.{isSome, Names, names-l-brace, names-r-brace, Sees, sees-sign, sees-string, sees-number, sees-state, sees-symbol, sees-write, sees-direction, text-view, code-view}
+use Rattle.parser.proofs.Views.{isSome, names-l-brace, names-r-brace, Sees, sees-string, sees-number, sees-state, sees-symbol, sees-write, sees-direction, text-view, code-view}
 use Rattle.parser.proofs.Keywords.{sees-kind, sees-output, sees-order}
-use Rattle.parser.proofs.Simulates.{Stops, Fits, Tests, one-tests, direction-tests, Quiet, One, once, pushes, is-sign, At, row, at-first, at-stop, at-behind, token-fits, entries-fits, Listing, map-fits, weaken-fits, opened-fits, Reading, tuple-fits, set-fits}
+use Rattle.parser.proofs.Simulates.{Stops, Fits, one-tests, direction-tests, Quiet, One, once, pushes, is-sign, At, row, token-fits, entries-fits, Listing, map-fits, weaken-fits, opened-fits, Reading, tuple-fits, set-fits}
 
 quietly : {A : Type 0} {view : TokenKind → Option A} → view newline ≡ none → ((s : List ℕ) → view (comment s) ≡ none) → Quiet view unexpected
 unfolding unexpected

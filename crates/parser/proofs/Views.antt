@@ -1,25 +1,24 @@
 -- What the words of a token say is what the views of the language say of the token.
 use mathlib.Core.Path.{_≡_, refl, sym, ap, subst, _∙_}
-use Prim.Native.Nat.{ℕ, zero, suc, _+_, _≤_, _<_}
+use Prim.Native.Nat.{ℕ, _+_, _<_}
 use native.Mathlib.Omega.{arith}
-use mathlib.Core.Bool.{Bool, true, false, cond, _&&_, _||_, not}
-use mathlib.Core.List.{List, [], _∷_, map}
+use mathlib.Core.Bool.{Bool, true, false, cond, _&&_, not}
+use mathlib.Core.List.{List, [], _∷_}
 use mathlib.Core.Option.{Option, none, some}
-use lib.Dec.{eqb, leb, ltb}
+use lib.Dec.{eqb}
 use lib.ListN.{length}
-use borrow.Author.Tests.{eqb-true, leb-true, leb-false, eq-eqb, ne-eqb, lt-ltb, le-ltb}
-use Rattle.lexer.specs.Text.{codes, same}
+use borrow.Author.Tests.{eqb-true, eq-eqb, ne-eqb, lt-ltb, le-ltb}
+use Rattle.lexer.specs.Text.{codes}
 use Rattle.lexer.specs.Tokens.{TokenKind, word, number, quoted, str, sign, comment, newline, unterminatedString, unterminatedQuote, Span, Token}
 use Rattle.lexer.specs.Words.{signNumber, kindNumber, keyword, wordValue, tokenValue}
 use Rattle.language.specs.Machine.{Dir, left, right, stay}
-use Rattle.language.specs.Parser.{when, unexpected, signIn, isSign, goesOn}
-use Rattle.language.specs.Lines.{RawSymbol, glyph, oneCharacter, bare, bracket, stateIn, symbolIn, writeIn, fromChar, directionIn, notDirection, stringIn, numberIn, Spelled, meaningOf, wordIn}
+use Rattle.language.specs.Parser.{when, unexpected, signIn, isSign}
+use Rattle.language.specs.Lines.{RawSymbol, glyph, oneCharacter, bare, bracket, stateIn, symbolIn, writeIn, fromChar, directionIn, notDirection, stringIn, numberIn}
 use Rattle.language.proofs.Every.{byTest}
 use Rattle.parser.specs.Views.{isKind, isState, isSymbol, isWrite, isMove, isDirection, isText}
 use Rattle.parser.specs.Lines.{codeOf}
-use Rattle.parser.specs.Meaning.{tokenOf, SoundAs, Sound}
+use Rattle.parser.specs.Meaning.{tokenOf, SoundAs}
 use Rattle.tokens.specs.declared.Token.{Token as Words}
-use Rattle.parser.proofs.Tables.{true-false}
 
 abbrev pub isSome : {A : Type 0} → Option A → Bool
 isSome none = false

@@ -1,6 +1,6 @@
 -- Paper 01, "parser.rs, lines", over the tokens that stand in a row: `p ts i` reads from the index i on.
 use Prim.Native.Nat.{ℕ, zero, suc, _+_, _-_}
-use mathlib.Core.Bool.{Bool, true, false, cond, _&&_}
+use mathlib.Core.Bool.{Bool, true, false, cond}
 use mathlib.Core.List.{List, [], _∷_}
 use lib.Dec.{eqb}
 use lib.ListN.{length, drop}
@@ -19,7 +19,6 @@ use Rattle.parser.specs.declared.Keyword.{Keyword}
 use Rattle.parser.specs.declared.Keyword.the-variants.{Starts, Other}
 use Rattle.parser.specs.declared.Lead.{Lead}
 use Rattle.parser.specs.declared.Lead.the-variants.{Equals, Nothing, Whole}
-use Rattle.parser.specs.declared.Item.{Item}
 use Rattle.parser.specs.declared.Line.{Line}
 use Rattle.parser.specs.declared.Line.the-variants.{Blank as Empty, Comment, Item as Read, Error}
 

@@ -10,7 +10,7 @@ use Rattle.lexer.specs.Tokens.{TokenKind, word, number, quoted, str, sign, comm
 use Rattle.lexer.specs.Words.{kindNumber, tokenValue}
 use Rattle.language.specs.Machine.{Located, transducer, lsb}
 use Rattle.language.specs.Parser.{isSign}
-use Rattle.language.specs.Lines.{RawSymbol, rawBlank, RawDecoder, rawWord, rawUnary, rawBinary, RawTransition, Text, Item, machineItem, inputItem, kindItem, outputItem, tapesItem, statesItem, finalItem, inputAlphabetItem, tapeAlphabetItem, blankItem, startItem, transitionItem, Line, blankLine, commentLine, itemLine, errorLine, stateIn, symbolIn, writeIn, directionIn, stringIn, numberIn, wordIn, kinds, outputs, orders, OutputWord, wordOutput, unaryOutput, binaryOutput, Ending, lineFeed, goesBy, remark, endingOf, lines, covering}
+use Rattle.language.specs.Lines.{RawSymbol, rawBlank, RawDecoder, rawWord, rawUnary, rawBinary, RawTransition, Text, Item, machineItem, inputItem, kindItem, outputItem, tapesItem, statesItem, finalItem, inputAlphabetItem, tapeAlphabetItem, blankItem, startItem, transitionItem, Line, blankLine, commentLine, itemLine, errorLine, stateIn, symbolIn, writeIn, directionIn, stringIn, numberIn, wordIn, kinds, outputs, orders, wordOutput, unaryOutput, binaryOutput, Ending, lineFeed, goesBy, remark, endingOf, lines, covering}
 use Rattle.parser.specs.Lines.{line, lineEnd}
 use Rattle.tokens.specs.declared.Token.{Token as Words}
 use Rattle.tokens.specs.View.{wordsOf}
