@@ -43,7 +43,7 @@ each-natural g (a ∷ s) ls =
     ap₂ (λ x y. x ++ y) (map-map (λ l. g a ∷ l) (map g) ls ∙ sym (map-map (map g) (λ l. a ∷ l) ls)) (each-natural g s ls)
     ∙ sym (map-append (map g) (map (λ l. a ∷ l) ls) (eachFront s ls))
 
-choices-natural : {A B : Type 0} (g : A → B) (ss : List (List A)) → choices (map (map g) ss) ≡ map (map g) (choices ss)
+pub choices-natural : {A B : Type 0} (g : A → B) (ss : List (List A)) → choices (map (map g) ss) ≡ map (map g) (choices ss)
 unfolding choices
 choices-natural g [] = refl
 choices-natural g (s ∷ ss) = ap (eachFront (map g s)) (choices-natural g ss) ∙ each-natural g s (choices ss)

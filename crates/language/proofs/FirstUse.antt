@@ -14,7 +14,7 @@ use Rattle.language.proofs.Every.{byTest, Every, All, Filled, or-left, 
 
 -- ---- mentions that add nothing
 
-abbrev Test : Type 0
+abbrev pub Test : Type 0
 Test = ℕ → Bool
 
 -- everything that k knows is known
@@ -22,7 +22,7 @@ abbrev Knows : Test → Test → Type 0
 Knows known k = (x : ℕ) → k x ≡ true → known x ≡ true
 
 -- one more entry is known
-abbrev also : ℕ → Test → Test
+abbrev pub also : ℕ → Test → Test
 also x known = λ y. eqb x y || known y
 
 -- l without entries that k knows
@@ -53,11 +53,11 @@ less-append k l m l′ m′ (keep {l = a} {m = b} g) h = keep (less-append k a b
 less-append k l m l′ m′ (skip {l = a} {m = b} t g) h = skip t (less-append k a b l′ m′ g h)
 
 -- what is known behind a list
-after : Test → List ℕ → Test
+unfoldable pub after : Test → List ℕ → Test
 after known [] = known
 after known (x ∷ l) = elim (known x) [ true ↦ after known l | false ↦ after (also x known) l ]
 
-fresh-behind : (known : Test) (p r : List ℕ) → fresh eqb known (p ++ r) ≡ fresh eqb known p ++ fresh eqb (after known p) r
+pub fresh-behind : (known : Test) (p r : List ℕ) → fresh eqb known (p ++ r) ≡ fresh eqb known p ++ fresh eqb (after known p) r
 unfolding fresh after
 fresh-behind known [] r = refl
 fresh-behind known (x ∷ p) r = byTest (known x)

@@ -25,3 +25,4 @@ pub mod AnswerBack
 pub mod Entries
 pub mod Claim
 pub mod FirstUse
+pub mod LineUses
