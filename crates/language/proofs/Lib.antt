@@ -20,3 +20,7 @@ pub mod Counts
 pub mod ParseHolds
 pub mod AssemblyHolds
 pub mod ReadCounts
+pub mod TokenPlaces
+pub mod AnswerBack
+pub mod Entries
+pub mod Claim

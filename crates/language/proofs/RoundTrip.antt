@@ -32,7 +32,7 @@ use Rattle.language.proofs.PlainAssembly.{facts-plain, quiet-plain}
 use Rattle.language.proofs.ParsePlaces.{bareLine, read-bare}
 use Rattle.language.proofs.AssemblyPlaces.{facts-natural, diagnostics-natural}
 use Rattle.language.proofs.LexSound.{fine, Fine, AllFine}
-use Rattle.language.proofs.ParseSound.{GoodLine, lines-good}
+use Rattle.language.proofs.ParseSound.{lines-good}
 use Rattle.language.proofs.AssemblySound.{GoodFacts, facts-good}
 use Rattle.language.proofs.ContentSound.{GoodContent, content-good, content-written, content-parsable, content-assembles, plain-fine}
 

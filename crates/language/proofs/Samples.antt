@@ -8,11 +8,11 @@ use Rattle.chars.specs.Utf8.{encode, decode}
 use Rattle.lexer.specs.Text.{codes}
 use Rattle.language.specs.Content.{Content, contentOf}
 use Rattle.language.specs.Lines.{readLines}
-use Rattle.language.specs.Assembly.{Diagnostic, diagnostics}
+use Rattle.language.specs.Assembly.{diagnostics}
 use Rattle.language.specs.Infer.{machineOf}
-use Rattle.language.specs.Layout.{Head, headOf, headWords, sheetWords}
-use Rattle.language.specs.Outcome.{Reply, machine, diagnosed, refused, replyNumber, replyValue, workNeeded, zeros, ReadOutcome, readOutcome, WriteReply, writeNumber, writeValue, WriteOutcome, writeOutcome}
-use Rattle.language.specs.Agreement.{Answer, contentOfAnswer}
+use Rattle.language.specs.Layout.{headOf, headWords, sheetWords}
+use Rattle.language.specs.Outcome.{Reply, machine, diagnosed, refused, replyNumber, replyValue, workNeeded, zeros, ReadOutcome, readOutcome, writeNumber, writeValue, WriteOutcome, writeOutcome}
+use Rattle.language.specs.Agreement.{contentOfAnswer}
 
 -- the word of which two say that there is no place
 abbrev pub ø : ℕ

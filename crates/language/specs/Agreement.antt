@@ -1,7 +1,7 @@
 -- Paper 01, "Plain form": what the answer of a reading call stands for, from its head, its sheet and the text, as a caller has them.
 use Prim.Native.Nat.{ℕ, zero, suc, _+_, _-_, _*_}
-use mathlib.Core.Bool.{Bool, true, false, _&&_}
-use mathlib.Core.List.{List, [], _∷_, _++_, map}
+use mathlib.Core.Bool.{true, false, _&&_}
+use mathlib.Core.List.{List, [], _∷_, map}
 use mathlib.Core.Option.{Option, none, some}
 use mathlib.Core.Path.{_≡_}
 use lib.Dec.{eqb}
@@ -10,7 +10,7 @@ use Rattle.chars.specs.Utf8.{decode}
 use Rattle.lexer.specs.Tokens.{Span, span, unescape}
 use Rattle.language.specs.Machine.{Dir, left, right, stay}
 use Rattle.language.specs.Content.{StateContent, ActionContent, RuleContent, Content}
-use Rattle.language.specs.Layout.{Counts, Head}
+use Rattle.language.specs.Layout.{Head}
 
 -- an answer: the head that was returned, the words of the sheet, and the bytes of the text
 pub record Answer : Type 0 where

@@ -7,36 +7,8 @@ use lib.Dec.{eqb, leb}
 use lib.ListN.{length}
 use Rattle.lexer.specs.Text.{same}
 use Rattle.lexer.specs.Tokens.{Span}
-use Rattle.language.specs.Machine.{Located, Kind, Decoder, asWord, asUnary, asBinary, Dir, Action, Rule}
-use Rattle.language.specs.Lines.{
-  RawSymbol,
-  rawBlank,
-  glyph,
-  RawDecoder,
-  rawWord,
-  rawUnary,
-  rawBinary,
-  RawTransition,
-  Text,
-  Item,
-  machineItem,
-  inputItem,
-  kindItem,
-  outputItem,
-  tapesItem,
-  statesItem,
-  finalItem,
-  inputAlphabetItem,
-  tapeAlphabetItem,
-  blankItem,
-  startItem,
-  transitionItem,
-  Line,
-  blankLine,
-  commentLine,
-  itemLine,
-  errorLine,
-}
+use Rattle.language.specs.Machine.{Located, Kind, Dir, Action, Rule}
+use Rattle.language.specs.Lines.{RawSymbol, rawBlank, glyph, RawDecoder, RawTransition, Text, Item, machineItem, inputItem, kindItem, outputItem, tapesItem, statesItem, finalItem, inputAlphabetItem, tapeAlphabetItem, blankItem, startItem, transitionItem, Line, blankLine, commentLine, itemLine, errorLine}
 
 -- ---- declarations
 

@@ -5,8 +5,8 @@ use mathlib.Core.List.{List, [], _∷_, _++_, map}
 use mathlib.Core.Option.{Option, none, some}
 use lib.Dec.{eqb, leb}
 use Rattle.lexer.specs.Text.{same}
-use Rattle.language.specs.Machine.{Located, Kind, transducer, Decoder, asWord, asUnary, asBinary, State, Action, Rule, Symbol, Declared, SourceMap, Machine}
-use Rattle.language.specs.Lines.{RawSymbol, RawDecoder, rawWord, rawUnary, rawBinary, Text, Item, Line}
+use Rattle.language.specs.Machine.{Located, transducer, Decoder, asWord, asUnary, asBinary, State, Rule, Symbol, Machine}
+use Rattle.language.specs.Lines.{RawSymbol, RawDecoder, rawWord, rawUnary, rawBinary, Text, Line}
 use Rattle.language.specs.Content.{valueOr}
 use Rattle.language.specs.Assembly.{items, first, found, orElse, resolve, blankOf, statesIn, finalsIn, ofOption, bodyOf, kept, expandAll}
 

@@ -5,9 +5,8 @@ use mathlib.Core.List.{List, [], _∷_, _++_}
 use mathlib.Core.Option.{Option, none, some}
 use lib.ListN.{length}
 use Rattle.lexer.specs.Tokens.{Span, span}
-use Rattle.language.specs.Machine.{Located, Kind, acceptor, transducer, enumerator, beaver, BitOrder, lsb, msb, Decoder, asWord, asUnary, asBinary, Dir, left, right, stay, State, Action, Rule, Symbol, Declared, SourceMap, Machine}
-use Rattle.language.specs.Lines.{RawTransition, Line}
-use Rattle.language.specs.Assembly.{RuleLine, combinations, kept, bodyOf, Diagnostic}
+use Rattle.language.specs.Machine.{Located, Kind, acceptor, transducer, enumerator, beaver, lsb, msb, Decoder, asWord, asUnary, asBinary, Dir, left, right, stay, State, Action, Rule, Symbol, Declared, Machine}
+use Rattle.language.specs.Assembly.{RuleLine, combinations, Diagnostic}
 
 -- ---- places
 

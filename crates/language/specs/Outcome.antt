@@ -3,14 +3,13 @@ use Prim.Native.Nat.{ℕ, _+_, _-_, _*_, _/_}
 use mathlib.Core.Bool.{Bool, true, false, _||_}
 use mathlib.Core.List.{List, [], _∷_, _++_}
 use mathlib.Core.Option.{Option, none, some}
-use lib.Dec.{ltb, eqb}
+use lib.Dec.{ltb}
 use lib.ListN.{length, drop, replicate}
 use Rattle.chars.specs.Utf8.{decode, encode, validUpTo}
 use Rattle.chars.specs.Class.{firstOutside}
 use Rattle.chars.specs.declared.Outside.the-variants.{At, Nowhere}
 use Rattle.lexer.specs.Tokens.{Span}
-use Rattle.language.specs.Machine.{Machine}
-use Rattle.language.specs.Content.{Content, contentOf}
+use Rattle.language.specs.Content.{contentOf}
 use Rattle.language.specs.Lines.{Line, readLines}
 use Rattle.language.specs.Assembly.{Diagnostic, diagnostics, bodyOf, kept}
 use Rattle.language.specs.Infer.{machineOf}
@@ -123,12 +122,17 @@ readDiagnostics ds log sheet =
       | false ↦ record { reply = diagnosed (length ds); log = filled (logWords ds) log; sheet = zeros sheet }
     ]
 
+-- the words that the sheet of a list of lines needs, found without expanding a rule
+unfoldable pub wordsNeeded : List (Line Span) → ℕ
+unfolding machineOf bodyOf kept sheetLength
+wordsNeeded ls = sheetLength (machineOf ls) (kept 0 (bodyOf ls .rules))
+
 -- lines without diagnostics: row 6
 unfoldable pub readMachine : List (Line Span) → ℕ → ℕ → ReadOutcome
-unfolding machineOf bodyOf kept headOf sheetWords sheetLength
+unfolding machineOf headOf sheetWords wordsNeeded
 readMachine ls log sheet =
     let m = machineOf ls in
-    let needed = sheetLength m (kept 0 (bodyOf ls .rules)) in
+    let needed = wordsNeeded ls in
     elim (ltb sheet needed) [
       | true ↦ record { reply = refused (sheetTooShort needed); log = zeros log; sheet = zeros sheet }
       | false ↦ record { reply = machine (headOf m); log = zeros log; sheet = filled (sheetWords m) sheet }
@@ -186,13 +190,16 @@ writeForm form r output =
       | false ↦ record { reply = written n; log = r .log; sheet = r .sheet; output = form ++ drop n output }
     ]
 
+-- behind a reading: only a machine's form is written
+unfoldable pub writeWith : ReadOutcome → List ℕ → List ℕ → WriteOutcome
+unfolding writeForm
+writeWith r form output = elim (r .reply) [
+  | machine h ↦ writeForm form r output
+  | diagnosed n ↦ record { reply = notWritten n; log = r .log; sheet = r .sheet; output = output }
+  | refused x ↦ record { reply = notRead x; log = r .log; sheet = r .sheet; output = output }
+]
+
 -- a writing call: the text, how many words of work, and the log, the sheet and the output at entry
 unfoldable pub writeOutcome : List ℕ → ℕ → List ℕ → List ℕ → List ℕ → WriteOutcome
-unfolding readOutcome formOf writeForm
-writeOutcome t work log sheet output =
-    let r = readOutcome t work log sheet in
-    elim (r .reply) [
-      | machine h ↦ writeForm (formOf t) r output
-      | diagnosed n ↦ record { reply = notWritten n; log = r .log; sheet = r .sheet; output = output }
-      | refused x ↦ record { reply = notRead x; log = r .log; sheet = r .sheet; output = output }
-    ]
+unfolding readOutcome formOf writeWith
+writeOutcome t work log sheet output = writeWith (readOutcome t work log sheet) (formOf t) output
