@@ -1,5 +1,5 @@
 -- The number of tapes in decimal: its digits are one number token. The facts about 0 to 255 are one computed test.
-use Prim.Native.Nat.{ℕ, zero, suc, _+_, _-_, _*_, _/_, _%_, _≤_, _<_}
+use Prim.Native.Nat.{ℕ, zero, suc, _+_, _-_, _/_, _%_, _<_}
 use mathlib.Core.Bool.{Bool, true, false, _&&_, false≢true}
 use mathlib.Core.List.{List, [], _∷_, _++_, append-assoc}
 use mathlib.Core.Path.{_≡_, refl, ap, _∙_, sym}
@@ -12,10 +12,10 @@ use Rattle.chars.specs.Utf8.{size, sizes}
 use Rattle.chars.specs.Class.{classOf}
 use Rattle.chars.specs.declared.Class.{Class}
 use Rattle.chars.specs.declared.Class.the-variants.{Letter, Digit, Space, Sign, Other}
-use Rattle.lexer.specs.Tokens.{TokenKind, number, tok, isDigit, isAsciiDigit, run, numberStep, step}
+use Rattle.lexer.specs.Tokens.{number, tok, isDigit, isAsciiDigit, numberStep, step}
 use Rattle.lexer.specs.Words.{value}
 use Rattle.language.specs.Plain.{decimalFrom, decimal}
-use Rattle.language.proofs.Every.{byTest, and-left, and-right, Every, All}
+use Rattle.language.proofs.Every.{byTest, and-left, and-right, All}
 use Rattle.language.proofs.TokenKinds.{kinds, front}
 use Rattle.language.proofs.PlainLex.{run-all}
 
