@@ -36,6 +36,7 @@ at ws i = getD ws i 0
 abbrev pub placeAt : List ℕ → ℕ → Span
 placeAt ws i = span (at ws i) (at ws (suc i))
 
+-- the direction of a number
 abbrev pub dirOf : ℕ → Dir
 dirOf zero = left
 dirOf (suc zero) = right
@@ -62,14 +63,17 @@ module _ (text : List ℕ) where
   unfolding charactersAt
   commentAt p = elim (eqb (p .start) 4294967295 && eqb (p .end) 4294967295) [ true ↦ none | false ↦ some (charactersAt p) ]
 
+  -- a state from its words
   unfoldable pub stateIn : List ℕ → StateContent
   unfolding charactersAt
   stateIn ws = record { name = charactersAt (placeAt ws 0); final = eqb (at ws 2) 1 }
 
+  -- the text of a comment from the words of its place
   unfoldable pub textIn : List ℕ → List ℕ
   unfolding charactersAt
   textIn ws = charactersAt (placeAt ws 0)
 
+  -- a rule from its words
   unfoldable pub ruleIn : List ℕ → RuleContent
   unfolding charactersAt commentAt groups actionIn textIn
   ruleIn ws = record {

@@ -19,9 +19,11 @@ pub record Lent : Type 0 where
   pub sheet : List ℕ
   pub output : List ℕ
 
+-- a reading call with them
 abbrev pub reading : List ℕ → Lent → ReadOutcome
 reading t b = readOutcome t (b .work) (b .log) (b .sheet)
 
+-- a writing call with them
 abbrev pub writing : List ℕ → Lent → WriteOutcome
 writing t b = writeOutcome t (b .work) (b .log) (b .sheet) (b .output)
 

@@ -14,6 +14,7 @@ use Rattle.language.specs.Assembly.{RuleLine, combinations, Diagnostic}
 abbrev pub noPlace : Span
 noPlace = span 4294967295 4294967295
 
+-- a place, or that there is none
 unfoldable pub orNone : Option Span → Span
 orNone none = noPlace
 orNone (some p) = p
@@ -65,6 +66,7 @@ pub record Head : Type 0 where
   pub statesPlace : Span
   pub counts : Counts
 
+-- the head of a machine
 unfoldable pub headOf : Machine Span → Head
 unfolding orNone placeOrNone
 headOf m = record {
@@ -92,10 +94,12 @@ headOf m = record {
   };
 }
 
+-- 1 for true, 0 for false
 abbrev pub flag : Bool → ℕ
 flag true = 1
 flag false = 0
 
+-- the number of a kind
 abbrev pub kindNumber : Kind → ℕ
 kindNumber acceptor = 0
 kindNumber transducer = 1
@@ -109,9 +113,11 @@ decoderWords (asUnary c) = 1 ∷ c ∷ []
 decoderWords (asBinary lsb) = 2 ∷ 0 ∷ []
 decoderWords (asBinary msb) = 2 ∷ 1 ∷ []
 
+-- the five flags
 abbrev pub declaredWords : Declared → List ℕ
 declaredWords d = flag (d .states) ∷ flag (d .inputAlphabet) ∷ flag (d .tapeAlphabet) ∷ flag (d .start) ∷ flag (d .blank) ∷ []
 
+-- the seven counts
 abbrev pub countWords : Counts → List ℕ
 countWords n = n .states ∷ n .sigma ∷ n .gamma ∷ n .finals ∷ n .header ∷ n .trailing ∷ n .rules ∷ []
 
@@ -132,6 +138,7 @@ stateWords s = placeWords (s .name .place) ++ flag (s .final) ∷ []
 unfoldable pub symbolWords : Symbol Span → List ℕ
 symbolWords s = s .code ∷ elim (s .declaredAt) [ some p ↦ placeWords p | none ↦ 0 ∷ 0 ∷ [] ]
 
+-- the number of a direction
 abbrev pub dirNumber : Dir → ℕ
 dirNumber left = 0
 dirNumber right = 1
@@ -185,6 +192,7 @@ unfoldable pub diagnosticWords : Diagnostic Span → List ℕ
 unfolding orNone
 diagnosticWords d = d .code ∷ placeWords (d .place) ++ placeWords (orNone (d .related))
 
+-- the words of a list of diagnostics
 unfoldable pub logWords : List (Diagnostic Span) → List ℕ
 unfolding flat diagnosticWords
 logWords ds = flat diagnosticWords ds
