@@ -26,12 +26,9 @@ pub char-at-end : (t : List ℕ) (at : ℕ) → length t ≤ at → End ≡ deco
 unfolding front decodedAt
 char-at-end t at h = rw (drop-of-length-le t h)
 
-pub lead-ascii : (at a b c d : ℕ) → a < 0x80 → Char a (at + 1) ≡ decodedAt at (lead a b c d)
-unfolding lead decodedAt size
-lead-ascii at a b c d h = rw (lt-ltb a 0x80 h) (rw (lt-ltb a 0x80 h))
-
 pub char-at-ascii : (t : List ℕ) (at a x : ℕ) → at < length t → a ≡ x → x ≡ getD t at 0 → a < 0x80 → Char a (at + 1) ≡ decodedAt at (front (drop at t))
-char-at-ascii t at a x h e p l = rw (front-at t at h, ← p, ← e) (lead-ascii at a _ _ _ l)
+unfolding lead decodedAt
+char-at-ascii t at a x h e p l = rw (front-at t at h, ← p, ← e, lt-ltb a 0x80 l) (rw (lt-ltb a 0x80 l))
 
 pub char-at-lead : (t : List ℕ) (at a b c d w x y z : ℕ) (r : Decoded) → at < length t → r ≡ decodedAt at (lead a b c d) → a ≡ w → w ≡ getD t at 0
     → b ≡ tailOf x → x ≡ getD t (at + 1) 0 → c ≡ tailOf y → y ≡ getD t (at + 2) 0 → d ≡ tailOf z → z ≡ getD t (at + 3) 0

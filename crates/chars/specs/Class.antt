@@ -32,10 +32,11 @@ spaces = to 0x09 0x0D ∷ to 0x20 0x20 ∷ to 0x85 0x85 ∷ to 0xA0 0xA0 ∷ []
 abbrev pub signs : List Range
 signs = to 0x28 0x2A ∷ to 0x2C 0x2C ∷ to 0x3D 0x3D ∷ to 0x7B 0x7B ∷ to 0x7D 0x7D ∷ []
 
--- the class of a code point
+-- the ranges of all classes
 abbrev pub classes : List (Entry Class)
 classes = rows Letter letters (rows Digit digits (rows Space spaces (rows Sign signs [])))
 
+-- the class of a code point
 unfoldable pub classOf : ℕ → Class
 unfolding lookup
 classOf c = lookup classes Other c

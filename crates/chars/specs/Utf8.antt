@@ -7,7 +7,7 @@ use lib.Dec.{ltb, leb, eqb}
 use Rattle.chars.specs.declared.Decoded.{Decoded}
 use Rattle.chars.specs.declared.Decoded.the-variants.{Char, Invalid, End}
 
--- a Unicode scalar value: a code point that is no surrogate
+-- a Unicode scalar value: a code point, at most 10FFFF, that is no surrogate
 unfoldable pub scalar : ℕ → Bool
 scalar c = ltb c 0xD800 || (leb 0xE000 c && ltb c 0x110000)
 
@@ -21,7 +21,7 @@ scalars (c ∷ cs) = scalar c && scalars cs
 unfoldable pub size : ℕ → ℕ
 size c = cond (ltb c 0x80) 1 (cond (ltb c 0x800) 2 (cond (ltb c 0x10000) 3 4))
 
--- and a list of them
+-- how many bytes a list of them takes
 unfoldable pub sizes : List ℕ → ℕ
 unfolding size
 sizes [] = 0

@@ -1,6 +1,6 @@
 // Characters of a text: UTF-8 (RFC 3629), the set that a description may use, and the classes of code points.
 ghost use mathlib.Core.Path.{_≡_};
-ghost use Prim.Native.Nat.{_+_, _<_};
+ghost use Prim.Native.Nat.{_+_, _<_, _≤_};
 ghost use lib.ListN.{getD, drop};
 ghost use Rattle.chars.specs.Utf8.{scalar, size, tailOf, form, lead, front, decodedAt, validUpTo};
 ghost use Rattle.chars.specs.Ranges.{within};
@@ -71,7 +71,7 @@ fn tail(b: u8) -> u32
     64
 }
 
-// A code point that is no surrogate.
+// Whether a code point is a scalar value: no surrogate, and at most 10FFFF.
 fn is_scalar(c: u32) -> bool
     ensures { λ r. ⌜ r ≡ scalar c ⌝ }
 {
@@ -97,14 +97,11 @@ fn formed(at: usize, n: usize, code: u32) -> Decoded
     Decoded::Invalid
 }
 
-// The character at a place, of its first byte and the bits of the three bytes after it.
+// The character at a place, of its first byte, which is above ASCII, and the bits of the three bytes after it.
 fn character(at: usize, a: u32, b: u32, c: u32, d: u32) -> Decoded
-    requires { ⌜ (at + 4 < 18446744073709551616) × (a < 256) ⌝ }
+    requires { ⌜ (at + 4 < 18446744073709551616) × (0x80 ≤ a) × (a < 256) ⌝ }
     ensures { λ r. ⌜ r ≡ decodedAt at (lead a b c d) ⌝ }
 {
-    if a < 0x80 {
-        return Decoded::Char(a, at + 1);
-    }
     if a < 0xC0 {
         return Decoded::Invalid;
     }

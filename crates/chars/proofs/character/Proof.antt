@@ -1,8 +1,7 @@
 -- `chars::character` meets its contract: the definition makes the same tests in the same order, and `formed` answers at three of their ends.
+use borrow.Author.Needs.{needs}
 use Rattle.chars.specs.Utf8.{lead, decodedAt}
 use Rattle.chars.proofs.Tests.{tests}
-use Rattle.chars.proofs.Front.{lead-ascii}
-use borrow.Author.Needs.{needs}
 use Rattle.chars.proofs.character.Statement.{statement}
 use Rattle.chars.proofs.character.Tie as tie
 
@@ -11,8 +10,6 @@ unfolding lead decodedAt
 character-spec =
     tie.close
     (tie.spec
-    (λ c. search needs)
-    (λ c. search (needs, lead-ascii))
     (λ c. search tests)
     (λ c. search tests)
     (λ c. search needs)
