@@ -3,6 +3,7 @@ ghost use mathlib.Core.Path.{_≡_};
 ghost use Rattle.lexer.specs.Text.{same};
 ghost use Rattle.lexer.specs.Words.{position, keywordBytes};
 ghost use Rattle.lexer.specs.Places.{part};
+use crate::Span;
 
 // The keywords one behind the other, and where each starts.
 const KEYWORDS: [u8; 115] =
@@ -64,6 +65,15 @@ pub fn same_part(a: &[u8], b: &[u8]) -> bool
         i += 1;
     }
     true
+}
+
+// Whether the names at two places are equal.
+pub fn same_name(text: &[u8], a: Span, b: Span) -> bool
+    ensures { λ r. ⌜ r ≡ same (part (now (text .entry)) (a .start) (a .end)) (part (now (text .entry)) (b .start) (b .end)) ⌝ }
+{
+    let x = part_of(text, a.start as usize, a.end as usize);
+    let y = part_of(text, b.start as usize, b.end as usize);
+    same_part(x, y)
 }
 
 // A word's number among the keywords, or 0.

@@ -3,7 +3,6 @@ ghost use mathlib.Core.Path.{_≡_};
 ghost use Prim.Native.Nat.{_+_, _*_, _-_, _≤_, _<_};
 ghost use mathlib.Core.List.{[], _∷_};
 ghost use lib.ListN.{length};
-ghost use Rattle.lexer.specs.Text.{same};
 ghost use Rattle.lexer.specs.Tokens.{span};
 ghost use Rattle.lexer.specs.Words.{keyword};
 ghost use Rattle.lexer.specs.Places.{part};
@@ -137,13 +136,4 @@ pub fn text_at(text: &[u8], p: Span) -> &[u8]
     ensures { λ r. ⌜ now r ≡ part (now (text .entry)) (p .start) (p .end) ⌝ }
 {
     names::part_of(text, p.start as usize, p.end as usize)
-}
-
-// Whether the names at two places are equal.
-pub fn same_name(text: &[u8], a: Span, b: Span) -> bool
-    ensures { λ r. ⌜ r ≡ same (part (now (text .entry)) (a .start) (a .end)) (part (now (text .entry)) (b .start) (b .end)) ⌝ }
-{
-    let x = names::part_of(text, a.start as usize, a.end as usize);
-    let y = names::part_of(text, b.start as usize, b.end as usize);
-    names::same_part(x, y)
 }

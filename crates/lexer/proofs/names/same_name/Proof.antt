@@ -1,8 +1,8 @@
--- `tokens::same_name` meets its contract: the two parts are compared. Assumes nothing.
+-- `lexer::names::same_name` meets its contract: the two parts are compared. Assumes nothing.
 use Rattle.lexer.proofs.Keywords.{same-of}
 use borrow.Author.Needs.{needs}
-use Rattle.tokens.proofs.same_name.Statement.{statement}
-use Rattle.tokens.proofs.same_name.Tie as tie
+use Rattle.lexer.proofs.names.same_name.Statement.{statement}
+use Rattle.lexer.proofs.names.same_name.Tie as tie
 
 pub same-name-spec : {M : Type 1} → statement M
 same-name-spec =
