@@ -1,0 +1,5 @@
+pub mod Tests
+pub mod Rows
+pub mod Passes
+pub mod FailureLaws
+pub mod DeclarationLaws

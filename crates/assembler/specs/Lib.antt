@@ -1,0 +1,5 @@
+pub mod Rows
+pub mod Entries
+pub mod Failures
+pub mod Declarations
+pub mod Rules
