@@ -137,9 +137,9 @@ module _ (count : ℕ) (work all : List ℕ) (target : Log) (from : ℕ) (w₀ f
       record {
         declared = ap (λ (f : List ℕ). declarations count f (entriesAt ts j)) ef ∙ ap (declarations count first) (sym lines) ∙ d .declared;
         passing = subst (λ (f : List ℕ). Passing ts (declarationErrors ts f) target from w₀ w′ n′ j) ef′
-        (subst (λ (j : ℕ). Passing ts (declarationErrors ts (declare (length ts) first e)) target from w₀ w′ n′ j) next
-        (passing-step ts target from w₀ w n i (declarationErrors ts first) (declarationErrors ts (declare (length ts) first e)) (declarationError ts first e) w′ n′ (d .passing) here (λ es. refl)
-        (one-wrong ts first e) ew));
+            (subst (λ (j : ℕ). Passing ts (declarationErrors ts (declare (length ts) first e)) target from w₀ w′ n′ j) next
+            (passing-step ts target from w₀ w n i (declarationErrors ts first) (declarationErrors ts (declare (length ts) first e)) (declarationError ts first e) w′ n′ (d .passing) here (λ es. refl)
+            (one-wrong ts first e) ew));
       }
 
   pub declared-end : count ≤ i → first ≡ all

@@ -3,3 +3,4 @@ pub mod Rows
 pub mod Passes
 pub mod FailureLaws
 pub mod DeclarationLaws
+pub mod RuleLaws

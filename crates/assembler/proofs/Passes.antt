@@ -39,8 +39,8 @@ module _ (ts : List Token) (target : Log) (from : ℕ) (w₀ w : List ℕ) (n i 
       let counts : n′ ≡ n + length ds = ap (λ (l : Log). l .count) e ∙ append-all-count (logged w n) ds in
       record {
         whole =
-        ap (λ (l : Log). appendAll l (g rest)) e ∙ sym (append-all-append (logged w n) ds (g rest)) ∙ ap (appendAll (logged w n)) (sym (step rest))
-        ∙ ap (λ (es : List Entry). appendAll (logged w n) (f es)) (sym (entries-step ts i h)) ∙ p .whole;
+            ap (λ (l : Log). appendAll l (g rest)) e ∙ sym (append-all-append (logged w n) ds (g rest)) ∙ ap (appendAll (logged w n)) (sym (step rest))
+            ∙ ap (λ (es : List Entry). appendAll (logged w n) (f es)) (sym (entries-step ts i h)) ∙ p .whole;
         few = omega (arith, p .few);
         size = ap (λ (l : Log). length (l .row)) e ∙ append-all-length (logged w n) ds ∙ p .size;
       }

@@ -16,6 +16,7 @@ pub const NAMES: usize = 11;
 const TAPES: u32 = 4;
 // The codes of diagnostics.
 const TOO_LARGE: u32 = 9;
+
 const DUPLICATE_DECLARATION: u32 = 11;
 
 // Tapes above 255: at the value.
@@ -29,13 +30,24 @@ fn tapes_error(work: &[u32], count: usize, at: usize, log: &mut [u32], errors: u
     }
     let v = entry::token_at(work, count, at + 2);
     if 255 < v.value {
-        return diag::append(log, errors, Diagnostic::error(TOO_LARGE, entry::place_of(v)));
+        return diag::append(
+            log,
+            errors,
+            Diagnostic::error(TOO_LARGE, entry::place_of(v)),
+        );
     }
     errors
 }
 
 // A name that is declared again by the token t, related to its first declaration, f.
-fn duplicate(work: &[u32], count: usize, f: usize, t: Token, log: &mut [u32], errors: usize) -> usize
+fn duplicate(
+    work: &[u32],
+    count: usize,
+    f: usize,
+    t: Token,
+    log: &mut [u32],
+    errors: usize,
+) -> usize
     requires { ⌜ (4 * count ≤ length (now work)) × (errors + 1 < 2 ^ 64) ⌝ }
     ensures { λ r. ⌜ logged (now (log .exit)) r ≡ appended (logged (now (log .entry)) errors) (withRelated (error 11 (placeOf t)) (placeOf (peek (rows count (now (work .entry))) f))) ⌝ }
 {
@@ -45,7 +57,14 @@ fn duplicate(work: &[u32], count: usize, f: usize, t: Token, log: &mut [u32], er
 }
 
 // One line's, and its declaration if it is the first of its name.
-fn declaration(work: &[u32], count: usize, at: usize, first: &mut [u32; 11], log: &mut [u32], errors: usize) -> usize
+fn declaration(
+    work: &[u32],
+    count: usize,
+    at: usize,
+    first: &mut [u32; 11],
+    log: &mut [u32],
+    errors: usize,
+) -> usize
     requires { ⌜ (4 * count ≤ length (now work)) × (at < count) × (count < 2 ^ 32) × (errors + 1 < 2 ^ 64) ⌝ }
     ensures { λ r. ⌜ (now (first .exit) ≡ declare count (now (first .entry)) (entryAt (rows count (now (work .entry))) at)) × (logged (now (log .exit)) r ≡ appendAll (logged (now (log .entry)) errors) (declarationError (rows count (now (work .entry))) (now (first .entry)) (entryAt (rows count (now (work .entry))) at))) ⌝ }
 {
@@ -66,7 +85,13 @@ fn declaration(work: &[u32], count: usize, at: usize, first: &mut [u32; 11], log
 }
 
 // Of all lines.
-pub fn declarations(work: &[u32], count: usize, first: &mut [u32; 11], log: &mut [u32], errors: usize) -> usize
+pub fn declarations(
+    work: &[u32],
+    count: usize,
+    first: &mut [u32; 11],
+    log: &mut [u32],
+    errors: usize,
+) -> usize
     requires { ⌜ (4 * count ≤ length (now work)) × (count < 2 ^ 32) × (errors + count < 2 ^ 64) ⌝ }
     ensures { λ r. ⌜ (now (first .exit) ≡ declarations count (now (first .entry)) (entries (rows count (now (work .entry))))) × (logged (now (log .exit)) r ≡ appendAll (logged (now (log .entry)) errors) (declarationErrors (rows count (now (work .entry))) (now (first .entry)) (entries (rows count (now (work .entry)))))) ⌝ }
 {

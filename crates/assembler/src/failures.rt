@@ -6,9 +6,9 @@ ghost use Rattle.diag.specs.Log.{logged, appendAll};
 ghost use Rattle.assembler.specs.Rows.{tokensIn, peek, rows};
 ghost use Rattle.assembler.specs.Entries.{entryAt, entries};
 ghost use Rattle.assembler.specs.Failures.{lineError, lineErrors};
+use crate::Token;
 use crate::entry;
 use diag::Diagnostic;
-use crate::Token;
 
 // One line's.
 fn line_error(t: Token, log: &mut [u32], errors: usize) -> usize

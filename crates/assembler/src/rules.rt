@@ -7,10 +7,11 @@ ghost use Rattle.diag.specs.declared.Span.{Span};
 ghost use Rattle.assembler.specs.Rows.{rows, peek, placeOf};
 ghost use Rattle.assembler.specs.Entries.{entryAt, entries};
 ghost use Rattle.assembler.specs.Rules.{counted, combinations, sameArity, verdict, after, ruleError, ruleErrors, ruleCount, noRules};
-use crate::entry;
-use diag::{Diagnostic, Span};
 use crate::Token;
+use crate::entry;
 use crate::kind;
+use diag::Diagnostic;
+use diag::Span;
 
 // The number of a rule's item.
 const TRANSITION: u32 = 11;
@@ -18,6 +19,7 @@ const TRANSITION: u32 = 11;
 pub const MAX_TRANSITIONS: usize = 262_144;
 // The codes of diagnostics.
 const TOO_LARGE: u32 = 9;
+
 const WRONG_ARITY: u32 = 10;
 
 // The sets that were read: the product of their sizes, cut off above the limit, and the members since the last began.
@@ -123,14 +125,14 @@ fn verdict_at(work: &[u32], count: usize, at: usize, n: usize) -> Verdict
     if t.kind != entry::ITEM + TRANSITION {
         return Verdict::Other;
     }
-    if !same_arity(entry::token_at(work, count, at + 1)) {
-        return Verdict::WrongArity;
+    if same_arity(entry::token_at(work, count, at + 1)) {
+        let total = n + combinations(work, count, at + 1);
+        if total <= MAX_TRANSITIONS {
+            return Verdict::Expands(total);
+        }
+        return Verdict::TooMany;
     }
-    let total = n + combinations(work, count, at + 1);
-    if total <= MAX_TRANSITIONS {
-        return Verdict::Expands(total);
-    }
-    Verdict::TooMany
+    Verdict::WrongArity
 }
 
 // The rules so far with one line more.

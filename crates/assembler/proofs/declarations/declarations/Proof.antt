@@ -10,7 +10,7 @@ use Rattle.assembler.proofs.declarations.declarations.Statement.{statem
 use Rattle.assembler.proofs.declarations.declarations.Tie as tie
 
 abbrev Inv-loop : tie.InvT-loop
-Inv-loop work count first₀ log₀ errors n₀ at₀ first log n at = 
+Inv-loop work count first₀ log₀ errors n₀ at₀ first log n at =
     Declaring count work (declarations count first₀ (entries (rows count work)))
     (appendAll (logged log₀ errors) (declarationErrors (rows count work) first₀ (entries (rows count work)))) errors log₀ first log n at
 
