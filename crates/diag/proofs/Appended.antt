@@ -1,16 +1,16 @@
 -- Laws of appending: diagnostics appended one after another to a cleared log stand at its front in their order, as many as it has records, with zeros behind.
-use mathlib.Core.Path.{_≡_, refl, sym, ap, subst, _∙_}
+use mathlib.Core.Path.{_≡_, refl, sym, ap, _∙_}
 use mathlib.Core.Bool.{Bool, true, false, cond}
 use mathlib.Core.List.{List, [], _∷_, _++_, append-nil, append-assoc}
-use Prim.Native.Nat.{ℕ, zero, suc, _+_, _-_, _*_, _/_, _≤_, _<_}
+use Prim.Native.Nat.{ℕ, suc, _+_, _-_, _*_, _/_, _≤_, _<_}
 use native.Mathlib.Omega.{arith}
 use lib.ListN.{length, take, drop, replicate, length-append, length-replicate, length-take}
 use native.Mathlib.Nat.{sub-zero}
-use lib.Seq.{take-nil, take-all, take-append-le, take-at, drop-append-add, length-take-le, sets, sets-eq, length-sets}
+use lib.Seq.{take-nil, take-all, take-append-le, take-at, drop-append-add, sets, sets-eq, length-sets}
 use lib.Dec.{leb}
-use borrow.Author.Tests.{le-leb, lt-leb, leb-true, leb-false}
+use borrow.Author.Tests.{leb-true, leb-false}
 use Rattle.diag.specs.declared.Diagnostic.{Diagnostic}
-use Rattle.diag.specs.Log.{words, flat, padded, logAfter, Log, logged, appended, appendAll}
+use Rattle.diag.specs.Log.{words, flat, padded, Log, logged, appended, appendAll}
 use Rattle.diag.proofs.Records.{length-flat, flat-append}
 use Rattle.diag.proofs.Cases.{by-test}
 

@@ -5,3 +5,7 @@ pub mod Appended
 pub mod Sorting
 pub mod Runs
 pub mod Scans
+pub mod Merges
+pub mod Pairs
+pub mod Logs
+pub mod Samples

@@ -1,14 +1,13 @@
 -- Laws of records as words: `flat` and `records` undo each other, and what a log holds after a list of diagnostics was appended.
 use mathlib.Core.Path.{_≡_, refl, sym, ap, _∙_}
-use mathlib.Core.List.{List, [], _∷_, _++_, append-nil, append-assoc}
-use Prim.Native.Nat.{ℕ, zero, suc, _+_, _-_, _*_, _/_, _≤_, _<_}
+use mathlib.Core.List.{List, [], _∷_, _++_, append-assoc}
+use Prim.Native.Nat.{ℕ, zero, suc, _+_, _-_, _*_, _≤_, _<_}
 use native.Mathlib.Nat.{le-of-suc-le-suc, sub-zero, add-assoc}
 use native.Mathlib.Omega.{arith}
-use lib.ListN.{length, getD, take, drop, replicate, length-append, length-replicate, length-drop, take-append-drop}
-use lib.Seq.{take-add, drop-drop, getD-drop, take-all, take-at, drop-at, drop-append-add, sets, sets-eq, length-sets}
-use borrow.Author.Tests.{le-leb, lt-leb}
+use lib.ListN.{length, getD, take, drop, length-drop, take-append-drop}
+use lib.Seq.{drop-drop, getD-drop}
 use Rattle.diag.specs.declared.Diagnostic.{Diagnostic}
-use Rattle.diag.specs.Log.{words, flat, recordFrom, records, padded, logAfter, Log, logged, appended, appendAll}
+use Rattle.diag.specs.Log.{words, flat, recordFrom, records, appended}
 
 -- ---- words of a list of diagnostics
 pub length-flat : (ds : List Diagnostic) → length (flat ds) ≡ 5 * length ds

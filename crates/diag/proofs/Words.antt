@@ -1,15 +1,15 @@
 -- Laws of the log's words: clearing, and records as words.
-use mathlib.Core.Path.{_≡_, refl, sym, ap, _∙_}
-use mathlib.Core.List.{List, [], _∷_, _++_, append-nil}
-use Prim.Native.Nat.{ℕ, zero, suc, _+_, _-_, _*_, _/_, _≤_, _<_}
+use mathlib.Core.Path.{_≡_, sym, ap, _∙_}
+use mathlib.Core.List.{List, [], _∷_, _++_, append-nil, append-assoc}
+use Prim.Native.Nat.{ℕ, suc, _+_, _-_, _*_, _/_, _≤_, _<_}
 use native.Mathlib.Omega.{arith}
 use borrow.Author.Fill.{fill-more}
 use borrow.Author.Tests.{le-leb, lt-leb}
-use lib.Dec.{leb}
-use lib.ListN.{length, set, drop, replicate, length-set, drop-of-length-le}
-use lib.Seq.{sets, length-sets}
+use native.Mathlib.Numerals.{add-one}
+use lib.ListN.{length, set, take, drop, getD, replicate, length-set, drop-of-length-le}
+use lib.Seq.{drop-cons, take-suc, length-take-le, set-at, sets, length-sets}
 use Rattle.diag.specs.declared.Diagnostic.{Diagnostic}
-use Rattle.diag.specs.Log.{words, Log, logged, appended}
+use Rattle.diag.specs.Log.{words, logged, appended}
 
 -- ---- clearing a row of words
 module _ (d l : List ℕ) (i : ℕ) (e : l ≡ replicate i 0 ++ drop i d) where
@@ -27,6 +27,26 @@ module _ (d l : List ℕ) (i : ℕ) (e : l ≡ replicate i 0 ++ drop i d) where
   cleared-all h g q =
       let z : i ≡ length d = omega arith in
       e ∙ ap (λ (r : List ℕ). replicate i 0 ++ r) (drop-of-length-le d {i = i} (omega arith)) ∙ append-nil (replicate i 0) ∙ ap (λ (k : ℕ). replicate k 0) z
+
+-- ---- copying the first n words of one row to the front of another
+module _ (s d l : List ℕ) (i n : ℕ) (e : l ≡ take i s ++ drop i d) where
+  -- one word more
+  pub copied-more : i < n → n ≤ length s → n ≤ length d → set l i (getD s i 0) ≡ take (i + 1) s ++ drop (i + 1) d
+  copied-more h g f =
+      let a : ℕ = getD s i 0 in
+      ap (λ (l : List ℕ). set l i a) (e ∙ ap (λ (r : List ℕ). take i s ++ r) (drop-cons d i 0 (omega arith)))
+      ∙ set-at (take i s) (getD d i 0) (drop (suc i) d) a i (length-take-le i s (omega arith))
+      ∙ sym (append-assoc (take i s) (a ∷ []) (drop (suc i) d)) ∙ ap (λ (r : List ℕ). r ++ drop (suc i) d) (sym (take-suc s i 0 (omega arith)))
+      ∙ ap (λ (k : ℕ). take k s ++ drop k d) (sym (add-one i))
+
+  pub copied-length : i < n → length l ≡ length d → (a : ℕ) → length (set l i a) ≡ length d
+  copied-length h q a = length-set l i a ∙ q
+
+  -- the end
+  pub copied-all : i ≤ n → n ≤ i → l ≡ take n s ++ drop n d
+  copied-all h g =
+      let z : i ≡ n = omega arith in
+      e ∙ ap (λ (k : ℕ). take k s ++ drop k d) z
 
 -- ---- appending a diagnostic
 module _ (w w′ v : List ℕ) (n : ℕ) (d : Diagnostic) (same : w′ ≡ v) where
