@@ -8,7 +8,8 @@ use mathlib.Core.Path.{_≡_, refl, ap, _∙_, sym}
 use borrow.Author.Tests.{leb-true}
 use lib.Dec.{eqb, leb}
 use lib.ListN.{length}
-use Rattle.lexer.specs.Tokens.{Token, Span, tokens}
+use Rattle.lexer.specs.declared.Span.{Span}
+use Rattle.lexer.specs.Tokens.{Token, tokens}
 use Rattle.language.specs.Machine.{Machine}
 use Rattle.language.specs.Lines.{RawTransition, Line, stateIn, symbolIn, stringIn, Ending, lineFeed, goesBy, remark, endingOf, lines, covering, readLines}
 use Rattle.language.specs.Assembly.{items, blankOf, RuleLine, bodyOf, combinations, Verdict, expands, wrongArity, tooMany, verdict, kept, expandAll}

@@ -6,7 +6,7 @@ use mathlib.Core.Option.{Option, none, some}
 use lib.Dec.{eqb, leb}
 use lib.ListN.{length}
 use Rattle.lexer.specs.Text.{same}
-use Rattle.lexer.specs.Tokens.{Span}
+use Rattle.lexer.specs.declared.Span.{Span}
 use Rattle.language.specs.Machine.{Located, Kind, Decoder, asWord, asUnary, asBinary, Dir, Action, Rule}
 use Rattle.language.specs.Lines.{
   RawSymbol,
