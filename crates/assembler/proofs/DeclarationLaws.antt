@@ -11,8 +11,9 @@ use lib.Seq.{getD-drop}
 use Rattle.diag.specs.declared.Span.{Span}
 use Rattle.diag.specs.declared.Diagnostic.{Diagnostic}
 use Rattle.diag.specs.Log.{error, withRelated, Log, logged, appended, appendAll}
-use Rattle.assembler.specs.declared.Token.{Token}
-use Rattle.assembler.specs.Rows.{rows, peek, ended, placeOf}
+use Rattle.parser.specs.declared.Token.{Token}
+use Rattle.parser.specs.Row.{peek, ended}
+use Rattle.assembler.specs.Rows.{rows, placeOf}
 use Rattle.assembler.specs.Entries.{Entry, entryAt, behind, entries}
 use Rattle.assembler.specs.Declarations.{declares, nameOf, declare, declarations, tapesError, declarationError, declarationErrors}
 use Rattle.assembler.proofs.Rows.{length-rows, entriesAt, entries-step, entries-end}

@@ -10,8 +10,9 @@ use lib.ListN.{length}
 use Rattle.diag.specs.declared.Span.{Span}
 use Rattle.diag.specs.declared.Diagnostic.{Diagnostic}
 use Rattle.diag.specs.Log.{error, Log, logged, appended, appendAll}
-use Rattle.assembler.specs.declared.Token.{Token}
-use Rattle.assembler.specs.Rows.{rows, peek, placeOf}
+use Rattle.parser.specs.declared.Token.{Token}
+use Rattle.parser.specs.Row.{peek}
+use Rattle.assembler.specs.Rows.{rows, placeOf}
 use Rattle.assembler.specs.Entries.{Entry, entryAt, behind}
 use Rattle.assembler.specs.Failures.{lineError, lineErrors}
 use Rattle.assembler.proofs.Rows.{length-rows}

@@ -8,37 +8,15 @@ use native.Mathlib.Nat.{add-assoc}
 use borrow.Author.Tests.{le-leb, lt-leb, eq-eqb, ne-eqb}
 use lib.ListN.{length, getD, take, drop, length-take, drop-of-length-le, List·getD-eq-default}
 use lib.Seq.{getD-take, drop-cons, drop-drop}
-use Rattle.assembler.specs.declared.Token.{Token}
-use Rattle.assembler.specs.Rows.{tokensIn, ended, peek, rows}
+use Rattle.parser.specs.declared.Token.{Token}
+use Rattle.parser.specs.Row.{tokensIn, ended, peek}
+use Rattle.assembler.specs.Rows.{rows}
+use Rattle.parser.proofs.Laws.{length-tokens, wordsAt, peek-words}
 use Rattle.assembler.specs.Entries.{Entry, entryAt, behind, entriesFrom, entries}
 
 -- ---- the row
-pub length-tokens : (w : List ℕ) → (4 * length (tokensIn w) ≤ length w) × (length w < 4 * length (tokensIn w) + 4)
-unfolding tokensIn
-length-tokens [] = (omega arith, omega arith)
-length-tokens (a ∷ []) = (omega arith, omega arith)
-length-tokens (a ∷ b ∷ []) = (omega arith, omega arith)
-length-tokens (a ∷ b ∷ c ∷ []) = (omega arith, omega arith)
-length-tokens (k ∷ s ∷ e ∷ v ∷ r) = let ih = length-tokens r in (omega arith, omega arith)
-
 pub length-rows : (n : ℕ) (w : List ℕ) → 4 * n ≤ length w → length (rows n w) ≡ n
 length-rows n w h = omega (arith, length-tokens w, length-take n (tokensIn w))
-
--- the words of a token
-abbrev pub wordsAt : List ℕ → ℕ → Token
-wordsAt w i = record { kind = getD w i 0; start = getD w (i + 1) 0; end = getD w (i + 2) 0; value = getD w (i + 3) 0 }
-
-peek-words : (w : List ℕ) (i : ℕ) → 4 * i + 3 < length w → wordsAt w (4 * i) ≡ peek (tokensIn w) i
-unfolding tokensIn
-peek-words [] i h = absurd (omega arith)
-peek-words (a ∷ []) i h = absurd (omega arith)
-peek-words (a ∷ b ∷ []) i h = absurd (omega arith)
-peek-words (a ∷ b ∷ c ∷ []) i h = absurd (omega arith)
-peek-words (k ∷ s ∷ e ∷ v ∷ r) zero h = refl
-peek-words (k ∷ s ∷ e ∷ v ∷ r) (suc i) h =
-    let q : (n : ℕ) → 4 * suc i + n ≡ suc (suc (suc (suc (4 * i + n)))) = λ n. omega arith in
-    let q₀ : 4 * suc i ≡ suc (suc (suc (suc (4 * i)))) = omega arith in
-    rw (q 1, q 2, q 3, q₀) (peek-words r i (omega arith))
 
 pub row-read : (n : ℕ) (w : List ℕ) (i : ℕ) → 4 * n ≤ length w → i < n → wordsAt w (4 * i) ≡ peek (rows n w) i
 row-read n w i h l = peek-words w i (omega arith) ∙ sym (getD-take n (tokensIn w) i ended l)

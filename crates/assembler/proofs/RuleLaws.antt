@@ -15,12 +15,13 @@ use lib.Seq.{getD-drop, drop-cons}
 use Rattle.diag.specs.declared.Span.{Span}
 use Rattle.diag.specs.declared.Diagnostic.{Diagnostic}
 use Rattle.diag.specs.Log.{error, Log, logged, appended, appendAll}
-use Rattle.assembler.specs.declared.Token.{Token}
+use Rattle.parser.specs.declared.Token.{Token}
 use Rattle.assembler.specs.declared.rules.Sets.{Sets}
 use Rattle.assembler.specs.declared.rules.Tally.{Tally}
 use Rattle.assembler.specs.declared.rules.Verdict.{Verdict}
 use Rattle.assembler.specs.declared.rules.Verdict.the-variants.{Other, WrongArity, TooMany, Expands}
-use Rattle.assembler.specs.Rows.{rows, peek, ended, placeOf}
+use Rattle.parser.specs.Row.{peek, ended}
+use Rattle.assembler.specs.Rows.{rows, placeOf}
 use Rattle.assembler.specs.Entries.{Entry, entryAt, behind, entries}
 use Rattle.assembler.specs.Rules.{counted, combinationsFrom, combinations, sameArity, verdict, after, ruleError, ruleErrors, ruleCount, noRules}
 use Rattle.assembler.proofs.Rows.{length-rows, entriesAt, entries-step, entries-end}

@@ -4,10 +4,11 @@ use mathlib.Core.Bool.{Bool, false, cond}
 use mathlib.Core.List.{List, [], _∷_, _++_}
 use lib.Dec.{eqb, leb, ltb}
 use lib.ListN.{length, getD, set, replicate}
-use Rattle.assembler.specs.declared.Token.{Token}
+use Rattle.parser.specs.declared.Token.{Token}
 use Rattle.diag.specs.declared.Diagnostic.{Diagnostic}
 use Rattle.diag.specs.Log.{error, withRelated}
-use Rattle.assembler.specs.Rows.{peek, placeOf}
+use Rattle.parser.specs.Row.{peek}
+use Rattle.assembler.specs.Rows.{placeOf}
 use Rattle.assembler.specs.Entries.{Entry}
 
 -- the items that declare one of the eleven names

@@ -5,8 +5,8 @@ use mathlib.Core.Bool.{cond}
 use mathlib.Core.List.{List, [], _∷_}
 use lib.Dec.{eqb, leb}
 use lib.ListN.{drop}
-use Rattle.assembler.specs.declared.Token.{Token}
-use Rattle.assembler.specs.Rows.{peek}
+use Rattle.parser.specs.declared.Token.{Token}
+use Rattle.parser.specs.Row.{peek}
 
 -- a line: the index of its first token, that token, and all tokens behind it
 pub record Entry : Type 0 where

@@ -3,11 +3,12 @@ use Prim.Native.Nat.{ℕ, _+_, _*_, min}
 use mathlib.Core.Bool.{Bool, true, false, cond}
 use mathlib.Core.List.{List, [], _∷_, _++_}
 use lib.Dec.{eqb, leb}
-use Rattle.assembler.specs.declared.Token.{Token}
+use Rattle.parser.specs.declared.Token.{Token}
 use Rattle.diag.specs.declared.Span.{Span}
 use Rattle.diag.specs.declared.Diagnostic.{Diagnostic}
 use Rattle.diag.specs.Log.{error}
-use Rattle.assembler.specs.Rows.{peek, placeOf}
+use Rattle.parser.specs.Row.{peek}
+use Rattle.assembler.specs.Rows.{placeOf}
 use Rattle.assembler.specs.Entries.{Entry}
 use Rattle.assembler.specs.declared.rules.Sets.{Sets}
 use Rattle.assembler.specs.declared.rules.Tally.{Tally}

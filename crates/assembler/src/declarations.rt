@@ -3,10 +3,11 @@ ghost use mathlib.Core.Path.{_≡_};
 ghost use Prim.Native.Nat.{_+_, _*_, _<_, _≤_, _^_};
 ghost use lib.ListN.{length};
 ghost use Rattle.diag.specs.Log.{error, withRelated, logged, appended, appendAll};
-ghost use Rattle.assembler.specs.Rows.{rows, peek, placeOf};
+ghost use Rattle.parser.specs.Row.{peek};
+ghost use Rattle.assembler.specs.Rows.{rows, placeOf};
 ghost use Rattle.assembler.specs.Entries.{entryAt, entries};
 ghost use Rattle.assembler.specs.Declarations.{declare, declarations, tapesError, declarationError, declarationErrors};
-use crate::Token;
+use parser::Token;
 use crate::entry;
 use diag::Diagnostic;
 

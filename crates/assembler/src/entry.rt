@@ -2,10 +2,11 @@
 ghost use mathlib.Core.Path.{_≡_};
 ghost use Prim.Native.Nat.{_+_, _*_, _≤_, _<_, _^_};
 ghost use lib.ListN.{length};
-ghost use Rattle.assembler.specs.Rows.{rows, peek, placeOf};
+ghost use Rattle.parser.specs.Row.{peek};
+ghost use Rattle.assembler.specs.Rows.{rows, placeOf};
 ghost use Rattle.assembler.specs.Entries.{behind};
-use crate::Token;
-use crate::kind;
+use parser::Token;
+use parser::kind;
 use diag::Span;
 
 // The kind of an item's entry: this and its number.

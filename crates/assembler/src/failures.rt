@@ -3,10 +3,11 @@ ghost use mathlib.Core.Path.{_≡_};
 ghost use Prim.Native.Nat.{_+_, _*_, _<_, _≤_, _^_};
 ghost use lib.ListN.{length};
 ghost use Rattle.diag.specs.Log.{logged, appendAll};
-ghost use Rattle.assembler.specs.Rows.{tokensIn, peek, rows};
+ghost use Rattle.parser.specs.Row.{tokensIn, peek};
+ghost use Rattle.assembler.specs.Rows.{rows};
 ghost use Rattle.assembler.specs.Entries.{entryAt, entries};
 ghost use Rattle.assembler.specs.Failures.{lineError, lineErrors};
-use crate::Token;
+use parser::Token;
 use crate::entry;
 use diag::Diagnostic;
 

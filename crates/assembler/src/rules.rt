@@ -4,12 +4,13 @@ ghost use Prim.Native.Nat.{_+_, _*_, _<_, _≤_, _^_};
 ghost use lib.ListN.{length, drop};
 ghost use Rattle.diag.specs.Log.{logged, appendAll};
 ghost use Rattle.diag.specs.declared.Span.{Span};
-ghost use Rattle.assembler.specs.Rows.{rows, peek, placeOf};
+ghost use Rattle.parser.specs.Row.{peek};
+ghost use Rattle.assembler.specs.Rows.{rows, placeOf};
 ghost use Rattle.assembler.specs.Entries.{entryAt, entries};
 ghost use Rattle.assembler.specs.Rules.{counted, combinations, sameArity, verdict, after, ruleError, ruleErrors, ruleCount, noRules};
-use crate::Token;
+use parser::Token;
 use crate::entry;
-use crate::kind;
+use parser::kind;
 use diag::Diagnostic;
 use diag::Span;
 
