@@ -1,6 +1,9 @@
 pub mod Tests
 pub mod Rows
+pub mod RowWords
 pub mod Passes
 pub mod FailureLaws
 pub mod DeclarationLaws
 pub mod RuleLaws
+pub mod Inside
+pub mod LineLaws

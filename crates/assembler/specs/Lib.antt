@@ -3,3 +3,4 @@ pub mod Entries
 pub mod Failures
 pub mod Declarations
 pub mod Rules
+pub mod Entered

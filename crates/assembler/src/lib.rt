@@ -2,4 +2,5 @@
 pub mod declarations;
 pub mod entry;
 pub mod failures;
+pub mod lines;
 pub mod rules;
