@@ -7,3 +7,4 @@ pub mod DeclarationLaws
 pub mod RuleLaws
 pub mod Inside
 pub mod LineLaws
+pub mod EnteredLaws
