@@ -8,3 +8,4 @@ pub mod RuleLaws
 pub mod Inside
 pub mod LineLaws
 pub mod EnteredLaws
+pub mod NameLaws
