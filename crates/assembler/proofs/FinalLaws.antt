@@ -16,7 +16,7 @@ use Rattle.diag.specs.declared.Span.{Span}
 use Rattle.diag.specs.declared.Diagnostic.{Diagnostic}
 use Rattle.diag.specs.Log.{error, withRelated, Log, logged, appended, appendAll}
 use Rattle.diag.proofs.Appended.{append-all-append, append-all-count, append-all-length}
-use Rattle.parser.specs.declared.Token.{Token}
+use Rattle.tokens.specs.declared.Token.{Token}
 use Rattle.parser.specs.Row.{peek, ended}
 use Rattle.assembler.specs.Rows.{rows, placeOf}
 use Rattle.assembler.specs.Names.{isWord}

@@ -19,7 +19,7 @@ use Rattle.diag.specs.Log.{error, withRelated, Log, appended, appendAll}
 use Rattle.lexer.specs.Text.{same}
 use Rattle.lexer.specs.Places.{part}
 use Rattle.lexer.proofs.Keywords.{same-true, same-refl}
-use Rattle.parser.specs.declared.Token.{Token}
+use Rattle.tokens.specs.declared.Token.{Token}
 use Rattle.parser.specs.Row.{tokensIn, peek, ended}
 use Rattle.assembler.specs.Rows.{rows, placeOf}
 use Rattle.assembler.specs.Names.{sameName, isWord, sameWord, firstEqual}

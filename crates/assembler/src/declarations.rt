@@ -9,7 +9,7 @@ ghost use Rattle.assembler.specs.Entries.{entryAt, entries};
 ghost use Rattle.assembler.specs.Declarations.{declare, declarations, tapesError, declarationError, declarationErrors};
 use crate::entry;
 use diag::Diagnostic;
-use parser::Token;
+use tokens::Token;
 
 // The number of names.
 pub const NAMES: usize = 11;
