@@ -12,3 +12,5 @@ pub mod EnteredLaws
 pub mod NameLaws
 pub mod MarkLaws
 pub mod FinalLaws
+pub mod Means
+pub mod RulesMean
