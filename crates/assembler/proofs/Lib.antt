@@ -14,3 +14,4 @@ pub mod MarkLaws
 pub mod FinalLaws
 pub mod Means
 pub mod RulesMean
+pub mod FinalsMean
