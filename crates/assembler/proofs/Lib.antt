@@ -15,3 +15,4 @@ pub mod FinalLaws
 pub mod Means
 pub mod RulesMean
 pub mod FinalsMean
+pub mod SetsMean
