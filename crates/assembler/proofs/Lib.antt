@@ -17,3 +17,4 @@ pub mod RulesMean
 pub mod FinalsMean
 pub mod SetsMean
 pub mod NamesMean
+pub mod EntriesMean
