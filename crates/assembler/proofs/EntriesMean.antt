@@ -8,8 +8,8 @@ use native.Mathlib.Omega.{arith}
 use native.Mathlib.Nat.{le-of-suc-le-suc, min-eq-left, min-eq-right}
 use borrow.Author.Tests.{lt-ltb, le-ltb, le-leb, lt-leb, eq-eqb, ne-eqb, eqb-true, leb-true, leb-false}
 use lib.Dec.{eqb, leb, ltb}
-use lib.ListN.{length, getD, take, drop, set, length-append, length-take, length-drop, length-map, List·getD-append, List·getD-map, List·getD-eq-default, drop-of-length-le}
-use lib.Seq.{drop-drop, getD-drop, getD-take, take-add, take-suc, drop-at, length-take-le, drop-cons}
+use lib.ListN.{length, getD, take, drop, set, length-append, length-take, length-drop, length-map, length-set, List·getD-append, List·getD-map, List·getD-eq-default, drop-of-length-le}
+use lib.Seq.{drop-drop, getD-drop, getD-take, take-add, take-suc, drop-at, length-take-le, drop-cons, getD-set-same, getD-set-other, ext-getD}
 use Rattle.diag.proofs.Cases.{by-test}
 use Rattle.lexer.specs.declared.Span.{Span as Place}
 use Rattle.lexer.specs.Tokens.{TokenKind, word, number, quoted, str, sign, comment, newline, unterminatedString, unterminatedQuote, Token as Lexed}
@@ -30,6 +30,7 @@ use Rattle.parser.specs.Meaning.{tokenOf, nothing, at, between, located, orElse
 use Rattle.parser.proofs.Lines.{line-at}
 use Rattle.parser.proofs.Views.{isSome, tok, sees-number}
 use Rattle.language.specs.Machine.{Located}
+use Rattle.language.specs.Assembly as A
 use Rattle.language.specs.Lines.{Item, Line, blankLine, commentLine, itemLine, errorLine, stateIn, numberIn, rows, lines, covering}
 use Rattle.assembler.specs.Rows.{placeOf}
 use Rattle.assembler.specs.Entries.{Entry, entryAt, behind, entriesFrom, entries}
@@ -40,6 +41,7 @@ use Rattle.assembler.specs.Records.{placeIn}
 use Rattle.assembler.proofs.Rows.{entriesAt, entries-step, entries-end}
 use Rattle.assembler.proofs.LineLaws.{parts-other}
 use Rattle.assembler.proofs.EnteredLaws.{enter-length, parts-first, entry-behind, enter-drop, entered-one}
+use Rattle.assembler.proofs.Braces.{balanced}
 use Rattle.assembler.proofs.Inside.{PartsIn, ItemIn, LineIn, line-in}
 use Rattle.assembler.proofs.Means.{number as itemOrder, TapesMean, TapesOf, ItemMeans, Means, AllMean, no-lines, one-line}
 use Rattle.assembler.proofs.RulesMean.{RuleMeans, RulesOf}
@@ -372,6 +374,221 @@ module _ (text : List ℕ) (E : List Token) (i : ℕ) (t : Lexed Place) (l′ : 
           let place : placeOf (tokenOf (at l 2)) ≡ placeIn (at l 2 .place) = token-place (at l 2) in
           record {
             large = ap (λ (w : Token). ltb 255 (w .value)) third ∙ number-large (at l 2) (sound-at 2 (omega (arith, short, b-is, inside .behind, a .2))) kind
-            ∙ ap (λ (r : ℕ). ltb 255 (orElse 0 (numberIn (at l r .kind)))) (sym (a .0));
+                ∙ ap (λ (r : ℕ). ltb 255 (orElse 0 (numberIn (at l r .kind)))) (sym (a .0));
             place = ap placeOf third ∙ place ∙ ap (λ (r : ℕ). placeIn (at l r .place)) (sym (a .0));
           }
+
+    -- of a rule the tokens behind δ and behind its state change too
+    module _ (rule : x .kind ≡ Transition) where
+      abbrev q : Parts
+      q = x .parts
+
+      abbrev base : List Token
+      base = itemEntry i x ∷ map tokenOf l′
+
+      rule-L : L ≡ set (set base 1 (countsOf q)) 3 (partsOf i q)
+      unfolding withParts
+      rule-L = L-is ∙ ap (λ (k : ItemKind). withParts k i (x .parts) (itemEntry i x ∷ map tokenOf l′)) rule
+
+      parts-in : PartsIn W (x .end) (x .parts)
+      parts-in = inside .parts rule
+
+      rule-counted : Counted l x
+      rule-counted = subst (λ (k : ItemKind). CountedAs l k x) rule counted
+
+      size-base : length base ≡ length l
+      size-base = ap suc (length-map l′ tokenOf)
+
+      long : 3 < b
+      long = omega (arith, b-is, inside .behind, parts-in .long)
+
+      counts-at : peek (drop (suc i) E) 0 ≡ countsOf q
+      counts-at =
+          rest-at 0 (omega (arith, long)) ∙ ap (λ (y : List Token). peek y 1) rule-L ∙ getD-set-other (set base 1 (countsOf q)) 3 1 (partsOf i q) ended (λ z. omega arith)
+          ∙ getD-set-same base 1 (countsOf q) ended (omega (arith, size-base, short, long))
+
+      parts-at : peek (drop (suc i) E) 2 ≡ partsOf i q
+      parts-at =
+          rest-at 2 (omega (arith, long)) ∙ ap (λ (y : List Token). peek y 3) rule-L
+          ∙ getD-set-same (set base 1 (countsOf q)) 3 (partsOf i q) ended (omega (arith, length-set base 1 (countsOf q), size-base, short, long))
+
+      beyond : (r : ℕ) → 4 + r ≤ b → peek E (i + (4 + r)) ≡ peek W (4 + r)
+      beyond r h =
+          row-at (4 + r) h ∙ ap (λ (y : List Token). peek y (4 + r)) rule-L ∙ getD-set-other (set base 1 (countsOf q)) 3 (4 + r) (partsOf i q) ended (λ z. omega arith)
+          ∙ getD-set-other base 1 (4 + r) (countsOf q) ended (λ z. omega arith) ∙ behind-first r
+        where
+          behind-first : (r : ℕ) → peek base (4 + r) ≡ peek W (4 + r)
+          behind-first r = let z : 4 + r ≡ suc (3 + r) = omega arith in ap (peek base) z ∙ ap (peek W) (sym z)
+
+      -- what it reads
+      abbrev m : ℕ
+      m = q .to - 4
+
+      read-size : length (readPart entry) ≡ m
+      unfolding readPart
+      read-size =
+          let e : length (drop i E) ≡ length E - i = length-drop i E in
+          let s : length (drop i E) ≡ suc b + length R = ap length split ∙ length-append (take (suc b) L) R ∙ ap (λ (n : ℕ). n + length R) size-line in
+          let p : peek (drop (suc i) E) 2 .start - (i + 4) ≡ m = ap (λ (w : Token). w .start - (i + 4)) parts-at ∙ omega (arith, parts-in .next .0) in
+          ap (λ (n : ℕ). length (take n (drop 3 (drop (suc i) E)))) p ∙ length-take m (drop 3 (drop (suc i) E))
+          ∙ min-eq-left {n = m} {m = length (drop 3 (drop (suc i) E))} (omega (arith, length-drop 3 (drop (suc i) E), length-drop (suc i) E, b-is, inside .behind, parts-in .next .1))
+
+      read-is : readPart entry ≡ take m (drop 4 W)
+      unfolding readPart
+      read-is =
+          let p : peek (drop (suc i) E) 2 .start - (i + 4) ≡ m = ap (λ (w : Token). w .start - (i + 4)) parts-at ∙ omega (arith, parts-in .next .0) in
+          let size-W : length (take m (drop 4 W)) ≡ m = length-take m (drop 4 W) ∙ min-eq-left {n = m} {m = length (drop 4 W)} (omega (arith, length-drop 4 W, parts-in .to)) in
+          ext-getD ended (readPart entry) (take m (drop 4 W)) (read-size ∙ sym size-W) λ r h.
+          let low : r < m = omega (arith, read-size) in
+          let z : suc i + (3 + r) ≡ i + (4 + r) = omega arith in
+          ap (λ (n : ℕ). getD (take n (drop 3 (drop (suc i) E))) r ended) p ∙ getD-take m (drop 3 (drop (suc i) E)) r ended low ∙ getD-drop 3 (drop (suc i) E) r ended
+          ∙ getD-drop (suc i) E (3 + r) ended ∙ ap (peek E) z ∙ beyond r (omega (arith, b-is, inside .behind, parts-in .next .1))
+          ∙ sym (getD-take m (drop 4 W) r ended low ∙ getD-drop 4 W r ended)
+
+      rule-in : RuleMeans entry (ruleOf l q (x .end))
+      unfolding ruleOf
+      rule-in =
+          let c = rule-counted in
+          let tokens-are : take m (drop 4 W) ≡ map tokenOf (between l 4 (q .to)) = ap (take m) (drop-map 4 l) ∙ take-map m (drop 4 l) in
+          let even : balanced false (map tokenOf (between l 4 (q .to))) ≡ true = ap (balanced false) (sym tokens-are) ∙ parts-in .even in
+          let ok : AllSound (between l 4 (q .to)) = all-sound (between l 4 (q .to)) (all-take Sound m (drop 4 l) (all-drop Sound 4 l (sound-all l sound))) in
+          record {
+            reads = ap (λ (w : Token). w .start) counts-at ∙ c .reads;
+            writes = ap (λ (w : Token). w .end) counts-at ∙ c .writes;
+            dirs = ap (λ (w : Token). w .value) counts-at ∙ c .dirs;
+            product =
+                ap combinations (read-is ∙ tokens-are) ∙ sets-mean (between l 4 (q .to)) ok even
+                ∙ ap (λ (n : ℕ). min (A.combinations (readSets false (between l n (q .to)))) 262145) (sym (parts-in .read));
+          }
+
+    -- ---- what the item's entry means
+    abbrev meant : Item Place
+    meant = itemMeans l (x .kind) (x .value) (x .end) (x .parts)
+
+    order-is : (k : ItemKind) → itemOrder (itemMeans l k (x .value) (x .end) (x .parts)) ≡ itemNumber k
+    unfolding itemMeans itemOrder itemNumber
+    order-is Machine = refl
+    order-is Kind = refl
+    order-is Input = refl
+    order-is Output = refl
+    order-is Tapes = refl
+    order-is States = refl
+    order-is InputAlphabet = refl
+    order-is TapeAlphabet = refl
+    order-is Blank = refl
+    order-is Start = refl
+    order-is Final = refl
+    order-is Transition = refl
+
+    plain-kind : (k : ItemKind) → x .kind ≡ k → (itemNumber k ≡ 11 → ⊥) → itemNumber (x .kind) ≡ 11 → ⊥
+    plain-kind k e h z = h (ap itemNumber (sym e) ∙ z)
+
+    tapes-of : (k : ItemKind) → x .kind ≡ k → TapesOf entry (itemMeans l k (x .value) (x .end) (x .parts))
+    unfolding itemMeans itemNumber
+    tapes-of Machine e = tt
+    tapes-of Kind e = tt
+    tapes-of Input e = tt
+    tapes-of Output e = tt
+    tapes-of Tapes e = tapes-in (plain-kind Tapes e (λ z. omega arith)) e
+    tapes-of States e = tt
+    tapes-of InputAlphabet e = tt
+    tapes-of TapeAlphabet e = tt
+    tapes-of Blank e = tt
+    tapes-of Start e = tt
+    tapes-of Final e = tt
+    tapes-of Transition e = tt
+
+    names-of : (k : ItemKind) → x .kind ≡ k → NamesIn text E entry (itemMeans l k (x .value) (x .end) (x .parts))
+    unfolding itemMeans itemNumber leadOf
+    names-of Machine e = tt
+    names-of Kind e = tt
+    names-of Input e = tt
+    names-of Output e = tt
+    names-of Tapes e = tt
+    names-of States e = names-in (plain-kind States e (λ z. omega arith)) (ap leadOf e)
+    names-of InputAlphabet e = tt
+    names-of TapeAlphabet e = tt
+    names-of Blank e = tt
+    names-of Start e = tt
+    names-of Final e = names-in (plain-kind Final e (λ z. omega arith)) (ap leadOf e)
+    names-of Transition e = tt
+
+    rules-of : (k : ItemKind) → x .kind ≡ k → RulesOf entry (itemMeans l k (x .value) (x .end) (x .parts))
+    unfolding itemMeans
+    rules-of Machine e = tt
+    rules-of Kind e = tt
+    rules-of Input e = tt
+    rules-of Output e = tt
+    rules-of Tapes e = tt
+    rules-of States e = tt
+    rules-of InputAlphabet e = tt
+    rules-of TapeAlphabet e = tt
+    rules-of Blank e = tt
+    rules-of Start e = tt
+    rules-of Final e = tt
+    rules-of Transition e = rule-in e
+
+    item-means : ItemMeans (λ e k. RulesOf e k × NamesIn text E e k) entry meant (x .span)
+    unfolding itemEntry
+    item-means = record {
+      kind = ap (λ (w : Token). w .kind) entry-is ∙ ap (λ (n : ℕ). 16 + n) (sym (order-is (x .kind)));
+      place = ap placeOf entry-is;
+      tapes = tapes-of (x .kind) refl;
+      more = (rules-of (x .kind) refl, names-of (x .kind) refl);
+    }
+
+  -- ---- what the line's entry means
+  line-means : (y : Parsed) → line W 0 ≡ y → Means (λ e k. RulesOf e k × NamesIn text E e k) entry (lineMeans l y)
+  unfolding lineMeans enterLine enterAs failedEntry
+  line-means Empty e =
+      let h : eqb (peek W 0 .kind) 13 ≡ true = subst (LineIn W) e (line-in W) in
+      let w : peek E i ≡ tokenOf t = first-is ∙ ap (λ (y : Parsed). peek (enterAs y i W) 0) e in
+      omega (arith, ap (λ (w : Token). w .kind) w, eqb-true (tokenOf t .kind) 13 h)
+  line-means (Comment k) e =
+      let h : (eqb (peek W 0 .kind) 12 ≡ true) × (eqb (peek W 1 .kind) 13 ≡ true) = subst (LineIn W) e (line-in W) in
+      let w : peek E i ≡ tokenOf t = first-is ∙ ap (λ (y : Parsed). peek (enterAs y i W) 0) e in
+      omega (arith, ap (λ (w : Token). w .kind) w, eqb-true (tokenOf t .kind) 12 (h .0))
+  line-means (Read x) e = item-means x e
+  line-means (Error c s) e =
+      let w : peek E i ≡ failedEntry i c s (lineEnd W 0) = first-is ∙ ap (λ (y : Parsed). peek (enterAs y i W) 0) e in
+      (ap (λ (w : Token). w .kind) w, ap placeOf w)
+
+-- ---- all lines
+nothing-left : (i : ℕ) → entriesFrom 0 i [] ≡ []
+unfolding entriesFrom
+nothing-left i = refl
+
+module _ (text : List ℕ) (E : List Token) where
+  abbrev Asked : Entry → Item Place → Type 0
+  Asked e k = RulesOf e k × NamesIn text E e k
+
+  -- the lines of the tokens l, from the index i on, where there are no more than n tokens
+  abbrev Mean : ℕ → Type 0
+  Mean n = (i : ℕ) (l : Tokens) → length l ≤ n → AllLexed l → All (Placed text) l → drop i E ≡ enteredFrom [] i (map tokenOf l) → AllMean Asked E (entriesAt E i) (lines covering l)
+
+  none-mean : (i : ℕ) → drop i E ≡ enteredFrom [] i [] → AllMean Asked E (entriesAt E i) (lines covering [])
+  unfolding lines rows enteredFrom
+  none-mean i d = subst (λ (es : List Entry). AllMean Asked E es []) (sym (ap (entriesFrom 0 i) d ∙ nothing-left i)) no-lines
+
+  more-mean : (n : ℕ) → Mean n → Mean (suc n)
+  more-mean n ih i [] h a p d = none-mean i d
+  more-mean n ih i (t ∷ l) h a p d =
+      let k : ℕ = suc (b text E i t l a p d) in
+      let few : length (drop k (t ∷ l)) ≤ n = omega (arith, length-drop k (t ∷ l)) in
+      let rest = ih (i + k) (drop k (t ∷ l)) few (lexed-drop k (t ∷ l) a) (all-drop (Placed text) k (t ∷ l) p) (next-row text E i t l a p d) in
+      let es : entriesAt E i ≡ entryAt E i ∷ entriesAt E (i + k) = entries-step E i (low text E i t l a p d) ∙ ap (λ (j : ℕ). entryAt E i ∷ entriesAt E j) (next-at text E i t l a p d) in
+      rw (es, next-lines text E i t l a p d) (one-line (low text E i t l a p d) refl (line-means text E i t l a p d (line (map tokenOf (t ∷ l)) 0) refl) rest)
+
+  few-mean : (i : ℕ) (l : Tokens) → length l ≤ 0 → drop i E ≡ enteredFrom [] i (map tokenOf l) → AllMean Asked E (entriesAt E i) (lines covering l)
+  few-mean i [] h d = none-mean i d
+  few-mean i (t ∷ l) h d = absurd (omega arith)
+
+  from-mean : (n : ℕ) → Mean n
+  from-mean zero = λ i l h a p d. few-mean i l h d
+  from-mean (suc n) = more-mean n (from-mean n)
+
+-- the entries of the row of a text's tokens
+pub entries-mean : (text : List ℕ) (l : Tokens) → AllLexed l → All (Placed text) l
+    → AllMean (λ e k. RulesOf e k × NamesIn text (entered (map tokenOf l)) e k) (entered (map tokenOf l)) (entries (entered (map tokenOf l))) (lines covering l)
+unfolding entries entered
+entries-mean text l a p = from-mean text (enteredFrom [] 0 (map tokenOf l)) (length l) 0 l (omega arith) a p refl
