@@ -261,6 +261,7 @@ pub record PartsIn (ts : List Token) (j : ℕ) (q : Parts) : Type 0 where
   pub even : balanced false (between ts 4 (q .to)) ≡ true
   pub reads : q .reads ≤ length ts
   pub to : q .to ≤ length ts
+  pub next : (4 < q .to) × (q .to ≤ j)
   pub write : q .write ≤ length ts
   pub writes : q .writes ≤ length ts
   pub dir : q .dir ≤ length ts
@@ -352,6 +353,7 @@ right-gives l ts i h =
       even = balanced-sign ts 4 i 4 (omega (arith, h .long)) (omega arith) (a₁ .1) (λ z. omega arith) (λ z. omega arith) (h .even);
       reads = h .reads;
       to = omega arith;
+      next = (omega (arith, h .long), omega arith);
       write = omega arith;
       writes = omega arith;
       dir = omega arith;

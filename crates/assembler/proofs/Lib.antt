@@ -16,3 +16,5 @@ pub mod Means
 pub mod RulesMean
 pub mod FinalsMean
 pub mod SetsMean
+pub mod NamesMean
+pub mod EntriesMean
