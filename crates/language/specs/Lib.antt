@@ -1,2 +1,10 @@
 pub mod Machine
 pub mod Content
+pub mod Parser
+pub mod Lines
+pub mod Assembly
+pub mod Infer
+pub mod Plain
+pub mod Layout
+pub mod Outcome
+pub mod Agreement

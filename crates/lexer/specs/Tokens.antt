@@ -1,7 +1,7 @@
 -- Paper 01, "lexer.rs": a text, as code points, becomes tokens.
 use Prim.Native.Nat.{ℕ, zero, suc, _+_, _-_}
 use mathlib.Core.Bool.{Bool, true, false, _&&_, _||_, not}
-use mathlib.Core.List.{List, [], _∷_}
+use mathlib.Core.List.{List, [], _∷_, _++_}
 use mathlib.Core.Option.{Option, none, some}
 use lib.Dec.{eqb}
 use lib.ListN.{length, take}
@@ -152,6 +152,11 @@ inside true (e ∷ r) = elim (escape e) [
   | some v ↦ put v (pass (inside false r))
   | none ↦ elim (eqb e 10) [ true ↦ unclosed | false ↦ put 0x5C (put e (pass (inside false r))) ]
 ]
+
+-- what the characters between a string's quotes stand for
+unfoldable pub unescape : List ℕ → List ℕ
+unfolding inside
+unescape cs = elim (inside false (cs ++ 0x22 ∷ [])) [ closed v n ↦ v | unclosed ↦ [] ]
 
 -- what stands at the front of a text: white space; or a token, with its bytes, the bytes before and behind its text, and how many characters follow its first
 pub data Step : Type 0 where
