@@ -38,7 +38,7 @@ decoderOf (M.asBinary o) = Binary (orderOf o)
 
 -- the flags
 abbrev pub declaredOf : M.Declared → Declared
-declaredOf d = record { states = d .states; input-alphabet = d .inputAlphabet; tape-alphabet = d .tapeAlphabet; start = d .start; blank = d .blank }
+declaredOf d = record { states = d .states; «input_alphabet» = d .inputAlphabet; «tape_alphabet» = d .tapeAlphabet; start = d .start; blank = d .blank }
 
 -- the section counts
 abbrev pub countsOf : L.Counts → Counts
