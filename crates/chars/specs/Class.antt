@@ -1,12 +1,13 @@
 -- Paper 01, "Characters": the admitted set, and the classes of code points.
 use Prim.Native.Nat.{ℕ, _+_}
 use mathlib.Core.List.{List, [], _∷_}
-use mathlib.Core.Bool.{Bool, true, false, cond}
-use mathlib.Core.Option.{Option, none, some}
+use mathlib.Core.Bool.{true, false}
 use Rattle.chars.specs.Ranges.{Range, to, Entry, rows, lookup, within}
 use Rattle.chars.specs.Utf8.{size, decode}
 use Rattle.chars.specs.declared.Class.{Class}
 use Rattle.chars.specs.declared.Class.the-variants.{Letter, Digit, Space, Sign, Other}
+use Rattle.chars.specs.declared.Outside.{Outside}
+use Rattle.chars.specs.declared.Outside.the-variants.{At, Nowhere}
 
 -- the set of characters that a text may have
 abbrev pub admitted : List Range
@@ -31,21 +32,22 @@ spaces = to 0x09 0x0D ∷ to 0x20 0x20 ∷ to 0x85 0x85 ∷ to 0xA0 0xA0 ∷ []
 abbrev pub signs : List Range
 signs = to 0x28 0x2A ∷ to 0x2C 0x2C ∷ to 0x3D 0x3D ∷ to 0x7B 0x7B ∷ to 0x7D 0x7D ∷ []
 
--- the class of a code point
+-- the ranges of all classes
 abbrev pub classes : List (Entry Class)
 classes = rows Letter letters (rows Digit digits (rows Space spaces (rows Sign signs [])))
 
+-- the class of a code point
 unfoldable pub classOf : ℕ → Class
 unfolding lookup
 classOf c = lookup classes Other c
 
 -- the place of the first code point outside the set, where the list stands at the place o
-unfoldable pub outsideFrom : ℕ → List ℕ → Option ℕ
+unfoldable pub outsideFrom : ℕ → List ℕ → Outside
 unfolding within size
-outsideFrom o [] = none
-outsideFrom o (c ∷ cs) = cond (within admitted c) (outsideFrom (o + size c) cs) (some o)
+outsideFrom o [] = Nowhere
+outsideFrom o (c ∷ cs) = elim (within admitted c) [ true ↦ outsideFrom (o + size c) cs | false ↦ At o ]
 
--- the place of a text's first character outside the set (paper 01: refusal 4's place)
-unfoldable pub firstOutside : List ℕ → Option ℕ
+-- the place of the first character outside the set in a text's longest UTF-8 beginning (paper 01: refusal 4's place)
+unfoldable pub firstOutside : List ℕ → Outside
 unfolding outsideFrom decode
 firstOutside t = outsideFrom 0 (decode t)

@@ -1,7 +1,7 @@
 -- Sets of code points as lists of ranges.
 use Prim.Native.Nat.{ℕ}
 use mathlib.Core.List.{List, [], _∷_}
-use mathlib.Core.Bool.{Bool, true, false, cond, _&&_, _||_}
+use mathlib.Core.Bool.{Bool, true, false, cond, _&&_}
 use lib.Dec.{leb}
 
 -- the code points from the first to the last, both included
@@ -24,5 +24,5 @@ lookup (row lo hi k ∷ r) z c = cond (leb lo c && leb c hi) k (lookup r z c)
 
 -- c stands in one of the ranges
 unfoldable pub within : List Range → ℕ → Bool
-within [] c = false
-within (to lo hi ∷ r) c = (leb lo c && leb c hi) || within r c
+unfolding lookup
+within rs c = lookup (rows true rs []) false c

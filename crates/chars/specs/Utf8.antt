@@ -1,13 +1,13 @@
 -- UTF-8 (RFC 3629), over lists of bytes and lists of code points.
 use Prim.Native.Nat.{ℕ, zero, suc, _+_, _-_, _*_, _/_, _%_}
 use mathlib.Core.List.{List, [], _∷_, _++_}
-use mathlib.Core.Bool.{Bool, true, false, cond, _&&_, _||_}
+use mathlib.Core.Bool.{Bool, true, cond, _&&_, _||_}
 use lib.ListN.{getD}
-use lib.Dec.{ltb, leb}
+use lib.Dec.{ltb, leb, eqb}
 use Rattle.chars.specs.declared.Decoded.{Decoded}
 use Rattle.chars.specs.declared.Decoded.the-variants.{Char, Invalid, End}
 
--- a Unicode scalar value: a code point that is no surrogate
+-- a Unicode scalar value: a code point, at most 10FFFF, that is no surrogate
 unfoldable pub scalar : ℕ → Bool
 scalar c = ltb c 0xD800 || (leb 0xE000 c && ltb c 0x110000)
 
@@ -21,7 +21,7 @@ scalars (c ∷ cs) = scalar c && scalars cs
 unfoldable pub size : ℕ → ℕ
 size c = cond (ltb c 0x80) 1 (cond (ltb c 0x800) 2 (cond (ltb c 0x10000) 3 4))
 
--- and a list of them
+-- how many bytes a list of them takes
 unfoldable pub sizes : List ℕ → ℕ
 unfolding size
 sizes [] = 0
@@ -41,9 +41,9 @@ unfolding encodeOne
 encode [] = []
 encode (c ∷ cs) = encodeOne c ++ encode cs
 
--- what a list of bytes begins with: a character, by its code point and how many bytes follow its first; no character; nothing
+-- what a list of bytes begins with: a character, by its code point; no character; nothing
 pub data Front : Type 0 where
-  one : ℕ → ℕ → Front
+  one : ℕ → Front
   bad : Front
   none : Front
 
@@ -51,23 +51,22 @@ pub data Front : Type 0 where
 unfoldable pub tailOf : ℕ → ℕ
 tailOf b = cond (ltb b 0x80) 64 (cond (ltb b 0xC0) (b - 0x80) 64)
 
--- what a first byte makes with the bits of the next three: overlong forms, surrogates and what is above 10FFFF are no characters
+-- a form of n bytes with the value c is a character where c is a scalar value of that size: an overlong form, a surrogate, a value above 10FFFF is none
+unfoldable pub form : ℕ → ℕ → Front
+unfolding scalar size
+form n c = cond (scalar c && eqb (size c) n) (one c) bad
+
+-- what a first byte makes with the bits of the next three
 unfoldable pub lead : ℕ → ℕ → ℕ → ℕ → Front
+unfolding form
 lead a b c d =
-    let three : ℕ = (a - 0xE0) * 4096 + b * 64 + c in
-    let four : ℕ = (a - 0xF0) * 262144 + b * 4096 + c * 64 + d in
-    cond (ltb a 0x80) (one a 0)
-    (cond (ltb a 0xC2) bad
+    cond (ltb a 0x80) (one a)
+    (cond (ltb a 0xC0) bad
     (cond (leb 64 b) bad
-    (cond (ltb a 0xE0) (one ((a - 0xC0) * 64 + b) 1)
+    (cond (ltb a 0xE0) (form 2 ((a - 0xC0) * 64 + b))
     (cond (leb 64 c) bad
-    (cond (ltb a 0xF0)
-    (cond (ltb three 0x800) bad
-    (cond (ltb three 0xD800) (one three 2)
-    (cond (ltb three 0xE000) bad (one three 2))))
-    (cond (leb 64 d) bad
-    (cond (ltb four 0x10000) bad
-    (cond (ltb four 0x110000) (one four 3) bad))))))))
+    (cond (ltb a 0xF0) (form 3 ((a - 0xE0) * 4096 + b * 64 + c))
+    (cond (leb 64 d) bad (form 4 ((a - 0xF0) * 262144 + b * 4096 + c * 64 + d))))))))
 
 -- what a list of bytes begins with; a byte past its end counts as 0, which is no continuation byte
 unfoldable pub front : List ℕ → Front
@@ -75,9 +74,10 @@ unfolding lead tailOf
 front [] = none
 front (a ∷ r) = lead a (tailOf (getD r 0 0)) (tailOf (getD r 1 0)) (tailOf (getD r 2 0))
 
--- the code point of a front before those of the rest; `next k` are those behind the next k bytes
+-- the code point of a front before those of the rest; `next k` are those behind the k bytes that follow the first
 unfoldable pub pointsOn : Front → (ℕ → List ℕ) → List ℕ
-pointsOn (one c k) next = c ∷ next k
+unfolding size
+pointsOn (one c) next = c ∷ next (size c - 1)
 pointsOn bad next = []
 pointsOn none next = []
 
@@ -98,8 +98,9 @@ unfoldable pub validUpTo : List ℕ → ℕ
 unfolding decode sizes
 validUpTo t = sizes (decode t)
 
--- what stands at a place, as the code answers it
-abbrev pub decodedAt : ℕ → Front → Decoded
-decodedAt at (one c k) = Char c (at + suc k)
+-- what stands at a place, as the code answers it: the character and the place after it
+unfoldable pub decodedAt : ℕ → Front → Decoded
+unfolding size
+decodedAt at (one c) = Char c (at + size c)
 decodedAt at bad = Invalid
 decodedAt at none = End

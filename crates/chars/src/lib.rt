@@ -1,10 +1,22 @@
-// Characters of a text: UTF-8 (RFC 3629) and the classes of code points.
+// Characters of a text: UTF-8 (RFC 3629), the set that a description may use, and the classes of code points.
+ghost use mathlib.Core.Path.{_≡_};
+ghost use Prim.Native.Nat.{_+_, _<_, _≤_};
+ghost use lib.ListN.{getD, drop};
+ghost use Rattle.chars.specs.Utf8.{scalar, size, tailOf, form, lead, front, decodedAt, validUpTo};
+ghost use Rattle.chars.specs.Ranges.{within};
+ghost use Rattle.chars.specs.Class.{admitted, firstOutside, classOf};
 
 // The character at a place: its code point and the place after it; no character; the text's end.
 pub enum Decoded {
     Char(u32, usize),
     Invalid,
     End,
+}
+
+// The place of the first character outside the admitted set, if there is one.
+pub enum Outside {
+    At(usize),
+    Nowhere,
 }
 
 // The class of a code point, as the lexer asks for it.
@@ -14,4 +26,194 @@ pub enum Class {
     Space,
     Sign,
     Other,
+}
+
+// How many bytes a code point takes.
+pub fn len_utf8(c: u32) -> usize
+    ensures { λ r. ⌜ r ≡ size c ⌝ }
+{
+    if c < 0x80 {
+        return 1;
+    }
+    if c < 0x800 {
+        return 2;
+    }
+    if c < 0x10000 {
+        return 3;
+    }
+    4
+}
+
+// A byte as a number to count with.
+fn wide(b: u8) -> u32
+    ensures { λ r. ⌜ r ≡ b ⌝ }
+{
+    b as u32
+}
+
+// The byte at a place, 0 past the end.
+fn byte(text: &[u8], at: usize) -> u8
+    ensures { λ r. ⌜ r ≡ getD (now (text .entry)) at 0 ⌝ }
+{
+    if at < text.len() { text[at] } else { 0 }
+}
+
+// The six bits of a continuation byte, 64 for any other byte.
+fn tail(b: u8) -> u32
+    ensures { λ r. ⌜ r ≡ tailOf b ⌝ }
+{
+    if b < 0x80 {
+        return 64;
+    }
+    if b < 0xC0 {
+        return wide(b - 0x80);
+    }
+    64
+}
+
+// Whether a code point is a scalar value: no surrogate, and at most 10FFFF.
+fn is_scalar(c: u32) -> bool
+    ensures { λ r. ⌜ r ≡ scalar c ⌝ }
+{
+    if c < 0xD800 {
+        return true;
+    }
+    if c < 0xE000 {
+        return false;
+    }
+    c < 0x110000
+}
+
+// The character of a form of n bytes at a place, by the form's value.
+fn formed(at: usize, n: usize, code: u32) -> Decoded
+    requires { ⌜ at + n < 18446744073709551616 ⌝ }
+    ensures { λ r. ⌜ r ≡ decodedAt at (form n code) ⌝ }
+{
+    if is_scalar(code) {
+        if len_utf8(code) == n {
+            return Decoded::Char(code, at + n);
+        }
+    }
+    Decoded::Invalid
+}
+
+// The character at a place, of its first byte, which is above ASCII, and the bits of the three bytes after it.
+fn character(at: usize, a: u32, b: u32, c: u32, d: u32) -> Decoded
+    requires { ⌜ (at + 4 < 18446744073709551616) × (0x80 ≤ a) × (a < 256) ⌝ }
+    ensures { λ r. ⌜ r ≡ decodedAt at (lead a b c d) ⌝ }
+{
+    if a < 0xC0 {
+        return Decoded::Invalid;
+    }
+    if 64 <= b {
+        return Decoded::Invalid;
+    }
+    if a < 0xE0 {
+        return formed(at, 2, (a - 0xC0) * 64 + b);
+    }
+    if 64 <= c {
+        return Decoded::Invalid;
+    }
+    if a < 0xF0 {
+        return formed(at, 3, (a - 0xE0) * 4096 + b * 64 + c);
+    }
+    if 64 <= d {
+        return Decoded::Invalid;
+    }
+    formed(at, 4, (a - 0xF0) * 262144 + b * 4096 + c * 64 + d)
+}
+
+// The character at a place of a text.
+pub fn char_at(text: &[u8], at: usize) -> Decoded
+    ensures { λ r. ⌜ r ≡ decodedAt at (front (drop at (now (text .entry)))) ⌝ }
+{
+    if text.len() <= at {
+        return Decoded::End;
+    }
+    let a = wide(byte(text, at));
+    if a < 0x80 {
+        return Decoded::Char(a, at + 1);
+    }
+    let b = tail(byte(text, at + 1));
+    let c = tail(byte(text, at + 2));
+    let d = tail(byte(text, at + 3));
+    character(at, a, b, c, d)
+}
+
+// The length of the longest UTF-8 beginning.
+pub fn valid_up_to(text: &[u8]) -> usize
+    ensures { λ r. ⌜ r ≡ validUpTo (now (text .entry)) ⌝ }
+{
+    let mut i = 0;
+    loop {
+        let d = char_at(text, i);
+        match d {
+            Decoded::Char(_, next) => {
+                i = next;
+            }
+            Decoded::Invalid => return i,
+            Decoded::End => return i,
+        }
+    }
+}
+
+// Whether a code point is in the set that a text may use.
+pub fn is_admitted(c: u32) -> bool
+    ensures { λ r. ⌜ r ≡ within admitted c ⌝ }
+{
+    match c {
+        0x0000..=0x02C1 | 0x0370..=0x0481 | 0x2190..=0x243F => true,
+        _ => false,
+    }
+}
+
+// The first character outside that set, in the longest UTF-8 beginning.
+pub fn first_outside(text: &[u8]) -> Outside
+    ensures { λ r. ⌜ r ≡ firstOutside (now (text .entry)) ⌝ }
+{
+    let mut i = 0;
+    loop {
+        let d = char_at(text, i);
+        match d {
+            Decoded::Char(c, next) => {
+                if is_admitted(c) {
+                    i = next;
+                } else {
+                    return Outside::At(i);
+                }
+            }
+            Decoded::Invalid => return Outside::Nowhere,
+            Decoded::End => return Outside::Nowhere,
+        }
+    }
+}
+
+// The class of a code point.
+pub fn class_of(c: u32) -> Class
+    ensures { λ r. ⌜ r ≡ classOf c ⌝ }
+{
+    match c {
+        0x41..=0x5A
+        | 0x61..=0x7A
+        | 0xAA
+        | 0xB5
+        | 0xBA
+        | 0xC0..=0xD6
+        | 0xD8..=0xF6
+        | 0xF8..=0x2C1
+        | 0x370..=0x374
+        | 0x376..=0x377
+        | 0x37A..=0x37D
+        | 0x37F
+        | 0x386
+        | 0x388..=0x38A
+        | 0x38C
+        | 0x38E..=0x3A1
+        | 0x3A3..=0x3F5
+        | 0x3F7..=0x481 => Class::Letter,
+        0x30..=0x39 => Class::Digit,
+        0x09..=0x0D | 0x20 | 0x85 | 0xA0 => Class::Space,
+        0x28..=0x2A | 0x2C | 0x3D | 0x7B | 0x7D => Class::Sign,
+        _ => Class::Other,
+    }
 }
