@@ -4,4 +4,15 @@ pub mod PlainLex
 pub mod Decimal
 pub mod PlainRows
 pub mod LexSound
+pub mod PlainParse
+pub mod Facts
+pub mod InferAgain
+pub mod PlainAssembly
+pub mod ParsePlaces
+pub mod AssemblyPlaces
 pub mod PlainSamples
+pub mod Samples
+pub mod Counts
+pub mod ParseHolds
+pub mod AssemblyHolds
+pub mod ReadCounts

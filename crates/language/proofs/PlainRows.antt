@@ -54,6 +54,28 @@ decoderT (asUnary c) = word (codes "unary") ∷ quoted c ∷ []
 decoderT (asBinary lsb) = word (codes "binary") ∷ word (codes "lsb") ∷ []
 decoderT (asBinary msb) = word (codes "binary") ∷ word (codes "msb") ∷ []
 
+-- the lines of one value
+abbrev pub machineRow : List ℕ → Row
+machineRow s = row (word (codes "machine") ∷ str s ∷ [])
+
+abbrev pub kindRow : Kind → Row
+kindRow k = row (word (codes "kind") ∷ word (codes (kindName k)) ∷ [])
+
+abbrev pub inputRow : List ℕ → Row
+inputRow s = row (word (codes "input") ∷ str s ∷ [])
+
+abbrev pub outputRow : Decoder → Row
+outputRow d = row (word (codes "output") ∷ decoderT d)
+
+abbrev pub tapesRow : ℕ → Row
+tapesRow n = row (word (codes "tapes") ∷ sign 0x3D ∷ number (digits n) ∷ [])
+
+abbrev pub blankRow : ℕ → Row
+blankRow c = row (word (codes "blank") ∷ sign 0x3D ∷ quoted c ∷ [])
+
+abbrev pub startRow : List ℕ → Row
+startRow w = row (word (codes "start") ∷ sign 0x3D ∷ word w ∷ [])
+
 -- a set behind a keyword
 unfoldable pub setRow : {A : Type 0} → List ℕ → (A → TokenKind) → List A → Row
 unfolding commasT
@@ -91,16 +113,16 @@ unfoldable pub plainRows : Content → List Row
 unfolding commentRows setRow ruleRows finalNames digits
 plainRows m =
     commentRows (m .header)
-    (row (word (codes "machine") ∷ str (m .name) ∷ [])
-    ∷ row (word (codes "kind") ∷ word (codes (kindName (m .kind))) ∷ [])
-    ∷ row (word (codes "input") ∷ str (m .input) ∷ [])
-    ∷ row (word (codes "output") ∷ decoderT (m .output))
-    ∷ row (word (codes "tapes") ∷ sign 0x3D ∷ number (digits (m .tapes)) ∷ [])
+    (machineRow (m .name)
+    ∷ kindRow (m .kind)
+    ∷ inputRow (m .input)
+    ∷ outputRow (m .output)
+    ∷ tapesRow (m .tapes)
     ∷ onlyRow (m .declared .states) (setRow (codes "Q") word (map (λ s. s .name) (m .states)))
     (onlyRow (m .declared .inputAlphabet) (setRow (codes "Σ") quoted (m .sigma))
     (onlyRow (m .declared .tapeAlphabet) (setRow (codes "Γ") quoted (m .gamma))
-    (onlyRow (m .declared .blank) (row (word (codes "blank") ∷ sign 0x3D ∷ quoted (m .blank) ∷ []))
-    (onlyRow (m .declared .start) (row (word (codes "start") ∷ sign 0x3D ∷ word (m .start) ∷ []))
+    (onlyRow (m .declared .blank) (blankRow (m .blank))
+    (onlyRow (m .declared .start) (startRow (m .start))
     (setRow (codes "F") word (finalNames (m .states))
     ∷ ruleRows (m .rules)
     (commentRows (m .trailing) [])))))))
@@ -118,40 +140,40 @@ module _ {rest : List ℕ} {rs : List Row} (h : Lexes rest rs) where
   unfolding flatRows
   comment-lexes s g = record { lexes = comment-kinds s g rest ∙ ap (λ l. T.comment s ∷ newline ∷ l) (h .lexes) }
 
-  machine-lexes : (s : List ℕ) → Lexes ((say "machine " ⨾ string s ⨾ end) rest) (row (word (codes "machine") ∷ str s ∷ []) ∷ rs)
+  machine-lexes : (s : List ℕ) → Lexes ((say "machine " ⨾ string s ⨾ end) rest) (machineRow s ∷ rs)
   unfolding flatRows kinds
   machine-lexes s = record { lexes = ap (λ l. word (codes "machine") ∷ l) (string-kinds s (10 ∷ rest) ∙ ap (λ l. str s ∷ newline ∷ l) (h .lexes)) }
 
-  input-lexes : (s : List ℕ) → Lexes ((say "input " ⨾ string s ⨾ end) rest) (row (word (codes "input") ∷ str s ∷ []) ∷ rs)
+  input-lexes : (s : List ℕ) → Lexes ((say "input " ⨾ string s ⨾ end) rest) (inputRow s ∷ rs)
   unfolding flatRows kinds
   input-lexes s = record { lexes = ap (λ l. word (codes "input") ∷ l) (string-kinds s (10 ∷ rest) ∙ ap (λ l. str s ∷ newline ∷ l) (h .lexes)) }
 
-  kind-lexes : (k : Kind) → Lexes ((say "kind " ⨾ say (kindName k) ⨾ end) rest) (row (word (codes "kind") ∷ word (codes (kindName k)) ∷ []) ∷ rs)
+  kind-lexes : (k : Kind) → Lexes ((say "kind " ⨾ say (kindName k) ⨾ end) rest) (kindRow k ∷ rs)
   unfolding flatRows kinds
   kind-lexes acceptor = record { lexes = ap (λ l. word (codes "kind") ∷ word (codes "acceptor") ∷ newline ∷ l) (h .lexes) }
   kind-lexes transducer = record { lexes = ap (λ l. word (codes "kind") ∷ word (codes "transducer") ∷ newline ∷ l) (h .lexes) }
   kind-lexes enumerator = record { lexes = ap (λ l. word (codes "kind") ∷ word (codes "enumerator") ∷ newline ∷ l) (h .lexes) }
   kind-lexes beaver = record { lexes = ap (λ l. word (codes "kind") ∷ word (codes "beaver") ∷ newline ∷ l) (h .lexes) }
 
-  output-lexes : (d : Decoder) → IsDecoder d → Lexes ((say "output " ⨾ decoder d ⨾ end) rest) (row (word (codes "output") ∷ decoderT d) ∷ rs)
+  output-lexes : (d : Decoder) → IsDecoder d → Lexes ((say "output " ⨾ decoder d ⨾ end) rest) (outputRow d ∷ rs)
   unfolding flatRows kinds
   output-lexes asWord g = record { lexes = ap (λ l. word (codes "output") ∷ word (codes "word") ∷ newline ∷ l) (h .lexes) }
   output-lexes (asUnary c) g = record { lexes = ap (λ l. word (codes "output") ∷ word (codes "unary") ∷ l) (symbol-kinds c g (10 ∷ rest) ∙ ap (λ l. quoted c ∷ newline ∷ l) (h .lexes)) }
   output-lexes (asBinary lsb) g = record { lexes = ap (λ l. word (codes "output") ∷ word (codes "binary") ∷ word (codes "lsb") ∷ newline ∷ l) (h .lexes) }
   output-lexes (asBinary msb) g = record { lexes = ap (λ l. word (codes "output") ∷ word (codes "binary") ∷ word (codes "msb") ∷ newline ∷ l) (h .lexes) }
 
-  tapes-lexes : (n : ℕ) → n < 256 → Lexes ((say "tapes = " ⨾ decimal n ⨾ end) rest) (row (word (codes "tapes") ∷ sign 0x3D ∷ number (digits n) ∷ []) ∷ rs)
+  tapes-lexes : (n : ℕ) → n < 256 → Lexes ((say "tapes = " ⨾ decimal n ⨾ end) rest) (tapesRow n ∷ rs)
   unfolding flatRows kinds isAsciiDigit
   tapes-lexes n g = record {
     lexes = ap (λ l. word (codes "tapes") ∷ sign 0x3D ∷ l)
         (ap kinds (decimal-digits n (10 ∷ rest)) ∙ (number-kinds (digits n) (digits-number n g) 10 rest refl ∙ ap (λ l. number (digits n) ∷ newline ∷ l) (h .lexes)));
   }
 
-  blank-lexes : (c : ℕ) → IsSymbol c → Lexes ((say "blank = " ⨾ symbol c ⨾ end) rest) (row (word (codes "blank") ∷ sign 0x3D ∷ quoted c ∷ []) ∷ rs)
+  blank-lexes : (c : ℕ) → IsSymbol c → Lexes ((say "blank = " ⨾ symbol c ⨾ end) rest) (blankRow c ∷ rs)
   unfolding flatRows kinds
   blank-lexes c g = record { lexes = ap (λ l. word (codes "blank") ∷ sign 0x3D ∷ l) (symbol-kinds c g (10 ∷ rest) ∙ ap (λ l. quoted c ∷ newline ∷ l) (h .lexes)) }
 
-  start-lexes : (w : List ℕ) → IsWord w → Lexes ((say "start = " ⨾ verbatim w ⨾ end) rest) (row (word (codes "start") ∷ sign 0x3D ∷ word w ∷ []) ∷ rs)
+  start-lexes : (w : List ℕ) → IsWord w → Lexes ((say "start = " ⨾ verbatim w ⨾ end) rest) (startRow w ∷ rs)
   unfolding flatRows kinds isWordContinue
   start-lexes w g = record { lexes = ap (λ l. word (codes "start") ∷ sign 0x3D ∷ l) (word-kinds w g 10 rest refl ∙ ap (λ l. word w ∷ newline ∷ l) (h .lexes)) }
 
