@@ -7,6 +7,7 @@ use lib.Dec.{ltb, eqb}
 use lib.ListN.{length, drop, replicate}
 use Rattle.chars.specs.Utf8.{decode, encode, validUpTo}
 use Rattle.chars.specs.Class.{firstOutside}
+use Rattle.chars.specs.declared.Outside.the-variants.{At, Nowhere}
 use Rattle.lexer.specs.Tokens.{Span}
 use Rattle.language.specs.Machine.{Machine}
 use Rattle.language.specs.Content.{Content, contentOf}
@@ -71,7 +72,7 @@ refusalOf t work =
         | true ↦ some workTooShort
         | false ↦ elim (ltb (validUpTo t) (length t)) [
           | true ↦ some (invalidUtf8 (validUpTo t))
-          | false ↦ elim (firstOutside t) [ some o ↦ some (outsideSet o) | none ↦ none ]
+          | false ↦ elim (firstOutside t) [ At o ↦ some (outsideSet o) | Nowhere ↦ none ]
         ]
       ]
     ]
