@@ -78,10 +78,6 @@ digits-part i left row d p h n l inv =
     take-all (20 - (i - 1)) (drop (i - 1) (set row (i - 1) (0x30 + left))) (omega (arith, length-drop (i - 1) (set row (i - 1) (0x30 + left)), length-set row (i - 1) (0x30 + left)))
     ∙ digits-last i left row d p (omega arith) l inv
 
-pub digits-asked : (i left at : ℕ) (row d : List ℕ) → 1 ≤ i → i ≤ 20 → length row ≡ 20 → left < 10 → digitsFrom (i - 1) left (drop i row) ≡ d
-    → at + length d < 2 ^ 64 → at + length (take (20 - (i - 1)) (drop (i - 1) (set row (i - 1) (0x30 + left)))) < 2 ^ 64
-digits-asked i left at row d p h n l inv b = rw (digits-part i left row d p h n l inv) b
-
 pub digits-stored : (i left : ℕ) (row d : List ℕ) (o r : Output) → 1 ≤ i → i ≤ 20 → length row ≡ 20 → left < 10 → digitsFrom (i - 1) left (drop i row) ≡ d
     → r ≡ appended o (take (20 - (i - 1)) (drop (i - 1) (set row (i - 1) (0x30 + left)))) → r ≡ appended o d
 digits-stored i left row d o r p h n l inv e = rw (← digits-part i left row d p h n l inv) e

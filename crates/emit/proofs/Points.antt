@@ -59,9 +59,6 @@ module _ (n c : ℕ) (e : n ≡ size c) where
   pub three-fits : n ≡ 3 → 0xE0 + c / 64 / 64 < 256
   three-fits h = omega (arith, three c (sym e ∙ h) .0)
 
-  pub four-room : (at : ℕ) → (n ≡ 1 → ⊥) → (n ≡ 2 → ⊥) → (n ≡ 3 → ⊥) → at + size c < 2 ^ 64 → at + 4 < 2 ^ 64
-  four-room at h k l b = omega (arith, four c (λ q. h (e ∙ q)) (λ q. k (e ∙ q)) (λ q. l (e ∙ q)) .0)
-
   -- the bytes stored are the code point's
   module _ (o r : Output) where
     pub one-form : n ≡ 1 → r ≡ appended o (c ∷ []) → r ≡ appended o (encodeOne c)

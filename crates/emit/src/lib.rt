@@ -1,36 +1,52 @@
 // Bytes appended to a lent row: each is stored where there is room and counted in any case, so that one body counts and writes.
-// `at` is how many were appended before; with an empty row, `&mut out[..0]`, a body only counts.
+// `at` is how many were appended before, and what a function answers is how many were appended then; with an empty row, `&mut out[..0]`, a body only counts.
 ghost use mathlib.Core.Path.{_≡_};
 ghost use mathlib.Core.List.{[], _∷_};
-ghost use Prim.Native.Nat.{_+_, _%_, _<_, _^_};
-ghost use lib.ListN.{length};
-ghost use Rattle.chars.specs.Utf8.{size, encodeOne};
-ghost use Rattle.emit.specs.Output.{output, appended};
+ghost use Prim.Native.Nat.{_+_, _%_, _<_, min};
+ghost use Rattle.chars.specs.Utf8.{encodeOne};
+ghost use Rattle.emit.specs.Output.{output, counted, appended};
 ghost use Rattle.emit.specs.Decimal.{decimal};
+
+// The lesser of two counts.
+pub fn least(a: usize, b: usize) -> usize
+    ensures { λ r. ⌜ r ≡ min a b ⌝ }
+{
+    if a < b {
+        return a;
+    }
+    b
+}
+
+// A count and n more, which stays at the largest count.
+fn counted(at: usize, n: usize) -> usize
+    ensures { λ r. ⌜ r ≡ counted at n ⌝ }
+{
+    at + least(n, 0xffff_ffff_ffff_ffff - at)
+}
 
 // A byte.
 pub fn byte(out: &mut [u8], at: usize, b: u8) -> usize
-    requires { ⌜ at + 1 < 2 ^ 64 ⌝ }
     ensures { λ r. ⌜ output (now (out .exit)) r ≡ appended (output (now (out .entry)) at) (b ∷ []) ⌝ }
 {
+    let end = counted(at, 1);
     if out.len() <= at {
-        return at + 1;
+        return end;
     }
     out[at] = b;
-    at + 1
+    end
 }
 
-// The bytes of a part of a text. Past the room nothing is left to do but to count them.
+// The bytes of a part of a text. Where there is no room nothing is left to do but to count them.
 pub fn bytes(out: &mut [u8], at: usize, part: &[u8]) -> usize
-    requires { ⌜ at + length (now part) < 2 ^ 64 ⌝ }
     ensures { λ r. ⌜ output (now (out .exit)) r ≡ appended (output (now (out .entry)) at) (now (part .entry)) ⌝ }
 {
-    let end = at + part.len();
+    let end = counted(at, part.len());
+    if out.len() <= at {
+        return end;
+    }
+    let n = least(part.len(), out.len() - at);
     let mut i = 0;
-    while i < part.len() {
-        if out.len() <= at + i {
-            return end;
-        }
+    while i < n {
         out[at + i] = part[i];
         i += 1;
     }
@@ -46,7 +62,7 @@ fn tail(c: u32) -> u8
 
 // A code point in UTF-8.
 pub fn code_point(out: &mut [u8], at: usize, c: u32) -> usize
-    requires { ⌜ (c < 0x110000) × (at + size c < 2 ^ 64) ⌝ }
+    requires { ⌜ c < 0x110000 ⌝ }
     ensures { λ r. ⌜ output (now (out .exit)) r ≡ appended (output (now (out .entry)) at) (encodeOne c) ⌝ }
 {
     let n = chars::len_utf8(c);
@@ -72,7 +88,6 @@ pub fn code_point(out: &mut [u8], at: usize, c: u32) -> usize
 
 // A number in decimal.
 pub fn decimal(out: &mut [u8], at: usize, n: u64) -> usize
-    requires { ⌜ at + length (decimal n) < 2 ^ 64 ⌝ }
     ensures { λ r. ⌜ output (now (out .exit)) r ≡ appended (output (now (out .entry)) at) (decimal n) ⌝ }
 {
     let mut digits = [0u8; 20];

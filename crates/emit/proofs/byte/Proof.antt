@@ -8,9 +8,8 @@ pub byte-spec : {M : Type 1} → statement M
 byte-spec =
     tie.close
     (tie.spec
+    (λ c κs. search needs)
+    (λ c. search (needs, byte-full, byte-stored))
     (λ c. search needs)
-    (λ c. search (needs, byte-full))
     (λ c. search needs)
-    (λ c. search needs)
-    (λ c. search needs)
-    (λ c. search (needs, byte-stored)))
+    (λ c. search (needs, byte-full, byte-stored)))

@@ -4,17 +4,17 @@ use Prim.Native.Nat.{_+_, _-_, _≤_}
 use borrow.Author.Needs.{needs}
 use lib.ListN.{length, drop}
 use lib.Seq.{sets}
-use Rattle.emit.proofs.Appends.{part-start, part-next, part-full, part-done}
+use Rattle.emit.proofs.Appends.{part-full, part-start, part-next, part-done}
 use Rattle.emit.proofs.bytes.Statement.{statement}
 use Rattle.emit.proofs.bytes.Tie as tie
 
-ruleset laws = (needs, part-start, part-next, part-full, part-done)
+ruleset laws = (needs, part-full, part-start, part-next, part-done)
 
 abbrev Inv-loop : tie.InvT-loop
-Inv-loop out₀ at part end i₀ out i = (i ≤ length part) × (length out ≡ length out₀) × (sets out (at + i) (drop i part) ≡ sets out₀ at part)
+Inv-loop out₀ at part end n i₀ out i = (i ≤ n) × (length out ≡ length out₀) × (sets out (at + i) (drop i part) ≡ sets out₀ at part)
 
 abbrev μ-loop : tie.MeasureT-loop
-μ-loop out₀ at part end i₀ out i = length part - i
+μ-loop out₀ at part end n i₀ out i = n - i
 
 pub bytes-spec : {M : Type 1} → statement M
 bytes-spec =
@@ -22,10 +22,10 @@ bytes-spec =
     (tie.spec
     Inv-loop
     μ-loop
+    (λ c κs. search laws)
     (λ c. search laws)
     (λ c. search laws)
-    (λ c. search laws)
-    (λ c. search laws)
+    (λ c κs. search laws)
     (λ c. search laws)
     (λ c. search laws)
     (λ c. search laws)

@@ -4,11 +4,11 @@ use Prim.Native.Nat.{_-_, _≤_, _<_, _^_}
 use borrow.Author.Needs.{needs}
 use lib.ListN.{length, drop}
 use Rattle.emit.specs.Decimal.{digitsFrom, decimal}
-use Rattle.emit.proofs.Digits.{digits-start, digits-left, digits-fits, digits-next, digits-room, digits-end, digits-asked, digits-stored}
+use Rattle.emit.proofs.Digits.{digits-start, digits-left, digits-fits, digits-next, digits-room, digits-end, digits-stored}
 use Rattle.emit.proofs.decimal.Statement.{statement}
 use Rattle.emit.proofs.decimal.Tie as tie
 
-ruleset laws = (needs, digits-start, digits-left, digits-fits, digits-next, digits-room, digits-end, digits-asked, digits-stored)
+ruleset laws = (needs, digits-start, digits-left, digits-fits, digits-next, digits-room, digits-end, digits-stored)
 
 abbrev Inv-loop : tie.InvT-loop
 Inv-loop out at n digits₀ i₀ left₀ digits i left = (1 ≤ i) × (i ≤ 20) × (length digits ≡ 20) × (left < 10 ^ i) × (digitsFrom (i - 1) left (drop i digits) ≡ decimal n)
