@@ -1,0 +1,80 @@
+-- What the writer asks of an answer, which every answer of a reading call has: symbols are scalar values, names and comments are UTF-8, strings are whole.
+use Prim.Native.Nat.{ℕ, suc, _+_, _-_, _*_}
+use mathlib.Core.Bool.{true, false}
+use mathlib.Core.List.{List, [], _∷_, _++_, map}
+use mathlib.Core.Path.{_≡_}
+use lib.ListN.{length, take, drop}
+use Rattle.chars.specs.Utf8.{scalar, scalars, encode}
+use Rattle.lexer.specs.Tokens.{Span, closed, inside, unescape}
+use Rattle.language.specs.Machine.{Decoder, asWord, asUnary, asBinary}
+use Rattle.language.specs.Layout.{Counts, Head}
+use Rattle.language.specs.Agreement.{Answer, groups, records, at, placeAt, charactersAt}
+
+-- every member has the property
+abbrev pub Every : {A : Type 0} → (A → Type 0) → List A → Type 0
+Every p [] = Unit {0}
+Every p (a ∷ l) = p a × Every p l
+
+-- the bytes at a place
+abbrev pub bytesAt : List ℕ → Span → List ℕ
+bytesAt text p = take (p .end - p .start) (drop (p .start) text)
+
+-- they are UTF-8
+abbrev pub Utf8At : List ℕ → Span → Type 0
+Utf8At text p = encode (charactersAt text p) ≡ bytesAt text p
+
+-- the characters between a string's quotes: the first quote that closes them is the one behind them
+abbrev pub Whole : List ℕ → Type 0
+Whole cs = inside false (cs ++ 0x22 ∷ []) ≡ closed (unescape cs) (suc (length cs))
+
+-- the place that a record of the sheet begins with holds UTF-8
+abbrev pub NameIn : List ℕ → List ℕ → Type 0
+NameIn text ws = Utf8At text (placeAt ws 0)
+
+-- the i-th words of n records of k words
+abbrev pub column : ℕ → ℕ → ℕ → List ℕ → List ℕ
+column k i n ws = map (λ r. at r i) (groups k n ws)
+
+-- a rule of the sheet
+pub record RuleFormed (text ws : List ℕ) : Type 0 where
+  pub from : Utf8At text (placeAt ws 1)
+  pub to : Utf8At text (placeAt ws 3)
+  pub comment : Utf8At text (placeAt ws 7)
+  pub reads : scalars (column 7 0 (at ws 9) (drop 11 ws)) ≡ true
+  pub writes : scalars (column 7 3 (at ws 9) (drop 11 ws)) ≡ true
+  pub leading : Every (NameIn text) (groups 2 (at ws 10) (drop (11 + 7 * at ws 9) ws))
+
+-- the symbol that a decoder counts
+abbrev pub DecoderFormed : Decoder → Type 0
+DecoderFormed asWord = Unit {0}
+DecoderFormed (asUnary c) = scalar c ≡ true
+DecoderFormed (asBinary o) = Unit {0}
+
+-- the head
+pub record HeadFormed (text : List ℕ) (h : Head) : Type 0 where
+  pub name : Whole (charactersAt text (h .name))
+  pub input : Whole (charactersAt text (h .input))
+  pub output : DecoderFormed (h .output)
+  pub blank : scalar (h .blank) ≡ true
+  pub start : Utf8At text (h .start)
+
+-- the sections of the sheet, from the words of each on
+pub record SectionsFormed (text : List ℕ) (n : Counts) (states sigma gamma header trailing rules : List ℕ) : Type 0 where
+  pub stateNames : Every (NameIn text) (groups 3 (n .states) states)
+  pub sigmaCodes : scalars (column 3 0 (n .sigma) sigma) ≡ true
+  pub gammaCodes : scalars (column 3 0 (n .gamma) gamma) ≡ true
+  pub headerTexts : Every (NameIn text) (groups 2 (n .header) header)
+  pub trailingTexts : Every (NameIn text) (groups 2 (n .trailing) trailing)
+  pub ruleRecords : Every (RuleFormed text) (records (n .rules) rules)
+
+-- an answer
+pub record WellFormed (a : Answer) : Type 0 where
+  pub headPart : HeadFormed (a .text) (a .head)
+  pub sections :
+    let n = a .head .counts in
+    let sigma = drop (3 * n .states) (a .sheet) in
+    let gamma = drop (3 * n .sigma) sigma in
+    let header = drop (3 * n .gamma + 2 * n .finals) gamma in
+    let trailing = drop (2 * n .header) header in
+    let rules = drop (2 * n .trailing) trailing in
+    SectionsFormed (a .text) n (a .sheet) sigma gamma header trailing rules
