@@ -30,3 +30,20 @@ _▹_ {q = q} u v = record { written = λ rest. v .written rest ∙ u .written (
 -- another piece that is the same text
 pub same : {p q : Piece} {o r : Output} → ((rest : List ℕ) → q rest ≡ p rest) → Writes p o r → Writes q o r
 same {o = o} e u = record { written = λ rest. u .written rest ∙ ap (λ l. appended o (encode l)) (sym (e rest)) }
+
+-- ---- what is still to be written
+
+-- to go on with p from o is to write p₀ from o₀
+pub record Goes (p : Piece) (o : Output) (p₀ : Piece) (o₀ : Output) : Type 0 where
+  pub goes : (rest : List ℕ) → appended o (encode (p rest)) ≡ appended o₀ (encode (p₀ rest))
+
+pub goes-start : {p q : Piece} {o : Output} → ((rest : List ℕ) → p rest ≡ q rest) → Goes p o q o
+goes-start {o = o} e = record { goes = λ rest. ap (λ l. appended o (encode l)) (e rest) }
+
+-- a piece of it is written
+pub goes-on : {p q r : Piece} {o a o₀ : Output} {p₀ : Piece} → ((rest : List ℕ) → p rest ≡ q (r rest)) → Goes p o p₀ o₀ → Writes q o a → Goes r a p₀ o₀
+goes-on {r = r} {o = o} e g w = record { goes = λ rest. w .written (r rest) ∙ ap (λ l. appended o (encode l)) (sym (e rest)) ∙ g .goes rest }
+
+-- nothing is left
+pub goes-end : {p : Piece} {o o₀ : Output} {p₀ : Piece} → ((rest : List ℕ) → p rest ≡ rest) → Goes p o p₀ o₀ → Writes p₀ o₀ o
+goes-end {o = o} e g = record { written = λ rest. ap (λ l. appended o (encode l)) (sym (e rest)) ∙ g .goes rest }

@@ -1,3 +1,4 @@
 pub mod Parts
 pub mod Chain
 pub mod Characters
+pub mod Strings

@@ -1,3 +1,4 @@
 pub mod Answers
 pub mod Writes
+pub mod Strings
 pub mod WellFormed

@@ -20,6 +20,7 @@ ghost use Rattle.machine.specs.Head.{spanOf};
 ghost use Rattle.emit.specs.Output.{output, appended};
 ghost use Rattle.writer.specs.Answers.{spanIn, kindIn, decoderIn, answer};
 ghost use Rattle.writer.specs.Writes.{Adds, Writes};
+ghost use Rattle.writer.specs.Strings.{isEscape, rewritten};
 ghost use Rattle.writer.specs.WellFormed.{Every, bytesAt, Utf8At, Whole, NameIn, column, RuleFormed, DecoderFormed, WellFormed};
 
 // ---- parts of the sheet and of the text
@@ -113,4 +114,111 @@ fn comma(out: &mut [u8], at: usize, i: usize) -> usize
         return say(out, at, b", ");
     }
     at
+}
+
+// ---- strings
+
+// A character of a string, escaped where it has to be.
+fn in_string(out: &mut [u8], at: usize, c: u32) -> usize
+    requires { ⌜ scalar c ≡ true ⌝ }
+    ensures { λ r. ⌜ Writes (inString (escaped c) c) (output (now (out .entry)) at) (output (now (out .exit)) r) ⌝ }
+{
+    if c == 0x22 {
+        return say(out, at, b"\\\"");
+    }
+    if c == 0x5C {
+        return say(out, at, b"\\\\");
+    }
+    if c == 10 {
+        return say(out, at, b"\\n");
+    }
+    if c == 9 {
+        return say(out, at, b"\\t");
+    }
+    character(out, at, c)
+}
+
+// Whether a character makes an escape with a backslash before it.
+fn is_escape(c: u32) -> bool
+    ensures { λ r. ⌜ r ≡ isEscape c ⌝ }
+{
+    if c == 0x22 {
+        return true;
+    }
+    if c == 0x5C {
+        return true;
+    }
+    if c == 0x6E {
+        return true;
+    }
+    c == 0x74
+}
+
+// A character behind a backslash: an escape is written as it stands, else the backslash is a character of its own.
+fn behind_slash(out: &mut [u8], at: usize, c: u32) -> usize
+    requires { ⌜ scalar c ≡ true ⌝ }
+    ensures { λ r. ⌜ Writes (rewritten true c) (output (now (out .entry)) at) (output (now (out .exit)) r) ⌝ }
+{
+    let a = say(out, at, b"\\");
+    if is_escape(c) {
+        return character(out, a, c);
+    }
+    let b = say(out, a, b"\\");
+    in_string(out, b, c)
+}
+
+// A character between the quotes as it is written again. A backslash waits for the character behind it.
+fn rewritten(out: &mut [u8], at: usize, slash: bool, c: u32) -> usize
+    requires { ⌜ scalar c ≡ true ⌝ }
+    ensures { λ r. ⌜ Writes (rewritten slash c) (output (now (out .entry)) at) (output (now (out .exit)) r) ⌝ }
+{
+    if slash {
+        return behind_slash(out, at, c);
+    }
+    if c == 0x5C {
+        return at;
+    }
+    in_string(out, at, c)
+}
+
+// Whether the next character stands behind a backslash that waits for it.
+fn waits(slash: bool, c: u32) -> bool
+    ensures { λ r. ⌜ r ≡ (not slash && eqb c 0x5C) ⌝ }
+{
+    if slash {
+        return false;
+    }
+    c == 0x5C
+}
+
+// The bytes between the quotes: their escapes are undone and made again.
+fn string_text(out: &mut [u8], at: usize, part: &[u8]) -> usize
+    requires { ⌜ Whole (decode (now part)) ⌝ }
+    ensures { λ r. ⌜ Writes (escapedText (unescape (decode (now (part .entry))))) (output (now (out .entry)) at) (output (now (out .exit)) r) ⌝ }
+{
+    let mut end = at;
+    let mut i = 0;
+    let mut slash = false;
+    loop {
+        let d = chars::char_at(part, i);
+        match d {
+            Decoded::Char(c, next) => {
+                end = rewritten(out, end, slash, c);
+                slash = waits(slash, c);
+                i = next;
+            }
+            Decoded::Invalid => return end,
+            Decoded::End => return end,
+        }
+    }
+}
+
+// The string at a place, in quotes.
+fn string(out: &mut [u8], at: usize, text: &[u8], p: Span) -> usize
+    requires { ⌜ Whole (charactersAt (now text) (spanIn p)) ⌝ }
+    ensures { λ r. ⌜ Writes (string (stringAt (now (text .entry)) (spanIn p))) (output (now (out .entry)) at) (output (now (out .exit)) r) ⌝ }
+{
+    let a = say(out, at, b"\"");
+    let b = string_text(out, a, part(text, p));
+    say(out, b, b"\"")
 }
