@@ -2,3 +2,5 @@ pub mod Parts
 pub mod Chain
 pub mod Characters
 pub mod Strings
+pub mod Comments
+pub mod Lists

@@ -71,10 +71,10 @@ pub record SectionsFormed (text : List ℕ) (n : Counts) (states sigma gamma hea
 pub record WellFormed (a : Answer) : Type 0 where
   pub headPart : HeadFormed (a .text) (a .head)
   pub sections :
-    let n = a .head .counts in
-    let sigma = drop (3 * n .states) (a .sheet) in
-    let gamma = drop (3 * n .sigma) sigma in
-    let header = drop (3 * n .gamma + 2 * n .finals) gamma in
-    let trailing = drop (2 * n .header) header in
-    let rules = drop (2 * n .trailing) trailing in
-    SectionsFormed (a .text) n (a .sheet) sigma gamma header trailing rules
+      let n = a .head .counts in
+      let sigma = drop (3 * n .states) (a .sheet) in
+      let gamma = drop (3 * n .sigma) sigma in
+      let header = drop (3 * n .gamma + 2 * n .finals) gamma in
+      let trailing = drop (2 * n .header) header in
+      let rules = drop (2 * n .trailing) trailing in
+      SectionsFormed (a .text) n (a .sheet) sigma gamma header trailing rules

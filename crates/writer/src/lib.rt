@@ -13,8 +13,8 @@ ghost use Prim.Native.Nat.{_+_, _*_, _<_, _≤_};
 ghost use lib.Dec.{eqb, ltb};
 ghost use lib.ListN.{getD, take, drop};
 ghost use Rattle.chars.specs.Utf8.{scalar, scalars, encode, decode};
-ghost use Rattle.language.specs.Plain.{_⨾_, say, end, only, each, commas, verbatim, symbol, escaped, inString, escapedText, string, decimal, comment, commentLine, ownComment, kindName, decoder, nameSet, symbolSet, finalNames, rule, ruleLines, plain};
-ghost use Rattle.language.specs.Agreement.{groups, records, placeAt, charactersAt, stringAt, commentAt, actionIn, stateIn, textIn, ruleIn, contentOfAnswer};
+ghost use Rattle.language.specs.Plain.{_⨾_, say, end, only, each, commas, verbatim, symbol, direction, escaped, inString, escapedText, string, decimal, comment, commentLine, ownComment, kindName, decoder, nameSet, symbolSet, finalNames, rule, ruleLines, plain};
+ghost use Rattle.language.specs.Agreement.{groups, records, placeAt, dirOf, charactersAt, stringAt, commentAt, actionIn, stateIn, textIn, ruleIn, contentOfAnswer};
 ghost use Rattle.lexer.specs.Tokens.{unescape};
 ghost use Rattle.machine.specs.Head.{spanOf};
 ghost use Rattle.emit.specs.Output.{output, appended};
@@ -107,7 +107,7 @@ fn symbol(out: &mut [u8], at: usize, c: u32) -> usize
 }
 
 // A comma before every member of a list but the first.
-fn comma(out: &mut [u8], at: usize, i: usize) -> usize
+fn comma(out: &mut [u8], at: usize, i: u32) -> usize
     ensures { λ r. ⌜ Writes (only (ltb 0 i) (say ", ")) (output (now (out .entry)) at) (output (now (out .exit)) r) ⌝ }
 {
     if 0 < i {
@@ -221,4 +221,121 @@ fn string(out: &mut [u8], at: usize, text: &[u8], p: Span) -> usize
     let a = say(out, at, b"\"");
     let b = string_text(out, a, part(text, p));
     say(out, b, b"\"")
+}
+
+// ---- comments
+
+// The comment at a place; a space parts the slashes from its text.
+fn comment(out: &mut [u8], at: usize, text: &[u8], p: Span) -> usize
+    requires { ⌜ Utf8At (now text) (spanIn p) ⌝ }
+    ensures { λ r. ⌜ Writes (comment (charactersAt (now (text .entry)) (spanIn p))) (output (now (out .entry)) at) (output (now (out .exit)) r) ⌝ }
+{
+    let t = part(text, p);
+    if t.len() == 0 {
+        return say(out, at, b"//");
+    }
+    let a = say(out, at, b"// ");
+    say(out, a, t)
+}
+
+// Whether a place says that there is none.
+fn is_none(p: Span) -> bool
+    ensures { λ r. ⌜ r ≡ (eqb (p .start) 4294967295 && eqb (p .end) 4294967295) ⌝ }
+{
+    if p.start == 0xffff_ffff {
+        return p.end == 0xffff_ffff;
+    }
+    false
+}
+
+// A rule's own comment, if it has one.
+fn own_comment(out: &mut [u8], at: usize, text: &[u8], p: Span) -> usize
+    requires { ⌜ Utf8At (now text) (spanIn p) ⌝ }
+    ensures { λ r. ⌜ Writes (ownComment (commentAt (now (text .entry)) (spanIn p))) (output (now (out .entry)) at) (output (now (out .exit)) r) ⌝ }
+{
+    if is_none(p) {
+        return at;
+    }
+    let a = say(out, at, b" ");
+    comment(out, a, text, p)
+}
+
+// n comments, each on a line of its own.
+fn comment_lines(out: &mut [u8], at: usize, text: &[u8], words: &[u32], n: u32) -> usize
+    requires { ⌜ Every (NameIn (now text)) (groups 2 n (now words)) ⌝ }
+    ensures { λ r. ⌜ Writes (each commentLine (map (textIn (now (text .entry))) (groups 2 n (now (words .entry))))) (output (now (out .entry)) at) (output (now (out .exit)) r) ⌝ }
+{
+    let mut end = at;
+    let mut i = 0;
+    let mut j = 0;
+    while i < n {
+        let a = comment(out, end, text, place_at(words, j));
+        end = say(out, a, b"\n");
+        i += 1;
+        j += 2;
+    }
+    end
+}
+
+// ---- lists
+
+// The names of n states.
+fn names(out: &mut [u8], at: usize, text: &[u8], words: &[u32], n: u32) -> usize
+    requires { ⌜ Every (NameIn (now text)) (groups 3 n (now words)) ⌝ }
+    ensures { λ r. ⌜ Writes (commas verbatim (map (textIn (now (text .entry))) (groups 3 n (now (words .entry))))) (output (now (out .entry)) at) (output (now (out .exit)) r) ⌝ }
+{
+    let mut end = at;
+    let mut i = 0;
+    let mut j = 0;
+    while i < n {
+        let a = comma(out, end, i);
+        end = verbatim(out, a, text, place_at(words, j));
+        i += 1;
+        j += 3;
+    }
+    end
+}
+
+// The symbols in word o of n records of k words.
+fn symbols(out: &mut [u8], at: usize, words: &[u32], k: usize, o: usize, n: u32) -> usize
+    requires { ⌜ (o < k) × (k ≤ 7) × (scalars (column k o n (now words)) ≡ true) ⌝ }
+    ensures { λ r. ⌜ Writes (commas symbol (column k o n (now (words .entry)))) (output (now (out .entry)) at) (output (now (out .exit)) r) ⌝ }
+{
+    let mut end = at;
+    let mut i = 0;
+    let mut j = 0;
+    while i < n {
+        let a = comma(out, end, i);
+        end = symbol(out, a, word(words, j + o));
+        i += 1;
+        j += k;
+    }
+    end
+}
+
+// The move of a head.
+fn direction(out: &mut [u8], at: usize, d: u32) -> usize
+    ensures { λ r. ⌜ Writes (direction (dirOf d)) (output (now (out .entry)) at) (output (now (out .exit)) r) ⌝ }
+{
+    match d {
+        0 => say(out, at, b"L"),
+        1 => say(out, at, b"R"),
+        _ => say(out, at, b"N"),
+    }
+}
+
+// The moves of n actions.
+fn directions(out: &mut [u8], at: usize, words: &[u32], n: u32) -> usize
+    ensures { λ r. ⌜ Writes (commas direction (map dirOf (column 7 6 n (now (words .entry))))) (output (now (out .entry)) at) (output (now (out .exit)) r) ⌝ }
+{
+    let mut end = at;
+    let mut i = 0;
+    let mut j = 0;
+    while i < n {
+        let a = comma(out, end, i);
+        end = direction(out, a, word(words, j + 6));
+        i += 1;
+        j += 7;
+    }
+    end
 }

@@ -9,23 +9,23 @@ use Rattle.writer.proofs.say.Reads as say-reads
 
 ruleset laws = (needs, comma-written, comma-none)
 
--- src/lib.rt:113:29
+-- src/lib.rt:114:29
 slice-aggregate-say : tie.Need-slice-aggregate-say
 slice-aggregate-say c = search needs
 
--- src/lib.rt:113:9
+-- src/lib.rt:114:9
 say-requires : tie.Need-say-requires
 say-requires c κs = search needs
 
--- src/lib.rt:113:9
+-- src/lib.rt:114:9
 same-length : tie.Need-same-length
 same-length c = search needs
 
--- src/lib.rt:113:9
+-- src/lib.rt:114:9
 returns : tie.Need-returns
 returns c = search laws
 
--- src/lib.rt:109:1
+-- src/lib.rt:110:1
 returns-2 : tie.Need-returns-2
 returns-2 c = search laws
 
