@@ -4,3 +4,5 @@ pub mod Characters
 pub mod Strings
 pub mod Comments
 pub mod Lists
+pub mod Finals
+pub mod RuleWords

@@ -1,4 +1,5 @@
 pub mod Answers
 pub mod Writes
 pub mod Strings
+pub mod Lists
 pub mod WellFormed

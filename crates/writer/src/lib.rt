@@ -20,6 +20,7 @@ ghost use Rattle.machine.specs.Head.{spanOf};
 ghost use Rattle.emit.specs.Output.{output, appended};
 ghost use Rattle.writer.specs.Answers.{spanIn, kindIn, decoderIn, answer};
 ghost use Rattle.writer.specs.Writes.{Adds, Writes};
+ghost use Rattle.writer.specs.Lists.{FinalWritten, ruleLeft, ruleRight};
 ghost use Rattle.writer.specs.Strings.{isEscape, rewritten};
 ghost use Rattle.writer.specs.WellFormed.{Every, bytesAt, Utf8At, Whole, NameIn, column, RuleFormed, DecoderFormed, WellFormed};
 
@@ -336,6 +337,104 @@ fn directions(out: &mut [u8], at: usize, words: &[u32], n: u32) -> usize
         end = direction(out, a, word(words, j + 6));
         i += 1;
         j += 7;
+    }
+    end
+}
+
+// How far an output is, and how many names of a list are written.
+struct Listed {
+    at: usize,
+    count: u32,
+}
+
+// The name of the state whose words begin at j, if it is final.
+fn final_name(out: &mut [u8], l: Listed, text: &[u8], words: &[u32], j: usize) -> Listed
+    requires { ⌜ (j + 2 < 18446744073709551616) × (l .count < 4294967295) × Utf8At (now text) (placeAt (now words) j) ⌝ }
+    ensures { λ r. ⌜ FinalWritten (eqb (getD (now (words .entry)) (j + 2) 0) 1) (charactersAt (now (text .entry)) (placeAt (now (words .entry)) j))
+      (output (now (out .entry)) (l .at)) (l .count) (output (now (out .exit)) (r .at)) (r .count) ⌝ }
+{
+    if word(words, j + 2) != 1 {
+        return l;
+    }
+    let a = comma(out, l.at, l.count);
+    let b = verbatim(out, a, text, place_at(words, j));
+    Listed {
+        at: b,
+        count: l.count + 1,
+    }
+}
+
+// The names of the final ones of n states.
+fn final_names(out: &mut [u8], at: usize, text: &[u8], words: &[u32], n: u32) -> usize
+    requires { ⌜ Every (NameIn (now text)) (groups 3 n (now words)) ⌝ }
+    ensures { λ r. ⌜ Writes (commas verbatim (finalNames (map (stateIn (now (text .entry))) (groups 3 n (now (words .entry)))))) (output (now (out .entry)) at) (output (now (out .exit)) r) ⌝ }
+{
+    let mut l = Listed { at, count: 0 };
+    let mut i = 0;
+    let mut j = 0;
+    while i < n {
+        l = final_name(out, l, text, words, j);
+        i += 1;
+        j += 3;
+    }
+    l.at
+}
+
+// ---- rules
+
+// From, and what is read: `δ(a, ('x'))`.
+fn rule_left(out: &mut [u8], at: usize, text: &[u8], words: &[u32]) -> usize
+    requires { ⌜ RuleFormed (now text) (now words) ⌝ }
+    ensures { λ r. ⌜ Writes (ruleLeft (ruleIn (now (text .entry)) (now (words .entry)))) (output (now (out .entry)) at) (output (now (out .exit)) r) ⌝ }
+{
+    let a = say(out, at, b"\xCE\xB4(");
+    let b = verbatim(out, a, text, place_at(words, 1));
+    let c = say(out, b, b", (");
+    let d = symbols(out, c, after(words, 11), 7, 0, word(words, 9));
+    say(out, d, b"))")
+}
+
+// To, what is written, and the moves: ` = (b, ('y'), (R))`.
+fn rule_right(out: &mut [u8], at: usize, text: &[u8], words: &[u32]) -> usize
+    requires { ⌜ RuleFormed (now text) (now words) ⌝ }
+    ensures { λ r. ⌜ Writes (ruleRight (ruleIn (now (text .entry)) (now (words .entry)))) (output (now (out .entry)) at) (output (now (out .exit)) r) ⌝ }
+{
+    let actions = after(words, 11);
+    let n = word(words, 9);
+    let a = say(out, at, b" = (");
+    let b = verbatim(out, a, text, place_at(words, 3));
+    let c = say(out, b, b", (");
+    let d = symbols(out, c, actions, 7, 3, n);
+    let e = say(out, d, b"), (");
+    let f = directions(out, e, actions, n);
+    say(out, f, b"))")
+}
+
+// A rule below its leading lines, from the words of its record.
+fn rule_lines(out: &mut [u8], at: usize, text: &[u8], words: &[u32]) -> usize
+    requires { ⌜ RuleFormed (now text) (now words) ⌝ }
+    ensures { λ r. ⌜ Writes (ruleLines (ruleIn (now (text .entry)) (now (words .entry)))) (output (now (out .entry)) at) (output (now (out .exit)) r) ⌝ }
+{
+    let behind = 11 + 7 * (word(words, 9) as usize);
+    let a = comment_lines(out, at, text, after(words, behind), word(words, 10));
+    let b = rule_left(out, a, text, words);
+    let c = rule_right(out, b, text, words);
+    let d = own_comment(out, c, text, place_at(words, 7));
+    say(out, d, b"\n")
+}
+
+// n rules, each of a record that begins with its length.
+fn rules(out: &mut [u8], at: usize, text: &[u8], words: &[u32], n: u32) -> usize
+    requires { ⌜ Every (RuleFormed (now text)) (records n (now words)) ⌝ }
+    ensures { λ r. ⌜ Writes (each ruleLines (map (ruleIn (now (text .entry))) (records n (now (words .entry))))) (output (now (out .entry)) at) (output (now (out .exit)) r) ⌝ }
+{
+    let mut end = at;
+    let mut i = 0;
+    let mut j = 0;
+    while i < n {
+        end = rule_lines(out, end, text, record_at(words, j));
+        j = emit::least(j + (word(words, j) as usize), words.len());
+        i += 1;
     }
     end
 }
