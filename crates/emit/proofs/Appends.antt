@@ -30,6 +30,10 @@ sets-out (x ∷ vs) l i h = ap (λ (m : List ℕ). sets m (suc i) vs) (set-out l
 abbrev pub Row : Output → Type 0
 Row o = length (o .row) < 18446744073709551616
 
+pub appended-nil : (o : Output) → o .at < 18446744073709551616 → appended o [] ≡ o
+unfolding appended
+appended-nil o h = let e : counted (o .at) 0 ≡ o .at = omega arith in ap (output (o .row)) e
+
 pub appended-append : (o : Output) → Row o → (a b : List ℕ) → appended (appended o a) b ≡ appended o (a ++ b)
 unfolding appended
 appended-append o h a b = ap₂ output (rows (lt-or-ge (o .at + length a) 18446744073709551616)) (omega (arith, length-append a b))

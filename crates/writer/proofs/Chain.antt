@@ -1,10 +1,11 @@
 -- Pieces one after the other: what one leaves, the next goes on from.
 use mathlib.Core.Path.{_≡_, refl, sym, ap, _∙_}
 use Prim.Native.Nat.{ℕ, _<_}
+use Prim.Native.String as S
 use mathlib.Core.List.{List, [], _∷_, _++_}
 use lib.ListN.{length}
 use Rattle.chars.specs.Utf8.{encode}
-use Rattle.language.specs.Plain.{Piece, nothing, _⨾_}
+use Rattle.language.specs.Plain.{Piece, nothing, say, _⨾_}
 use Rattle.emit.specs.Output.{Output, output, appended}
 use Rattle.emit.proofs.Appends.{appended-append}
 use Rattle.writer.specs.Writes.{Adds, Writes}
@@ -17,6 +18,10 @@ adds row at bytes after h e = record { added = λ rest. ap (λ o. appended o res
 -- a piece whose bytes are known
 pub known : {p : Piece} (bytes : List ℕ) {o r : Output} → ((rest : List ℕ) → encode (p rest) ≡ bytes ++ encode rest) → Adds bytes o r → Writes p o r
 known bytes {o} e a = record { written = λ rest. a .added (encode rest) ∙ ap (appended o) (sym (e rest)) }
+
+-- quoted text: in ASCII its code points are its bytes
+pub spoken : (s : S.String) {o r : Output} → ((rest : List ℕ) → encode (say s rest) ≡ say s [] ++ encode rest) → Adds (say s []) o r → Writes (say s) o r
+spoken s e a = known (say s []) e a
 
 -- nothing was written
 pub none : (o : Output) → Writes nothing o o

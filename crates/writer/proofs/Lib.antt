@@ -6,3 +6,5 @@ pub mod Comments
 pub mod Lists
 pub mod Finals
 pub mod RuleWords
+pub mod HeadWords
+pub mod Form

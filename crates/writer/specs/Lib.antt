@@ -3,3 +3,4 @@ pub mod Writes
 pub mod Strings
 pub mod Lists
 pub mod WellFormed
+pub mod Sections

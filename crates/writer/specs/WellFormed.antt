@@ -55,26 +55,39 @@ pub record HeadFormed (text : List ℕ) (h : Head) : Type 0 where
   pub name : Whole (charactersAt text (h .name))
   pub input : Whole (charactersAt text (h .input))
   pub output : DecoderFormed (h .output)
+
+-- what may be declared: states, Σ, Γ, blank and start
+pub record DeclaredFormed (text : List ℕ) (h : Head) (states sigma gamma : List ℕ) : Type 0 where
+  pub names : Every (NameIn text) (groups 3 (h .counts .states) states)
+  pub sigmaCodes : scalars (column 3 0 (h .counts .sigma) sigma) ≡ true
+  pub gammaCodes : scalars (column 3 0 (h .counts .gamma) gamma) ≡ true
   pub blank : scalar (h .blank) ≡ true
   pub start : Utf8At text (h .start)
 
--- the sections of the sheet, from the words of each on
-pub record SectionsFormed (text : List ℕ) (n : Counts) (states sigma gamma header trailing rules : List ℕ) : Type 0 where
-  pub stateNames : Every (NameIn text) (groups 3 (n .states) states)
-  pub sigmaCodes : scalars (column 3 0 (n .sigma) sigma) ≡ true
-  pub gammaCodes : scalars (column 3 0 (n .gamma) gamma) ≡ true
+-- header comments, trailing comments and rules
+pub record BodyFormed (text : List ℕ) (n : Counts) (header trailing rules : List ℕ) : Type 0 where
   pub headerTexts : Every (NameIn text) (groups 2 (n .header) header)
   pub trailingTexts : Every (NameIn text) (groups 2 (n .trailing) trailing)
   pub ruleRecords : Every (RuleFormed text) (records (n .rules) rules)
 
+-- where the words of each section begin
+abbrev pub sigmaFrom : Answer → List ℕ
+sigmaFrom a = drop (3 * a .head .counts .states) (a .sheet)
+
+abbrev pub gammaFrom : Answer → List ℕ
+gammaFrom a = drop (3 * a .head .counts .sigma) (sigmaFrom a)
+
+abbrev pub headerFrom : Answer → List ℕ
+headerFrom a = drop (3 * a .head .counts .gamma + 2 * a .head .counts .finals) (gammaFrom a)
+
+abbrev pub trailingFrom : Answer → List ℕ
+trailingFrom a = drop (2 * a .head .counts .header) (headerFrom a)
+
+abbrev pub rulesFrom : Answer → List ℕ
+rulesFrom a = drop (2 * a .head .counts .trailing) (trailingFrom a)
+
 -- an answer
 pub record WellFormed (a : Answer) : Type 0 where
   pub headPart : HeadFormed (a .text) (a .head)
-  pub sections :
-      let n = a .head .counts in
-      let sigma = drop (3 * n .states) (a .sheet) in
-      let gamma = drop (3 * n .sigma) sigma in
-      let header = drop (3 * n .gamma + 2 * n .finals) gamma in
-      let trailing = drop (2 * n .header) header in
-      let rules = drop (2 * n .trailing) trailing in
-      SectionsFormed (a .text) n (a .sheet) sigma gamma header trailing rules
+  pub declaredPart : DeclaredFormed (a .text) (a .head) (a .sheet) (sigmaFrom a) (gammaFrom a)
+  pub bodyPart : BodyFormed (a .text) (a .head .counts) (headerFrom a) (trailingFrom a) (rulesFrom a)

@@ -13,16 +13,18 @@ ghost use Prim.Native.Nat.{_+_, _*_, _<_, _≤_};
 ghost use lib.Dec.{eqb, ltb};
 ghost use lib.ListN.{getD, take, drop};
 ghost use Rattle.chars.specs.Utf8.{scalar, scalars, encode, decode};
+ghost use Rattle.language.specs.Machine.{asBinary};
 ghost use Rattle.language.specs.Plain.{_⨾_, say, end, only, each, commas, verbatim, symbol, direction, escaped, inString, escapedText, string, decimal, comment, commentLine, ownComment, kindName, decoder, nameSet, symbolSet, finalNames, rule, ruleLines, plain};
 ghost use Rattle.language.specs.Agreement.{groups, records, placeAt, dirOf, charactersAt, stringAt, commentAt, actionIn, stateIn, textIn, ruleIn, contentOfAnswer};
 ghost use Rattle.lexer.specs.Tokens.{unescape};
 ghost use Rattle.machine.specs.Head.{spanOf};
 ghost use Rattle.emit.specs.Output.{output, appended};
-ghost use Rattle.writer.specs.Answers.{spanIn, kindIn, decoderIn, answer};
+ghost use Rattle.writer.specs.Answers.{spanIn, kindIn, orderIn, decoderIn, headIn, answer};
 ghost use Rattle.writer.specs.Writes.{Adds, Writes};
 ghost use Rattle.writer.specs.Lists.{FinalWritten, ruleLeft, ruleRight};
+ghost use Rattle.writer.specs.Sections.{headLines, statesLine, symbolsLine, blankLine, startLine, finalsLine, declaredLines};
 ghost use Rattle.writer.specs.Strings.{isEscape, rewritten};
-ghost use Rattle.writer.specs.WellFormed.{Every, bytesAt, Utf8At, Whole, NameIn, column, RuleFormed, DecoderFormed, WellFormed};
+ghost use Rattle.writer.specs.WellFormed.{Every, bytesAt, Utf8At, Whole, NameIn, column, RuleFormed, DecoderFormed, HeadFormed, DeclaredFormed, WellFormed};
 
 // ---- parts of the sheet and of the text
 
@@ -437,4 +439,169 @@ fn rules(out: &mut [u8], at: usize, text: &[u8], words: &[u32], n: u32) -> usize
         i += 1;
     }
     end
+}
+
+// ---- the lines before the rules
+
+// The number of tapes.
+fn number(out: &mut [u8], at: usize, n: u8) -> usize
+    ensures { λ r. ⌜ Writes (decimal n) (output (now (out .entry)) at) (output (now (out .exit)) r) ⌝ }
+{
+    emit::decimal(out, at, n as u64)
+}
+
+// The name of a kind.
+fn kind(out: &mut [u8], at: usize, k: Kind) -> usize
+    ensures { λ r. ⌜ Writes (say (kindName (kindIn k))) (output (now (out .entry)) at) (output (now (out .exit)) r) ⌝ }
+{
+    match k {
+        Kind::Acceptor => say(out, at, b"acceptor"),
+        Kind::Transducer => say(out, at, b"transducer"),
+        Kind::Enumerator => say(out, at, b"enumerator"),
+        Kind::Beaver => say(out, at, b"beaver"),
+    }
+}
+
+// The order of bits.
+fn bit_order(out: &mut [u8], at: usize, o: BitOrder) -> usize
+    ensures { λ r. ⌜ Writes (decoder (asBinary (orderIn o))) (output (now (out .entry)) at) (output (now (out .exit)) r) ⌝ }
+{
+    match o {
+        BitOrder::Lsb => say(out, at, b"binary lsb"),
+        BitOrder::Msb => say(out, at, b"binary msb"),
+    }
+}
+
+// How the output is read.
+fn decoder(out: &mut [u8], at: usize, d: Decoder) -> usize
+    requires { ⌜ DecoderFormed (decoderIn d) ⌝ }
+    ensures { λ r. ⌜ Writes (decoder (decoderIn d)) (output (now (out .entry)) at) (output (now (out .exit)) r) ⌝ }
+{
+    match d {
+        Decoder::Word => say(out, at, b"word"),
+        Decoder::Unary(c) => {
+            let a = say(out, at, b"unary ");
+            symbol(out, a, c)
+        }
+        Decoder::Binary(o) => bit_order(out, at, o),
+    }
+}
+
+// `machine`, `kind`, `input`, `output` and `tapes`.
+fn head_lines(out: &mut [u8], at: usize, text: &[u8], head: Head) -> usize
+    requires { ⌜ HeadFormed (now text) (headIn head) ⌝ }
+    ensures { λ r. ⌜ Writes (headLines (now (text .entry)) (headIn head)) (output (now (out .entry)) at) (output (now (out .exit)) r) ⌝ }
+{
+    let a = say(out, at, b"machine ");
+    let name = head.name;
+    let b = string(out, a, text, name);
+    let c = say(out, b, b"\nkind ");
+    let k = head.kind;
+    let d = kind(out, c, k);
+    let e = say(out, d, b"\ninput ");
+    let input = head.input;
+    let f = string(out, e, text, input);
+    let g = say(out, f, b"\noutput ");
+    let o = head.output;
+    let h = decoder(out, g, o);
+    let i = say(out, h, b"\ntapes = ");
+    let j = number(out, i, head.tapes);
+    say(out, j, b"\n")
+}
+
+// `Q`, if declared.
+fn states_line(out: &mut [u8], at: usize, text: &[u8], declared: bool, n: u32, words: &[u32]) -> usize
+    requires { ⌜ Every (NameIn (now text)) (groups 3 n (now words)) ⌝ }
+    ensures { λ r. ⌜ Writes (statesLine (now (text .entry)) declared n (now (words .entry))) (output (now (out .entry)) at) (output (now (out .exit)) r) ⌝ }
+{
+    if declared {
+        let a = say(out, at, b"Q = {");
+        let b = names(out, a, text, words, n);
+        return say(out, b, b"}\n");
+    }
+    at
+}
+
+// `Σ` or `Γ`, by its letter, if declared.
+fn symbols_line(out: &mut [u8], at: usize, letter: u32, declared: bool, n: u32, words: &[u32]) -> usize
+    requires { ⌜ (scalar letter ≡ true) × (scalars (column 3 0 n (now words)) ≡ true) ⌝ }
+    ensures { λ r. ⌜ Writes (symbolsLine letter declared n (now (words .entry))) (output (now (out .entry)) at) (output (now (out .exit)) r) ⌝ }
+{
+    if declared {
+        let a = character(out, at, letter);
+        let b = say(out, a, b" = {");
+        let c = symbols(out, b, words, 3, 0, n);
+        return say(out, c, b"}\n");
+    }
+    at
+}
+
+// `blank`, if declared.
+fn blank_line(out: &mut [u8], at: usize, declared: bool, c: u32) -> usize
+    requires { ⌜ scalar c ≡ true ⌝ }
+    ensures { λ r. ⌜ Writes (blankLine declared c) (output (now (out .entry)) at) (output (now (out .exit)) r) ⌝ }
+{
+    if declared {
+        let a = say(out, at, b"blank = ");
+        let b = symbol(out, a, c);
+        return say(out, b, b"\n");
+    }
+    at
+}
+
+// `start`, if declared.
+fn start_line(out: &mut [u8], at: usize, text: &[u8], declared: bool, p: Span) -> usize
+    requires { ⌜ Utf8At (now text) (spanIn p) ⌝ }
+    ensures { λ r. ⌜ Writes (startLine (now (text .entry)) declared (spanIn p)) (output (now (out .entry)) at) (output (now (out .exit)) r) ⌝ }
+{
+    if declared {
+        let a = say(out, at, b"start = ");
+        let b = verbatim(out, a, text, p);
+        return say(out, b, b"\n");
+    }
+    at
+}
+
+// `F`, which is always there.
+fn finals_line(out: &mut [u8], at: usize, text: &[u8], n: u32, words: &[u32]) -> usize
+    requires { ⌜ Every (NameIn (now text)) (groups 3 n (now words)) ⌝ }
+    ensures { λ r. ⌜ Writes (finalsLine (now (text .entry)) n (now (words .entry))) (output (now (out .entry)) at) (output (now (out .exit)) r) ⌝ }
+{
+    let a = say(out, at, b"F = {");
+    let b = final_names(out, a, text, words, n);
+    say(out, b, b"}\n")
+}
+
+// All that is said only if declared, and the final states.
+fn declared_lines(out: &mut [u8], at: usize, text: &[u8], head: Head, states: &[u32], sigma: &[u32], gamma: &[u32]) -> usize
+    requires { ⌜ DeclaredFormed (now text) (headIn head) (now states) (now sigma) (now gamma) ⌝ }
+    ensures { λ r. ⌜ Writes (declaredLines (now (text .entry)) (headIn head) (now (states .entry)) (now (sigma .entry)) (now (gamma .entry))) (output (now (out .entry)) at) (output (now (out .exit)) r) ⌝ }
+{
+    let a = states_line(out, at, text, head.declared.states, head.counts.states, states);
+    let b = symbols_line(out, a, 0x3A3, head.declared.input_alphabet, head.counts.sigma, sigma);
+    let c = symbols_line(out, b, 0x393, head.declared.tape_alphabet, head.counts.gamma, gamma);
+    let d = blank_line(out, c, head.declared.blank, head.blank);
+    let p = head.start;
+    let e = start_line(out, d, text, head.declared.start, p);
+    finals_line(out, e, text, head.counts.states, states)
+}
+
+// ---- the whole form
+
+// The plain form of the machine that a reading call answered with, at the front of `out` as far as there is room; its length.
+pub fn plain_form(head: Head, sheet: &[u32], text: &[u8], out: &mut [u8]) -> usize
+    requires { ⌜ WellFormed (answer head (now sheet) (now text)) ⌝ }
+    ensures { λ r. ⌜ output (now (out .exit)) r ≡ appended (output (now (out .entry)) 0) (encode (plain (contentOfAnswer (answer head (now (sheet .entry)) (now (text .entry)))))) ⌝ }
+{
+    let n = head.counts;
+    let sigma = after(sheet, 3 * (n.states as usize));
+    let gamma = after(sigma, 3 * (n.sigma as usize));
+    let header = after(gamma, 3 * (n.gamma as usize) + 2 * (n.finals as usize));
+    let trailing = after(header, 2 * (n.header as usize));
+    let records = after(trailing, 2 * (n.trailing as usize));
+    let a = comment_lines(out, 0, text, header, n.header);
+    let b = head_lines(out, a, text, head);
+    let c = declared_lines(out, b, text, head, sheet, sigma, gamma);
+    let d = rules(out, c, text, records, n.rules);
+    comment_lines(out, d, text, trailing, n.trailing)
 }
