@@ -66,7 +66,7 @@ module _ (text ws : List ℕ) where
     unfolding ruleLeft ruleIn actions encode
     left-written q o a b c d r e w₁ w₂ w₃ w₄ w₅ =
         let f : Writes (commas (λ x. symbol (x .read)) (actions (getD ws 9 0) (drop 11 ws))) c d =
-          same (λ rest. reads (getD ws 9 0) (drop 11 ws) rest ∙ sym (ap₂ (λ m l. commas symbol (column 7 0 m l) rest) arity cut)) w₄ in
+        same (λ rest. reads (getD ws 9 0) (drop 11 ws) rest ∙ sym (ap₂ (λ m l. commas symbol (column 7 0 m l) rest) arity cut)) w₄ in
         known {p = say "δ("} (0xCE ∷ 0xB4 ∷ 0x28 ∷ []) (λ rest. refl) w₁ ▹ named 1 q a b e w₂
         ▹ known {p = say ", ("} (0x2C ∷ 0x20 ∷ 0x28 ∷ []) (λ rest. refl) w₃ ▹ f ▹ known {p = say "))"} (0x29 ∷ 0x29 ∷ []) (λ rest. refl) w₅
 
@@ -76,9 +76,9 @@ module _ (text ws : List ℕ) where
     unfolding ruleRight ruleIn actions encode
     right-written q o a b c d x y r e w₁ w₂ w₃ w₄ w₅ w₆ w₇ =
         let f : Writes (commas (λ z. symbol (z .write)) (actions (getD ws 9 0) (drop 11 ws))) c d =
-          same (λ rest. writes (getD ws 9 0) (drop 11 ws) rest ∙ sym (ap₂ (λ m l. commas symbol (column 7 3 m l) rest) arity cut)) w₄ in
+        same (λ rest. writes (getD ws 9 0) (drop 11 ws) rest ∙ sym (ap₂ (λ m l. commas symbol (column 7 3 m l) rest) arity cut)) w₄ in
         let g : Writes (commas (λ z. direction (z .dir)) (actions (getD ws 9 0) (drop 11 ws))) x y =
-          same (λ rest. moves (getD ws 9 0) (drop 11 ws) rest ∙ sym (ap₂ (λ m l. commas direction (map dirOf (column 7 6 m l)) rest) arity cut)) w₆ in
+        same (λ rest. moves (getD ws 9 0) (drop 11 ws) rest ∙ sym (ap₂ (λ m l. commas direction (map dirOf (column 7 6 m l)) rest) arity cut)) w₆ in
         known {p = say " = ("} (0x20 ∷ 0x3D ∷ 0x20 ∷ 0x28 ∷ []) (λ rest. refl) w₁ ▹ named 3 q a b e w₂
         ▹ known {p = say ", ("} (0x2C ∷ 0x20 ∷ 0x28 ∷ []) (λ rest. refl) w₃ ▹ f ▹ known {p = say "), ("} (0x29 ∷ 0x2C ∷ 0x20 ∷ 0x28 ∷ []) (λ rest. refl) w₅ ▹ g
         ▹ known {p = say "))"} (0x29 ∷ 0x29 ∷ []) (λ rest. refl) w₇
@@ -96,7 +96,7 @@ module _ (text ws : List ℕ) where
     unfolding ruleLines rule ruleLeft ruleRight ruleIn encode
     lines-written q o a b c d r e w₁ w₂ w₃ w₄ w₅ =
         let f : Writes (each commentLine (map (textIn text) (groups 2 (getD ws 10 0) (drop (11 + 7 * getD ws 9 0) ws)))) o a =
-          same (λ rest. ap₂ (λ m l. each commentLine (map (textIn text) (groups 2 m l)) rest) (sym many) rest-words) w₁ in
+        same (λ rest. ap₂ (λ m l. each commentLine (map (textIn text) (groups 2 m l)) rest) (sym many) rest-words) w₁ in
         f ▹ w₂ ▹ w₃ ▹ subst (λ p. Writes (ownComment (commentAt text p)) c d) (ap spanIn e) w₄ ▹ known {p = end} (10 ∷ []) (λ rest. refl) w₅
 
 -- ---- rules one after the other

@@ -353,7 +353,7 @@ struct Listed {
 fn final_name(out: &mut [u8], l: Listed, text: &[u8], words: &[u32], j: usize) -> Listed
     requires { ⌜ (j + 2 < 18446744073709551616) × (l .count < 4294967295) × Utf8At (now text) (placeAt (now words) j) ⌝ }
     ensures { λ r. ⌜ FinalWritten (eqb (getD (now (words .entry)) (j + 2) 0) 1) (charactersAt (now (text .entry)) (placeAt (now (words .entry)) j))
-      (output (now (out .entry)) (l .at)) (l .count) (output (now (out .exit)) (r .at)) (r .count) ⌝ }
+        (output (now (out .entry)) (l .at)) (l .count) (output (now (out .exit)) (r .at)) (r .count) ⌝ }
 {
     if word(words, j + 2) != 1 {
         return l;
@@ -510,7 +510,14 @@ fn head_lines(out: &mut [u8], at: usize, text: &[u8], head: Head) -> usize
 }
 
 // `Q`, if declared.
-fn states_line(out: &mut [u8], at: usize, text: &[u8], declared: bool, n: u32, words: &[u32]) -> usize
+fn states_line(
+    out: &mut [u8],
+    at: usize,
+    text: &[u8],
+    declared: bool,
+    n: u32,
+    words: &[u32],
+) -> usize
     requires { ⌜ Every (NameIn (now text)) (groups 3 n (now words)) ⌝ }
     ensures { λ r. ⌜ Writes (statesLine (now (text .entry)) declared n (now (words .entry))) (output (now (out .entry)) at) (output (now (out .exit)) r) ⌝ }
 {
@@ -523,7 +530,14 @@ fn states_line(out: &mut [u8], at: usize, text: &[u8], declared: bool, n: u32, w
 }
 
 // `Σ` or `Γ`, by its letter, if declared.
-fn symbols_line(out: &mut [u8], at: usize, letter: u32, declared: bool, n: u32, words: &[u32]) -> usize
+fn symbols_line(
+    out: &mut [u8],
+    at: usize,
+    letter: u32,
+    declared: bool,
+    n: u32,
+    words: &[u32],
+) -> usize
     requires { ⌜ (scalar letter ≡ true) × (scalars (column 3 0 n (now words)) ≡ true) ⌝ }
     ensures { λ r. ⌜ Writes (symbolsLine letter declared n (now (words .entry))) (output (now (out .entry)) at) (output (now (out .exit)) r) ⌝ }
 {
@@ -573,13 +587,42 @@ fn finals_line(out: &mut [u8], at: usize, text: &[u8], n: u32, words: &[u32]) ->
 }
 
 // All that is said only if declared, and the final states.
-fn declared_lines(out: &mut [u8], at: usize, text: &[u8], head: Head, states: &[u32], sigma: &[u32], gamma: &[u32]) -> usize
+fn declared_lines(
+    out: &mut [u8],
+    at: usize,
+    text: &[u8],
+    head: Head,
+    states: &[u32],
+    sigma: &[u32],
+    gamma: &[u32],
+) -> usize
     requires { ⌜ DeclaredFormed (now text) (headIn head) (now states) (now sigma) (now gamma) ⌝ }
     ensures { λ r. ⌜ Writes (declaredLines (now (text .entry)) (headIn head) (now (states .entry)) (now (sigma .entry)) (now (gamma .entry))) (output (now (out .entry)) at) (output (now (out .exit)) r) ⌝ }
 {
-    let a = states_line(out, at, text, head.declared.states, head.counts.states, states);
-    let b = symbols_line(out, a, 0x3A3, head.declared.input_alphabet, head.counts.sigma, sigma);
-    let c = symbols_line(out, b, 0x393, head.declared.tape_alphabet, head.counts.gamma, gamma);
+    let a = states_line(
+        out,
+        at,
+        text,
+        head.declared.states,
+        head.counts.states,
+        states,
+    );
+    let b = symbols_line(
+        out,
+        a,
+        0x3A3,
+        head.declared.input_alphabet,
+        head.counts.sigma,
+        sigma,
+    );
+    let c = symbols_line(
+        out,
+        b,
+        0x393,
+        head.declared.tape_alphabet,
+        head.counts.gamma,
+        gamma,
+    );
     let d = blank_line(out, c, head.declared.blank, head.blank);
     let p = head.start;
     let e = start_line(out, d, text, head.declared.start, p);
