@@ -15,10 +15,10 @@ use Rattle.lexer.specs.Tokens.{Span}
 use Rattle.language.specs.Plain.{say, verbatim, comment, ownComment}
 use Rattle.language.specs.Agreement.{charactersAt, commentAt}
 use Rattle.emit.specs.Output.{Output}
-use Rattle.writer.specs.Writes.{Adds, Writes}
+use Rattle.pieces.specs.Writes.{Adds, Writes}
 use Rattle.writer.specs.WellFormed.{bytesAt, Utf8At}
-use Rattle.writer.proofs.Chain.{known, _▹_}
-use Rattle.writer.proofs.Chain as C
+use Rattle.pieces.proofs.Chain.{known, _▹_}
+use Rattle.pieces.proofs.Chain as C
 
 empty : (l : List ℕ) → length l ≡ 0 → l ≡ []
 empty [] h = refl

@@ -14,12 +14,12 @@ use Rattle.language.specs.Agreement.{groups, placeAt, charactersAt, stateIn}
 use Rattle.machine.specs.declared.Span as D
 use Rattle.machine.specs.Head.{spanOf}
 use Rattle.emit.specs.Output.{Output}
-use Rattle.writer.specs.Writes.{Adds, Writes}
+use Rattle.pieces.specs.Writes.{Adds, Writes}
 use Rattle.writer.specs.Answers.{spanIn}
 use Rattle.writer.specs.Lists.{FinalWritten}
 use Rattle.writer.specs.WellFormed.{Every, Utf8At, NameIn}
-use Rattle.writer.proofs.Chain.{_▹_, Goes, goes-start, goes-on, goes-end}
-use Rattle.writer.proofs.Chain as C
+use Rattle.pieces.proofs.Chain.{_▹_, Goes, goes-start, goes-on, goes-end}
+use Rattle.pieces.proofs.Chain as C
 use Rattle.writer.proofs.Lists.{left, left-all, left-next, left-none, word-in, place-in, more, more-start, more-next, more-none, Names}
 
 -- ---- one state

@@ -11,10 +11,10 @@ use Rattle.language.specs.Plain.{Piece, _⨾_, say, end, only, each, nameSet, c
 use Rattle.language.specs.Agreement.{Answer, groups, records, stateIn, textIn, ruleIn, contentOfAnswer}
 use Rattle.emit.specs.Output.{Output, appended}
 use Rattle.emit.proofs.Appends.{appended-nil}
-use Rattle.writer.specs.Writes.{Writes}
+use Rattle.pieces.specs.Writes.{Writes}
 use Rattle.writer.specs.Sections.{headLines, statesLine, symbolsLine, blankLine, startLine, finalsLine, declaredLines}
 use Rattle.writer.specs.WellFormed.{Every, NameIn, RuleFormed, DeclaredFormed, BodyFormed, sigmaFrom, gammaFrom, headerFrom, trailingFrom, rulesFrom, WellFormed}
-use Rattle.writer.proofs.Chain.{same, _▹_}
+use Rattle.pieces.proofs.Chain.{same, _▹_}
 
 -- the letters Σ and Γ
 pub sigma-scalar : scalar 0x3A3 ≡ true

@@ -24,11 +24,11 @@ use Rattle.machine.specs.declared.Span as D
 use Rattle.emit.specs.Output.{Output, output, appended}
 use Rattle.emit.specs.Decimal as E
 use Rattle.emit.proofs.Digits.{digits-rest, digits-any}
-use Rattle.writer.specs.Writes.{Adds, Writes}
+use Rattle.pieces.specs.Writes.{Adds, Writes}
 use Rattle.writer.specs.Answers.{spanIn, kindIn, orderIn, decoderIn}
 use Rattle.writer.specs.Sections.{headLines, statesLine, symbolsLine, blankLine, startLine, finalsLine}
 use Rattle.writer.specs.WellFormed.{column, DecoderFormed}
-use Rattle.writer.proofs.Chain.{adds, known, spoken, same, none, _▹_}
+use Rattle.pieces.proofs.Chain.{adds, known, spoken, same, none, _▹_}
 
 -- ---- the number of tapes
 

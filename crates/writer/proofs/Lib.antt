@@ -1,7 +1,5 @@
 pub mod Parts
-pub mod Chain
-pub mod Characters
-pub mod Strings
+pub mod Places
 pub mod Comments
 pub mod Lists
 pub mod Finals

@@ -18,10 +18,10 @@ use Rattle.language.specs.Agreement.{groups, placeAt, dirOf, charactersAt, text
 use Rattle.machine.specs.declared.Span as D
 use Rattle.machine.specs.Head.{spanOf}
 use Rattle.emit.specs.Output.{Output}
-use Rattle.writer.specs.Writes.{Adds, Writes}
+use Rattle.pieces.specs.Writes.{Adds, Writes}
 use Rattle.writer.specs.Answers.{spanIn}
 use Rattle.writer.specs.WellFormed.{Every, Utf8At, NameIn, column}
-use Rattle.writer.proofs.Chain.{known, _▹_, Goes, goes-start, goes-on, goes-end}
+use Rattle.pieces.proofs.Chain.{known, _▹_, Goes, goes-start, goes-on, goes-end}
 
 -- ---- records that are left
 

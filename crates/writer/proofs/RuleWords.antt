@@ -16,11 +16,11 @@ use Rattle.language.specs.Agreement.{groups, records, placeAt, dirOf, actionIn,
 use Rattle.machine.specs.declared.Span as D
 use Rattle.machine.specs.Head.{spanOf}
 use Rattle.emit.specs.Output.{Output}
-use Rattle.writer.specs.Writes.{Adds, Writes}
+use Rattle.pieces.specs.Writes.{Adds, Writes}
 use Rattle.writer.specs.Answers.{spanIn}
 use Rattle.writer.specs.Lists.{ruleLeft, ruleRight}
 use Rattle.writer.specs.WellFormed.{Every, Utf8At, NameIn, column, RuleFormed}
-use Rattle.writer.proofs.Chain.{known, same, _▹_, Goes, goes-start, goes-on, goes-end}
+use Rattle.pieces.proofs.Chain.{known, same, _▹_, Goes, goes-start, goes-on, goes-end}
 
 -- ---- the members of a list by a function of each
 

@@ -8,7 +8,7 @@ use Rattle.language.specs.Content.{RuleContent}
 use Rattle.language.specs.Layout.{flag}
 use Rattle.language.specs.Plain.{Piece, _⨾_, say, only, commas, verbatim, symbol, direction}
 use Rattle.emit.specs.Output.{Output}
-use Rattle.writer.specs.Writes.{Writes}
+use Rattle.pieces.specs.Writes.{Writes}
 
 -- the name of a state was written if it is final, a comma before it if others stand there, and counted
 pub record FinalWritten (final : Bool) (name : List ℕ) (before : Output) (count : ℕ) (after : Output) (counted : ℕ) : Type 0 where

@@ -5,7 +5,8 @@ use mathlib.Core.List.{List, [], _∷_, _++_, map}
 use mathlib.Core.Path.{_≡_}
 use lib.ListN.{length, take, drop}
 use Rattle.chars.specs.Utf8.{scalar, scalars, encode}
-use Rattle.lexer.specs.Tokens.{Span, closed, inside, unescape}
+use Rattle.lexer.specs.Tokens.{Span}
+use Rattle.pieces.specs.Strings.{Whole}
 use Rattle.language.specs.Machine.{Decoder, asWord, asUnary, asBinary}
 use Rattle.language.specs.Layout.{Counts, Head}
 use Rattle.language.specs.Agreement.{Answer, groups, records, at, placeAt, charactersAt}
@@ -22,10 +23,6 @@ bytesAt text p = take (p .end - p .start) (drop (p .start) text)
 -- they are UTF-8
 abbrev pub Utf8At : List ℕ → Span → Type 0
 Utf8At text p = encode (charactersAt text p) ≡ bytesAt text p
-
--- the characters between a string's quotes: the first quote that closes them is the one behind them
-abbrev pub Whole : List ℕ → Type 0
-Whole cs = inside false (cs ++ 0x22 ∷ []) ≡ closed (unescape cs) (suc (length cs))
 
 -- the place that a record of the sheet begins with holds UTF-8
 abbrev pub NameIn : List ℕ → List ℕ → Type 0

@@ -1,30 +1,33 @@
 // The plain form of a machine (paper 01), from the head, the sheet and the text that a reading call answered with.
 // Each function appends one piece of the form to a lent output, as crate `emit` does: stored where there is room, counted in any case.
-use chars::Decoded;
 use machine::BitOrder;
 use machine::Decoder;
 use machine::Head;
 use machine::Kind;
 use machine::Span;
-ghost use mathlib.Core.Bool.{true, not, _&&_};
+use pieces::character;
+use pieces::comma;
+use pieces::say;
+use pieces::string_text;
+use pieces::symbol;
+ghost use mathlib.Core.Bool.{true, _&&_};
 ghost use mathlib.Core.Path.{_≡_};
-ghost use mathlib.Core.List.{[], _∷_, map};
-ghost use Prim.Native.Nat.{_+_, _*_, _<_, _≤_};
-ghost use lib.Dec.{eqb, ltb};
+ghost use mathlib.Core.List.{map};
+ghost use Prim.Native.Nat.{_+_, _<_, _≤_};
+ghost use lib.Dec.{eqb};
 ghost use lib.ListN.{getD, take, drop};
-ghost use Rattle.chars.specs.Utf8.{scalar, scalars, encode, decode};
+ghost use Rattle.chars.specs.Utf8.{scalar, scalars, encode};
 ghost use Rattle.language.specs.Machine.{asBinary};
-ghost use Rattle.language.specs.Plain.{_⨾_, say, end, only, each, commas, verbatim, symbol, direction, escaped, inString, escapedText, string, decimal, comment, commentLine, ownComment, kindName, decoder, nameSet, symbolSet, finalNames, rule, ruleLines, plain};
-ghost use Rattle.language.specs.Agreement.{groups, records, placeAt, dirOf, charactersAt, stringAt, commentAt, actionIn, stateIn, textIn, ruleIn, contentOfAnswer};
-ghost use Rattle.lexer.specs.Tokens.{unescape};
+ghost use Rattle.language.specs.Plain.{say, each, commas, verbatim, symbol, direction, string, decimal, commentLine, comment, ownComment, kindName, decoder, finalNames, ruleLines, plain};
+ghost use Rattle.language.specs.Agreement.{groups, records, placeAt, dirOf, charactersAt, stringAt, commentAt, stateIn, textIn, ruleIn, contentOfAnswer};
 ghost use Rattle.machine.specs.Head.{spanOf};
 ghost use Rattle.emit.specs.Output.{output, appended};
+ghost use Rattle.pieces.specs.Writes.{Writes};
+ghost use Rattle.pieces.specs.Strings.{Whole};
 ghost use Rattle.writer.specs.Answers.{spanIn, kindIn, orderIn, decoderIn, headIn, answer};
-ghost use Rattle.writer.specs.Writes.{Adds, Writes};
 ghost use Rattle.writer.specs.Lists.{FinalWritten, ruleLeft, ruleRight};
 ghost use Rattle.writer.specs.Sections.{headLines, statesLine, symbolsLine, blankLine, startLine, finalsLine, declaredLines};
-ghost use Rattle.writer.specs.Strings.{isEscape, rewritten};
-ghost use Rattle.writer.specs.WellFormed.{Every, bytesAt, Utf8At, Whole, NameIn, column, RuleFormed, DecoderFormed, HeadFormed, DeclaredFormed, WellFormed};
+ghost use Rattle.writer.specs.WellFormed.{Every, bytesAt, Utf8At, NameIn, column, RuleFormed, DecoderFormed, HeadFormed, DeclaredFormed, WellFormed};
 
 // ---- parts of the sheet and of the text
 
@@ -76,144 +79,12 @@ fn part(text: &[u8], p: Span) -> &[u8]
 
 // ---- characters
 
-// Bytes as they are.
-fn say(out: &mut [u8], at: usize, bytes: &[u8]) -> usize
-    ensures { λ r. ⌜ Adds (now (bytes .entry)) (output (now (out .entry)) at) (output (now (out .exit)) r) ⌝ }
-{
-    emit::bytes(out, at, bytes)
-}
-
 // The characters at a place.
 fn verbatim(out: &mut [u8], at: usize, text: &[u8], p: Span) -> usize
     requires { ⌜ Utf8At (now text) (spanIn p) ⌝ }
     ensures { λ r. ⌜ Writes (verbatim (charactersAt (now (text .entry)) (spanIn p))) (output (now (out .entry)) at) (output (now (out .exit)) r) ⌝ }
 {
     say(out, at, part(text, p))
-}
-
-// A character.
-fn character(out: &mut [u8], at: usize, c: u32) -> usize
-    requires { ⌜ scalar c ≡ true ⌝ }
-    ensures { λ r. ⌜ Writes (λ rest. c ∷ rest) (output (now (out .entry)) at) (output (now (out .exit)) r) ⌝ }
-{
-    emit::code_point(out, at, c)
-}
-
-// A symbol, which is always quoted.
-fn symbol(out: &mut [u8], at: usize, c: u32) -> usize
-    requires { ⌜ scalar c ≡ true ⌝ }
-    ensures { λ r. ⌜ Writes (symbol c) (output (now (out .entry)) at) (output (now (out .exit)) r) ⌝ }
-{
-    let a = say(out, at, b"'");
-    let b = character(out, a, c);
-    say(out, b, b"'")
-}
-
-// A comma before every member of a list but the first.
-fn comma(out: &mut [u8], at: usize, i: u32) -> usize
-    ensures { λ r. ⌜ Writes (only (ltb 0 i) (say ", ")) (output (now (out .entry)) at) (output (now (out .exit)) r) ⌝ }
-{
-    if 0 < i {
-        return say(out, at, b", ");
-    }
-    at
-}
-
-// ---- strings
-
-// A character of a string, escaped where it has to be.
-fn in_string(out: &mut [u8], at: usize, c: u32) -> usize
-    requires { ⌜ scalar c ≡ true ⌝ }
-    ensures { λ r. ⌜ Writes (inString (escaped c) c) (output (now (out .entry)) at) (output (now (out .exit)) r) ⌝ }
-{
-    if c == 0x22 {
-        return say(out, at, b"\\\"");
-    }
-    if c == 0x5C {
-        return say(out, at, b"\\\\");
-    }
-    if c == 10 {
-        return say(out, at, b"\\n");
-    }
-    if c == 9 {
-        return say(out, at, b"\\t");
-    }
-    character(out, at, c)
-}
-
-// Whether a character makes an escape with a backslash before it.
-fn is_escape(c: u32) -> bool
-    ensures { λ r. ⌜ r ≡ isEscape c ⌝ }
-{
-    if c == 0x22 {
-        return true;
-    }
-    if c == 0x5C {
-        return true;
-    }
-    if c == 0x6E {
-        return true;
-    }
-    c == 0x74
-}
-
-// A character behind a backslash: an escape is written as it stands, else the backslash is a character of its own.
-fn behind_slash(out: &mut [u8], at: usize, c: u32) -> usize
-    requires { ⌜ scalar c ≡ true ⌝ }
-    ensures { λ r. ⌜ Writes (rewritten true c) (output (now (out .entry)) at) (output (now (out .exit)) r) ⌝ }
-{
-    let a = say(out, at, b"\\");
-    if is_escape(c) {
-        return character(out, a, c);
-    }
-    let b = say(out, a, b"\\");
-    in_string(out, b, c)
-}
-
-// A character between the quotes as it is written again. A backslash waits for the character behind it.
-fn rewritten(out: &mut [u8], at: usize, slash: bool, c: u32) -> usize
-    requires { ⌜ scalar c ≡ true ⌝ }
-    ensures { λ r. ⌜ Writes (rewritten slash c) (output (now (out .entry)) at) (output (now (out .exit)) r) ⌝ }
-{
-    if slash {
-        return behind_slash(out, at, c);
-    }
-    if c == 0x5C {
-        return at;
-    }
-    in_string(out, at, c)
-}
-
-// Whether the next character stands behind a backslash that waits for it.
-fn waits(slash: bool, c: u32) -> bool
-    ensures { λ r. ⌜ r ≡ (not slash && eqb c 0x5C) ⌝ }
-{
-    if slash {
-        return false;
-    }
-    c == 0x5C
-}
-
-// The bytes between the quotes: their escapes are undone and made again.
-fn string_text(out: &mut [u8], at: usize, part: &[u8]) -> usize
-    requires { ⌜ Whole (decode (now part)) ⌝ }
-    ensures { λ r. ⌜ Writes (escapedText (unescape (decode (now (part .entry))))) (output (now (out .entry)) at) (output (now (out .exit)) r) ⌝ }
-{
-    let mut end = at;
-    let mut i = 0;
-    let mut slash = false;
-    loop {
-        let d = chars::char_at(part, i);
-        match d {
-            Decoded::Char(c, next) => {
-                end = rewritten(out, end, slash, c);
-                slash = waits(slash, c);
-                i = next;
-            }
-            Decoded::Invalid => return end,
-            Decoded::End => return end,
-        }
-    }
 }
 
 // The string at a place, in quotes.

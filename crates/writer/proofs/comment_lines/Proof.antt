@@ -1,6 +1,6 @@
 -- `writer::comment_lines` meets its contract: the lines that are left go behind what is written.
 use borrow.Author.Needs.{needs}
-use Rattle.writer.proofs.Chain.{Goes}
+use Rattle.pieces.proofs.Chain.{Goes}
 use Rattle.writer.proofs.Lists.{Names, texts, names-all, names-next, names-here, lines-start, lines-on, lines-end}
 use mathlib.Core.Path.{_≡_}
 use Prim.Native.Nat.{_-_, _*_, _≤_}

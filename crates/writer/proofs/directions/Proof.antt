@@ -1,6 +1,6 @@
 -- `writer::directions` meets its contract: the moves that are left go behind what is written.
 use borrow.Author.Needs.{needs}
-use Rattle.writer.proofs.Chain.{Goes}
+use Rattle.pieces.proofs.Chain.{Goes}
 use Rattle.writer.proofs.Lists.{codes, more, moves-start, moves-on, moves-end}
 use mathlib.Core.Path.{_≡_}
 use Prim.Native.Nat.{_-_, _*_, _≤_}

@@ -1,6 +1,6 @@
 -- `writer::final_names` meets its contract: the names that are left go behind what is written.
 use borrow.Author.Needs.{needs}
-use Rattle.writer.proofs.Chain.{Goes}
+use Rattle.pieces.proofs.Chain.{Goes}
 use Rattle.writer.proofs.Lists.{Names, more, names-all, names-next}
 use Rattle.writer.proofs.Finals.{finals, finals-start, finals-utf8, finals-count, finals-on, finals-end}
 use mathlib.Core.Path.{_≡_}

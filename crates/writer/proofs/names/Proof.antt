@@ -1,6 +1,6 @@
 -- `writer::names` meets its contract: the names that are left go behind what is written.
 use borrow.Author.Needs.{needs}
-use Rattle.writer.proofs.Chain.{Goes}
+use Rattle.pieces.proofs.Chain.{Goes}
 use Rattle.writer.proofs.Lists.{Names, texts, more, names-all, names-next, names-here, list-start, list-on, list-end}
 use mathlib.Core.Path.{_≡_}
 use Prim.Native.Nat.{_-_, _*_, _≤_}

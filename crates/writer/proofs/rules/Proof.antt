@@ -6,7 +6,7 @@ use lib.ListN.{length}
 use Rattle.language.specs.Agreement.{records, ruleIn}
 use Rattle.language.specs.Plain.{each, ruleLines}
 use Rattle.emit.specs.Output.{output}
-use Rattle.writer.proofs.Chain.{Goes}
+use Rattle.pieces.proofs.Chain.{Goes}
 use Rattle.writer.proofs.RuleWords.{recordsLeft, Formed, formed-all, formed-here, formed-next, rules-start, rules-on, rules-end}
 use borrow.Author.Needs.{needs}
 use Rattle.writer.proofs.rules.Statement.{statement}

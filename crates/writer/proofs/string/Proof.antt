@@ -1,6 +1,6 @@
 -- `writer::string` meets its contract: a quote, the text and a quote, one after the other.
 use borrow.Author.Needs.{needs}
-use Rattle.writer.proofs.Strings.{string-written, string-whole}
+use Rattle.writer.proofs.Places.{string-written, string-whole}
 use Rattle.writer.proofs.string.Statement.{statement}
 use Rattle.writer.proofs.string.Tie as tie
 

@@ -1,6 +1,6 @@
 -- `writer::symbols` meets its contract: the symbols that are left go behind what is written.
 use borrow.Author.Needs.{needs}
-use Rattle.writer.proofs.Chain.{Goes}
+use Rattle.pieces.proofs.Chain.{Goes}
 use Rattle.writer.proofs.Lists.{Codes, codes, more, codes-all, codes-here, codes-left, symbols-start, symbols-on, symbols-end}
 use mathlib.Core.Path.{_≡_}
 use Prim.Native.Nat.{_-_, _*_, _≤_}

@@ -1,6 +1,6 @@
 -- `writer::verbatim` meets its contract: the bytes at the place are the encoding of its characters.
 use borrow.Author.Needs.{needs}
-use Rattle.writer.proofs.Characters.{verbatim-written}
+use Rattle.writer.proofs.Places.{verbatim-written}
 use Rattle.writer.proofs.verbatim.Statement.{statement}
 use Rattle.writer.proofs.verbatim.Tie as tie
 

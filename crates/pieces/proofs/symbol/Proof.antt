@@ -1,8 +1,8 @@
--- `writer::symbol` meets its contract: a quote, the character and a quote, one after the other.
+-- `pieces::symbol` meets its contract: a quote, the character and a quote, one after the other.
 use borrow.Author.Needs.{needs}
-use Rattle.writer.proofs.Characters.{symbol-written}
-use Rattle.writer.proofs.symbol.Statement.{statement}
-use Rattle.writer.proofs.symbol.Tie as tie
+use Rattle.pieces.proofs.Characters.{symbol-written}
+use Rattle.pieces.proofs.symbol.Statement.{statement}
+use Rattle.pieces.proofs.symbol.Tie as tie
 
 ruleset laws = (needs, symbol-written)
 

@@ -1,8 +1,8 @@
--- `writer::behind_slash` meets its contract: an escape is its backslash and its letter; else the backslash is doubled.
+-- `pieces::behind_slash` meets its contract: an escape is its backslash and its letter; else the backslash is doubled.
 use borrow.Author.Needs.{needs}
-use Rattle.writer.proofs.Strings.{behind-escape, behind-other}
-use Rattle.writer.proofs.behind_slash.Statement.{statement}
-use Rattle.writer.proofs.behind_slash.Tie as tie
+use Rattle.pieces.proofs.Strings.{behind-escape, behind-other}
+use Rattle.pieces.proofs.behind_slash.Statement.{statement}
+use Rattle.pieces.proofs.behind_slash.Tie as tie
 
 ruleset laws = (needs, behind-escape, behind-other)
 

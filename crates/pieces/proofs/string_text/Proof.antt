@@ -1,8 +1,8 @@
--- `writer::string_text` meets its contract: what the characters left give, escaped again, goes behind what is written.
+-- `pieces::string_text` meets its contract: what the characters left give, escaped again, goes behind what is written.
 use borrow.Author.Needs.{needs}
 use Rattle.chars.proofs.Laws.{char-scalar, char-le, char-falls}
-use Rattle.writer.proofs.Chain.{Goes}
-use Rattle.writer.proofs.Strings.{valueFrom, ClosedFrom, text-start, text-goes, text-closes, text-on, text-invalid, text-end}
+use Rattle.pieces.proofs.Chain.{Goes}
+use Rattle.pieces.proofs.Strings.{valueFrom, ClosedFrom, text-start, text-goes, text-closes, text-on, text-invalid, text-end}
 use mathlib.Core.Path.{_≡_}
 use Prim.Native.Nat.{_-_, _≤_}
 use lib.ListN.{length, drop}
@@ -10,8 +10,8 @@ use Rattle.chars.specs.Utf8.{decode}
 use Rattle.lexer.specs.Tokens.{unescape}
 use Rattle.language.specs.Plain.{escapedText}
 use Rattle.emit.specs.Output.{output}
-use Rattle.writer.proofs.string_text.Statement.{statement}
-use Rattle.writer.proofs.string_text.Tie as tie
+use Rattle.pieces.proofs.string_text.Statement.{statement}
+use Rattle.pieces.proofs.string_text.Tie as tie
 
 ruleset laws = (needs, char-scalar, char-le, char-falls, text-start, text-goes, text-closes, text-on, text-invalid, text-end)
 

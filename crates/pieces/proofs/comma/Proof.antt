@@ -1,8 +1,8 @@
--- `writer::comma` meets its contract: the definition makes the same test.
+-- `pieces::comma` meets its contract: the definition makes the same test.
 use borrow.Author.Needs.{needs}
-use Rattle.writer.proofs.Characters.{comma-written, comma-none}
-use Rattle.writer.proofs.comma.Statement.{statement}
-use Rattle.writer.proofs.comma.Tie as tie
+use Rattle.pieces.proofs.Characters.{comma-written, comma-none}
+use Rattle.pieces.proofs.comma.Statement.{statement}
+use Rattle.pieces.proofs.comma.Tie as tie
 
 ruleset laws = (needs, comma-written, comma-none)
 

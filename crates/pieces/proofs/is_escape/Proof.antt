@@ -1,8 +1,8 @@
--- `writer::is_escape` meets its contract: the definition makes the same tests.
+-- `pieces::is_escape` meets its contract: the definition makes the same tests.
 use borrow.Author.Needs.{needs}
-use Rattle.writer.proofs.Strings.{escape-quote, escape-slash, escape-feed, escape-other}
-use Rattle.writer.proofs.is_escape.Statement.{statement}
-use Rattle.writer.proofs.is_escape.Tie as tie
+use Rattle.pieces.proofs.Strings.{escape-quote, escape-slash, escape-feed, escape-other}
+use Rattle.pieces.proofs.is_escape.Statement.{statement}
+use Rattle.pieces.proofs.is_escape.Tie as tie
 
 ruleset laws = (needs, escape-quote, escape-slash, escape-feed, escape-other)
 

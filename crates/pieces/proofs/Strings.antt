@@ -12,15 +12,13 @@ use Rattle.chars.specs.Utf8.{encode, decode, front, decodedAt}
 use Rattle.chars.specs.declared.Decoded.{Decoded}
 use Rattle.chars.specs.declared.Decoded.the-variants.{Char, Invalid, End}
 use Rattle.chars.proofs.Laws.{char-decode, invalid-decode, end-decode}
-use Rattle.lexer.specs.Tokens.{Span, escape, Inner, ends, breaks, escapes, stands, innerOf, Inside, closed, unclosed, put, pass, inside, unescape}
-use Rattle.language.specs.Plain.{Piece, _⨾_, say, escaped, inString, escapedText, string}
-use Rattle.language.specs.Agreement.{charactersAt, stringAt}
+use Rattle.lexer.specs.Tokens.{escape, Inner, ends, breaks, escapes, stands, innerOf, Inside, closed, unclosed, put, pass, inside, unescape}
+use Rattle.language.specs.Plain.{Piece, _⨾_, say, escaped, inString, escapedText}
 use Rattle.language.proofs.Every.{byTest}
 use Rattle.emit.specs.Output.{Output, output, appended}
-use Rattle.writer.specs.Writes.{Adds, Writes}
-use Rattle.writer.specs.Strings.{isEscape, rewritten}
-use Rattle.writer.specs.WellFormed.{bytesAt, Whole}
-use Rattle.writer.proofs.Chain.{known, same, _▹_, Goes, goes-start, goes-on, goes-end}
+use Rattle.pieces.specs.Writes.{Adds, Writes}
+use Rattle.pieces.specs.Strings.{isEscape, rewritten, Whole}
+use Rattle.pieces.proofs.Chain.{known, same, _▹_, Goes, goes-start, goes-on, goes-end}
 
 -- ---- one character, escaped
 
@@ -260,15 +258,3 @@ module _ (part : List ℕ) (i : ℕ) (d : Decoded) (s : d ≡ decodedAt i (front
 
     pub text-end : d ≡ End → Writes p₀ o₀ o
     text-end e = text-done (end-decode part i d s e)
-
--- ---- a string in quotes
-
-pub string-written : (text : List ℕ) (p : Span) (part : List ℕ) (o a b r : Output) → part ≡ bytesAt text p → Adds (0x22 ∷ []) o a
-    → Writes (escapedText (unescape (decode part))) a b → Adds (0x22 ∷ []) b r → Writes (string (stringAt text p)) o r
-unfolding encode string stringAt charactersAt
-string-written text p part o a b r e h w k =
-    known {p = say "\""} (0x22 ∷ []) (λ rest. refl) h ▹ (rw e at w) ▹ known {p = say "\""} (0x22 ∷ []) (λ rest. refl) k
-
-pub string-whole : (text : List ℕ) (p : Span) (part : List ℕ) → part ≡ bytesAt text p → Whole (charactersAt text p) → Whole (decode part)
-unfolding charactersAt
-string-whole text p part e h = rw e h

@@ -8,7 +8,7 @@ use Rattle.chars.specs.Utf8.{encode}
 use Rattle.language.specs.Plain.{Piece, nothing, say, _⨾_}
 use Rattle.emit.specs.Output.{Output, output, appended}
 use Rattle.emit.proofs.Appends.{appended-append}
-use Rattle.writer.specs.Writes.{Adds, Writes}
+use Rattle.pieces.specs.Writes.{Adds, Writes}
 
 -- bytes that were appended to a row
 pub adds : (row : List ℕ) (at : ℕ) (bytes : List ℕ) (after : Output) → length row < 18446744073709551616 → after ≡ appended (output row at) bytes

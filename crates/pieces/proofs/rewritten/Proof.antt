@@ -1,8 +1,8 @@
--- `writer::rewritten` meets its contract: the definition makes the same tests.
+-- `pieces::rewritten` meets its contract: the definition makes the same tests.
 use borrow.Author.Needs.{needs}
-use Rattle.writer.proofs.Strings.{rewritten-behind, rewritten-waits, rewritten-plain}
-use Rattle.writer.proofs.rewritten.Statement.{statement}
-use Rattle.writer.proofs.rewritten.Tie as tie
+use Rattle.pieces.proofs.Strings.{rewritten-behind, rewritten-waits, rewritten-plain}
+use Rattle.pieces.proofs.rewritten.Statement.{statement}
+use Rattle.pieces.proofs.rewritten.Tie as tie
 
 ruleset laws = (needs, rewritten-behind, rewritten-waits, rewritten-plain)
 

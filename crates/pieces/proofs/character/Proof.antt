@@ -1,8 +1,8 @@
--- `writer::character` meets its contract: a scalar value is below 110000, and its bytes are its encoding.
+-- `pieces::character` meets its contract: a scalar value is below 110000, and its bytes are its encoding.
 use borrow.Author.Needs.{needs}
-use Rattle.writer.proofs.Characters.{scalar-below, character-written}
-use Rattle.writer.proofs.character.Statement.{statement}
-use Rattle.writer.proofs.character.Tie as tie
+use Rattle.pieces.proofs.Characters.{scalar-below, character-written}
+use Rattle.pieces.proofs.character.Statement.{statement}
+use Rattle.pieces.proofs.character.Tie as tie
 
 ruleset laws = (needs, scalar-below, character-written)
 

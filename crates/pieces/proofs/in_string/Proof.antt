@@ -1,8 +1,8 @@
--- `writer::in_string` meets its contract: the definition makes the same tests.
+-- `pieces::in_string` meets its contract: the definition makes the same tests.
 use borrow.Author.Needs.{needs}
-use Rattle.writer.proofs.Strings.{in-quote, in-slash, in-feed, in-tab, in-plain}
-use Rattle.writer.proofs.in_string.Statement.{statement}
-use Rattle.writer.proofs.in_string.Tie as tie
+use Rattle.pieces.proofs.Strings.{in-quote, in-slash, in-feed, in-tab, in-plain}
+use Rattle.pieces.proofs.in_string.Statement.{statement}
+use Rattle.pieces.proofs.in_string.Tie as tie
 
 ruleset laws = (needs, in-quote, in-slash, in-feed, in-tab, in-plain)
 

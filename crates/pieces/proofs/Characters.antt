@@ -10,14 +10,10 @@ use lib.ListN.{length}
 use borrow.Author.Tests.{lt-ltb, le-ltb, ltb-true}
 use Rattle.chars.specs.Utf8.{scalar, encodeOne, encode}
 use Rattle.chars.proofs.Tests.{or-cases, and-both}
-use Rattle.chars.proofs.Theorems.{encode-append}
-use Rattle.lexer.specs.Tokens.{Span}
-use Rattle.language.specs.Plain.{Piece, say, only, verbatim, symbol}
-use Rattle.language.specs.Agreement.{charactersAt}
+use Rattle.language.specs.Plain.{say, only, symbol}
 use Rattle.emit.specs.Output.{Output, output, appended}
-use Rattle.writer.specs.Writes.{Adds, Writes}
-use Rattle.writer.specs.WellFormed.{bytesAt, Utf8At}
-use Rattle.writer.proofs.Chain.{adds, known, none, _▹_}
+use Rattle.pieces.specs.Writes.{Adds, Writes}
+use Rattle.pieces.proofs.Chain.{adds, known, none, _▹_}
 
 pub scalar-below : (c : ℕ) → scalar c ≡ true → c < 0x110000
 unfolding scalar
@@ -26,9 +22,6 @@ scalar-below c h = go (or-cases (ltb c 0xD800) (leb 0xE000 c && ltb c 0x110000) 
     go : (ltb c 0xD800 ≡ true) ⊎ ((leb 0xE000 c && ltb c 0x110000) ≡ true) → c < 0x110000
     go (inl e) = omega (arith, ltb-true c 0xD800 e)
     go (inr e) = ltb-true c 0x110000 (and-both (leb 0xE000 c) (ltb c 0x110000) e .1)
-
-pub verbatim-written : (text : List ℕ) (p : Span) (bytes : List ℕ) (o r : Output) → Utf8At text p → bytes ≡ bytesAt text p → Adds bytes o r → Writes (verbatim (charactersAt text p)) o r
-verbatim-written text p bytes o r h e a = known bytes (λ rest. encode-append (charactersAt text p) rest ∙ ap (λ l. l ++ encode rest) (h ∙ sym e)) a
 
 pub character-written : (row : List ℕ) (at c : ℕ) (r : Output) → length row < 18446744073709551616 → r ≡ appended (output row at) (encodeOne c) → Writes (λ rest. c ∷ rest) (output row at) r
 unfolding encode
