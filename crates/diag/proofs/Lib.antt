@@ -1,0 +1,11 @@
+pub mod Cases
+pub mod Words
+pub mod Records
+pub mod Appended
+pub mod Sorting
+pub mod Runs
+pub mod Scans
+pub mod Merges
+pub mod Pairs
+pub mod Logs
+pub mod Samples

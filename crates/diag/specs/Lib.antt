@@ -1,0 +1,4 @@
+pub mod Sort
+pub mod Log
+pub mod Runs
+pub mod Paired
