@@ -5,6 +5,7 @@
 
 use std::time::Instant;
 
+use crate::chars::{first_outside, utf8_beginning};
 use crate::families::{Family, Random, Selection};
 use crate::foreign::{ANSWER_WORDS, AnswerRow, Buffers, Call, DIAGNOSTICS, Tokenize};
 use crate::head::head_words;
@@ -108,9 +109,14 @@ fn near(random: &mut Random, exact: usize) -> usize {
     }
 }
 
-/// Compares the lexer's tokens.
+/// Compares the lexer's tokens. Outside the admitted set the original has letters and white space that
+/// the port has not, and a reading call is refused before the lexer runs: such texts are only counted.
 pub fn compare_tokens(tokenize: Tokenize, selection: Selection) -> bool {
     over_families(selection, |family, text, random, tally| {
+        if first_outside(utf8_beginning(text)).is_some() {
+            tally.count(family, "outside the set");
+            return Ok(());
+        }
         let expected = tokens(text);
         for work_len in [
             work_needed(text.len()),

@@ -1,0 +1,7 @@
+pub mod Scans
+pub mod Keywords
+pub mod Pieces
+pub mod Steps
+pub mod Writes
+pub mod Placed
+pub mod Examples
