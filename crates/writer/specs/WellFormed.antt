@@ -56,8 +56,8 @@ pub record HeadFormed (text : List ℕ) (h : Head) : Type 0 where
 -- what may be declared: states, Σ, Γ, blank and start
 pub record DeclaredFormed (text : List ℕ) (h : Head) (states sigma gamma : List ℕ) : Type 0 where
   pub names : Every (NameIn text) (groups 3 (h .counts .states) states)
-  pub sigmaCodes : scalars (column 3 0 (h .counts .sigma) sigma) ≡ true
-  pub gammaCodes : scalars (column 3 0 (h .counts .gamma) gamma) ≡ true
+  pub sigmaCodes : h .declared .inputAlphabet ≡ true → scalars (column 3 0 (h .counts .sigma) sigma) ≡ true
+  pub gammaCodes : h .declared .tapeAlphabet ≡ true → scalars (column 3 0 (h .counts .gamma) gamma) ≡ true
   pub blank : scalar (h .blank) ≡ true
   pub start : Utf8At text (h .start)
 

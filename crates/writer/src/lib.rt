@@ -409,7 +409,7 @@ fn symbols_line(
     n: u32,
     words: &[u32],
 ) -> usize
-    requires { ⌜ (scalar letter ≡ true) × (scalars (column 3 0 n (now words)) ≡ true) ⌝ }
+    requires { ⌜ (scalar letter ≡ true) × (declared ≡ true → scalars (column 3 0 n (now words)) ≡ true) ⌝ }
     ensures { λ r. ⌜ Writes (symbolsLine letter declared n (now (words .entry))) (output (now (out .entry)) at) (output (now (out .exit)) r) ⌝ }
 {
     if declared {

@@ -11,7 +11,10 @@ symbols-line-spec =
     (λ c κs. search needs)
     (λ c. search needs)
     (λ c κs. search needs)
-    (λ c κs. search needs)
+    (λ c κs.
+    let at-if1 = c .before .before .before .before .before .before .before .before .before .before in
+    let start = at-if1 .before .before .before in
+    (search needs, search needs, start .pre .1 (at-if1 .if1 .taken)))
     (λ c. search needs)
     (λ c κs. search needs)
     (λ c. search needs)
