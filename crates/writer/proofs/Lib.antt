@@ -6,3 +6,4 @@ pub mod Finals
 pub mod RuleWords
 pub mod HeadWords
 pub mod Form
+pub mod Shown
