@@ -45,3 +45,7 @@ module _ (target : List ℕ) (end : ℕ) (o : List ℕ) (i : ℕ) where
 
   pub writing-length : (left : List ℕ) → Writing target end o i left → length o ≡ length target
   writing-length left w = sym (length-sets o i left) ∙ ap length (w .whole)
+
+-- nothing is longer or shorter than it was
+pub writing-same : (o₀ : List ℕ) (k : ℕ) (ws : List ℕ) (end : ℕ) (o : List ℕ) (i : ℕ) (left : List ℕ) → Writing (sets o₀ k ws) end o i left → length o ≡ length o₀
+writing-same o₀ k ws end o i left w = writing-length (sets o₀ k ws) end o i left w ∙ length-sets o₀ k ws

@@ -5,12 +5,20 @@ use mathlib.Core.List.{List, [], _∷_, _++_}
 use lib.Dec.{eqb, leb, ltb}
 use lib.ListN.{length, take, drop}
 use Rattle.parser.specs.declared.Token.{Token}
+use Rattle.diag.specs.declared.Span.{Span}
 use Rattle.assembler.specs.Entries.{Entry, behind, entries}
 use Rattle.sheet.specs.declared.comments.Pending.{Pending}
 
+-- a place in two words
+abbrev pub spanWords : Span → List ℕ
+spanWords p = p .start ∷ p .end ∷ []
+
 -- the place of a comment's text: its value is how many bytes stand before it; the sum never wraps, since the text stands inside the token
+abbrev pub textOf : Token → Span
+textOf t = record { start = (t .start + t .value) % 2 ^ 32; end = t .end }
+
 abbrev pub textWords : Token → List ℕ
-textWords t = (t .start + t .value) % 2 ^ 32 ∷ t .end ∷ []
+textWords t = spanWords (textOf t)
 
 -- the comments among tokens
 unfoldable pub commentsIn : List Token → List Token

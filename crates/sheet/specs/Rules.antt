@@ -13,11 +13,7 @@ use Rattle.assembler.specs.Rows.{placeOf}
 use Rattle.assembler.specs.Entries.{Entry, entries}
 use Rattle.assembler.specs.Rules.{combinations}
 use Rattle.sheet.specs.declared.comments.Pending.{Pending}
-use Rattle.sheet.specs.Comments.{textWords, between, nothing, passed, leadFrom}
-
--- a place in two words
-abbrev pub spanWords : Span → List ℕ
-spanWords p = p .start ∷ p .end ∷ []
+use Rattle.sheet.specs.Comments.{spanWords, textOf, textWords, between, nothing, passed, leadFrom}
 
 -- the place that says that there is none
 abbrev pub noSpan : Span
@@ -99,7 +95,7 @@ dressed b ts e c cs (rs ∷ more) = ruleWords b ts e c cs rs ++ flat (ruleWords 
 unfoldable pub ownPlace : List Token → Entry → Span
 ownPlace ts e =
     let c = peek ts (e .first .value - 1) in
-    cond (eqb (e .first .value) 0) noSpan (cond (eqb (c .kind) 12) (record { start = (c .start + c .value) % 2 ^ 32; end = c .end }) noSpan)
+    cond (eqb (e .first .value) 0) noSpan (cond (eqb (c .kind) 12) (textOf c) noSpan)
 
 -- the rules that a line stands for
 unfoldable pub expanded : ℕ → List Token → Pending → Entry → List ℕ
