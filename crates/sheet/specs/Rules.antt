@@ -99,13 +99,13 @@ ownPlace ts e =
 
 -- the rules that a line stands for
 unfoldable pub expanded : ℕ → List Token → Pending → Entry → List ℕ
-unfolding dressed ownPlace between choices setsOf
+unfolding dressed ownPlace between leadFrom choices setsOf
 expanded b ts p e = dressed b ts e (ownPlace ts e) (between ts (leadFrom p) (e .at)) (choices (setsOf ts e))
 
 unfoldable pub rulesFrom : ℕ → List Token → Pending → List Entry → List ℕ
 unfolding expanded passed
 rulesFrom b ts p [] = []
-rulesFrom b ts p (e ∷ es) = cond (eqb (e .first .kind) 27) (expanded b ts p e) [] ++ rulesFrom b ts (passed p e) es
+rulesFrom b ts p (e ∷ es) = cond (eqb (e .first .kind) 27) (expanded b ts p e) [] ++ rulesFrom b ts (passed p (e .at) (e .first)) es
 
 -- the rules of a row
 unfoldable pub rules : ℕ → List Token → List ℕ
@@ -116,13 +116,13 @@ rules b ts = rulesFrom b ts nothing (entries ts)
 
 -- the comments go to the first rule of a line
 unfoldable pub lineLength : List Token → Pending → Entry → ℕ
-unfolding combinations between
+unfolding combinations between leadFrom
 lineLength ts p e = combinations (e .rest) * ruleLength (peek ts (e .at + 1) .start) 0 + 2 * length (between ts (leadFrom p) (e .at))
 
 unfoldable pub lengthsFrom : List Token → Pending → List Entry → ℕ
 unfolding lineLength passed
 lengthsFrom ts p [] = 0
-lengthsFrom ts p (e ∷ es) = cond (eqb (e .first .kind) 27) (lineLength ts p e) 0 + lengthsFrom ts (passed p e) es
+lengthsFrom ts p (e ∷ es) = cond (eqb (e .first .kind) 27) (lineLength ts p e) 0 + lengthsFrom ts (passed p (e .at) (e .first)) es
 
 unfoldable pub ruleLengths : List Token → ℕ
 unfolding lengthsFrom entries
