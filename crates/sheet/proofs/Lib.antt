@@ -2,3 +2,4 @@ pub mod Writes
 pub mod Turns
 pub mod CommentLaws
 pub mod RuleLaws
+pub mod WheelLaws

@@ -1,5 +1,5 @@
 -- Rules: their expansion into words, and how many words they take, over the lines of a row with entries.
-use Prim.Native.Nat.{ℕ, zero, suc, _+_, _*_, _-_, _%_, _^_}
+use Prim.Native.Nat.{ℕ, zero, suc, _+_, _*_, _-_, _%_, _^_, _≤_, _<_}
 use mathlib.Core.Bool.{Bool, true, false, cond}
 use mathlib.Core.List.{List, [], _∷_, _++_}
 use lib.Dec.{eqb, ltb}
@@ -94,6 +94,16 @@ headWords ts r c n k = ruleLength n k ∷ placesWords ts r c ++ n ∷ k ∷ []
 unfoldable pub ruleWords : ℕ → List Token → Rule → Span → List Token → List Token → List ℕ
 unfolding headWords tapesWords flat
 ruleWords b ts r c cs rs = headWords ts r c (length rs) (length cs) ++ (tapesWords b ts (r .write) (r .dir) rs ++ flat textWords cs)
+
+-- what writing a rule asks for: its line is in the row, its tapes are no more than the tokens, and the symbols read stand from the index b on
+pub record Placed (count size b : ℕ) (r : Rule) : Type 0 where
+  pub tokens : 4 * count ≤ size
+  pub cells : b + r .tapes ≤ size
+  pub line : r .line < count
+  pub few : r .tapes ≤ count
+  pub small : 9 * count + 11 < 2 ^ 32
+  pub write : r .write ≤ 2 ^ 32
+  pub dir : r .dir ≤ 2 ^ 32
 
 -- the comments go to the first rule
 unfoldable pub dressed : ℕ → List Token → Rule → Span → List Token → List (List Token) → List ℕ

@@ -2,3 +2,4 @@
 pub mod comments;
 pub mod put;
 pub mod rules;
+pub mod wheels;

@@ -10,7 +10,7 @@ ghost use Rattle.assembler.specs.Rows.{rows, placeOf};
 ghost use Rattle.sheet.specs.Stored.{Stored};
 ghost use Rattle.sheet.specs.Comments.{spanWords, textWords, between};
 ghost use Rattle.sheet.specs.Wheels.{part};
-ghost use Rattle.sheet.specs.Rules.{resolve, written, moveOf, firstEntry, ruleAt, ownPlace, tapeWords, tapeAt, tapesWords, placesWords, headWords, ruleWords};
+ghost use Rattle.sheet.specs.Rules.{resolve, written, moveOf, firstEntry, ruleAt, ownPlace, tapeWords, tapeAt, tapesWords, placesWords, headWords, ruleWords, Placed};
 use crate::comments;
 use crate::put;
 use assembler::entry;
@@ -208,4 +208,25 @@ fn head(
     put::word(out, i, r.tapes as u32);
     put::word(out, i + 1, k as u32);
     i + 2
+}
+
+// The rule of a choice, with its own comment c, led by the comments from the index `lead` to its line.
+fn write_rule(
+    work: &[u32],
+    count: usize,
+    b: usize,
+    r: Rule,
+    c: Span,
+    lead: usize,
+    blank: u32,
+    out: &mut [u32],
+    at: usize,
+) -> usize
+    requires { ⌜ (Placed count (length (now work)) b r) × (at + length (ruleWords blank (rows count (now work)) r c (between (rows count (now work)) lead (r .line)) (map (peek (rows count (now work))) (part (now work) b (r .tapes)))) < 2 ^ 64) ⌝ }
+    ensures { λ x. ⌜ Stored (ruleWords blank (rows count (now (work .entry))) r c (between (rows count (now (work .entry))) lead (r .line)) (map (peek (rows count (now (work .entry)))) (part (now (work .entry)) b (r .tapes)))) (now (out .entry)) at (now (out .exit)) x ⌝ }
+{
+    let k = comments::count_between(work, count, lead, r.line);
+    let i = head(work, count, r, c, k, out, at);
+    let j = tapes(work, count, b, r, blank, out, i);
+    comments::comments(work, count, lead, r.line, out, j)
 }
