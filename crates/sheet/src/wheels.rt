@@ -74,9 +74,10 @@ pub fn wheels(
         }
         let e = i as u32;
         let c = first_member(work, count, e);
+        let next = next_entry(work, count, i);
         work[a + t] = e;
         work[b + t] = c;
-        i = next_entry(work, count, i);
+        i = next;
         t += 1;
     }
     t
