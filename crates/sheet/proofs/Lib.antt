@@ -3,3 +3,4 @@ pub mod Turns
 pub mod CommentLaws
 pub mod RuleLaws
 pub mod WheelLaws
+pub mod ExpandLaws

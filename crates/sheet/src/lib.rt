@@ -1,5 +1,6 @@
 // Sections of the sheet: comments and rules, from the tokens in a row of words whose lines have entries.
 pub mod comments;
+pub mod expand;
 pub mod put;
 pub mod rules;
 pub mod wheels;

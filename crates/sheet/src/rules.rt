@@ -72,7 +72,7 @@ fn move_of(t: Token) -> u32
 }
 
 // Where a list of entries, or the one entry, begins.
-fn first_entry(work: &[u32], count: usize, at: usize) -> usize
+pub fn first_entry(work: &[u32], count: usize, at: usize) -> usize
     requires { ⌜ (4 * count ≤ length (now work)) × (at + 1 < 2 ^ 64) ⌝ }
     ensures { λ r. ⌜ r ≡ firstEntry (rows count (now (work .entry))) at ⌝ }
 {
@@ -84,7 +84,7 @@ fn first_entry(work: &[u32], count: usize, at: usize) -> usize
 }
 
 // The parts of a rule.
-fn rule_at(work: &[u32], count: usize, line: usize, tapes: usize) -> Rule
+pub fn rule_at(work: &[u32], count: usize, line: usize, tapes: usize) -> Rule
     requires { ⌜ (4 * count ≤ length (now work)) × (line < count) ⌝ }
     ensures { λ r. ⌜ r ≡ ruleAt (rows count (now (work .entry))) line tapes ⌝ }
 {
@@ -99,7 +99,7 @@ fn rule_at(work: &[u32], count: usize, line: usize, tapes: usize) -> Rule
 }
 
 // A rule's own comment, or none.
-fn own_place(work: &[u32], count: usize, line: usize) -> Span
+pub fn own_place(work: &[u32], count: usize, line: usize) -> Span
     requires { ⌜ 4 * count ≤ length (now work) ⌝ }
     ensures { λ r. ⌜ r ≡ ownPlace (rows count (now (work .entry))) line ⌝ }
 {
@@ -211,7 +211,7 @@ fn head(
 }
 
 // The rule of a choice, with its own comment c, led by the comments from the index `lead` to its line.
-fn write_rule(
+pub fn write_rule(
     work: &[u32],
     count: usize,
     b: usize,
