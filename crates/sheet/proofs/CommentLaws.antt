@@ -19,7 +19,7 @@ use Rattle.assembler.specs.Rows.{rows}
 use Rattle.assembler.specs.Entries.{Entry, entryAt, behind, entriesFrom, entries}
 use Rattle.assembler.proofs.Rows.{length-rows, entriesAt, entries-step, entries-end}
 use Rattle.sheet.specs.declared.comments.Pending.{Pending}
-use Rattle.sheet.specs.Comments.{spanWords, textOf, textWords, commentsIn, between, next, nothing, passed, passedAll, headerOf, headerFrom, header, trailing}
+use Rattle.sheet.specs.Comments.{spanWords, textOf, textWords, commentsIn, between, next, nothing, passed, passedAll, leadFrom, headerOf, headerFrom, header, trailing}
 use Rattle.sheet.specs.Stored.{Stored}
 use Rattle.sheet.proofs.Writes.{stored-none, stored-as, stored-length, Writing, writing-start, writing-on, writing-room, written, written-last}
 
@@ -163,6 +163,14 @@ module _ (p : Pending) (i : ℕ) (t : Token) (j : ℕ) (behind-it : j ≡ next i
   unfolding passed
   passed-blank h g = rw (lt-leb 16 (t .kind) h, ne-eqb (t .kind) 12 g, behind-it)
 
+pub lead-all : (p : Pending) → p .seen ≡ true → p .from ≡ leadFrom p
+unfolding leadFrom
+lead-all p h = rw h
+
+pub lead-block : (p : Pending) → p .seen ≡ false → p .block ≡ leadFrom p
+unfolding leadFrom
+lead-block p h = rw h
+
 -- ---- the header comments of one line
 module _ (ts : List Token) (p : Pending) (t : Token) where
   header-other : t .kind < 16 → headerOf ts p t ≡ []
@@ -232,7 +240,7 @@ module _ (count : ℕ) (work : List ℕ) (room : 4 * count ≤ length work) wher
   row = rows count work
 
   -- a line, and those behind it
-  lines-on : (i j : ℕ) (t : Token) → i < count → t ≡ peek row i → j ≡ next i t
+  pub lines-on : (i j : ℕ) (t : Token) → i < count → t ≡ peek row i → j ≡ next i t
       → entriesAt row i ≡ record { at = i; first = t; rest = drop (suc i) row } ∷ entriesAt row j
   lines-on i j t h e f =
       let many : length row ≡ count = length-rows count work room in
@@ -240,7 +248,7 @@ module _ (count : ℕ) (work : List ℕ) (room : 4 * count ≤ length work) wher
       ∙ ap (λ (t : Token). record { at = i; first = t; rest = drop (suc i) row } ∷ entriesAt row (next i t)) (sym e)
       ∙ ap (λ (k : ℕ). record { at = i; first = t; rest = drop (suc i) row } ∷ entriesAt row k) (sym f)
 
-  lines-end : (i : ℕ) → count ≤ i → entriesAt row i ≡ []
+  pub lines-end : (i : ℕ) → count ≤ i → entriesAt row i ≡ []
   lines-end i h = entries-end row i (omega (arith, length-rows count work room))
 
   pub pending-on : (p p′ : Pending) (i j : ℕ) (t : Token) → passedAll p (entriesAt (rows count work) i) ≡ passedAll nothing (entries (rows count work)) → i < count

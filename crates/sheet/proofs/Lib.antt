@@ -4,3 +4,4 @@ pub mod CommentLaws
 pub mod RuleLaws
 pub mod WheelLaws
 pub mod ExpandLaws
+pub mod RowLaws

@@ -7,7 +7,7 @@ ghost use Rattle.assembler.specs.Rows.{rows};
 ghost use mathlib.Core.List.{[], _∷_};
 ghost use Rattle.assembler.specs.Entries.{entries};
 ghost use Rattle.sheet.specs.Stored.{Stored};
-ghost use Rattle.sheet.specs.Comments.{textOf, textWords, commentsIn, between, nothing, passed, passedAll, headerOf, header, trailing};
+ghost use Rattle.sheet.specs.Comments.{textOf, textWords, commentsIn, between, nothing, passed, passedAll, leadFrom, headerOf, header, trailing};
 use crate::put;
 use assembler::entry;
 use diag::Span;
@@ -105,15 +105,18 @@ pub fn passed(p: Pending, t: Token, at: usize) -> Pending
     }
 }
 
+// Where the comments that lead a rule begin.
+pub fn lead_from(p: Pending) -> usize
+    ensures { λ r. ⌜ r ≡ leadFrom p ⌝ }
+{
+    if p.seen {
+        return p.from;
+    }
+    p.block
+}
+
 // The header comments of the line that begins with the token t.
-fn header_of(
-    work: &[u32],
-    count: usize,
-    p: Pending,
-    t: Token,
-    out: &mut [u32],
-    at: usize,
-) -> usize
+fn header_of(work: &[u32], count: usize, p: Pending, t: Token, out: &mut [u32], at: usize) -> usize
     requires { ⌜ (4 * count ≤ length (now work)) × (at + length (flat textWords (headerOf (rows count (now work)) p t)) < 2 ^ 64) ⌝ }
     ensures { λ r. ⌜ Stored (flat textWords (headerOf (rows count (now (work .entry))) p t)) (now (out .entry)) at (now (out .exit)) r ⌝ }
 {

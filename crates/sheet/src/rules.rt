@@ -86,7 +86,7 @@ pub fn first_entry(work: &[u32], count: usize, at: usize) -> usize
 // The parts of a rule.
 pub fn rule_at(work: &[u32], count: usize, line: usize, tapes: usize) -> Rule
     requires { ⌜ (4 * count ≤ length (now work)) × (line < count) ⌝ }
-    ensures { λ r. ⌜ r ≡ ruleAt (rows count (now (work .entry))) line tapes ⌝ }
+    ensures { λ r. ⌜ (r ≡ ruleAt (rows count (now (work .entry))) line tapes) × (r .write ≤ 2 ^ 32) × (r .dir ≤ 2 ^ 32) ⌝ }
 {
     let q = entry::token_at(work, count, line + 3);
     Rule {
@@ -190,15 +190,7 @@ fn places(work: &[u32], count: usize, r: Rule, c: Span, out: &mut [u32], at: usi
 }
 
 // A rule up to its tapes; k comments lead it.
-fn head(
-    work: &[u32],
-    count: usize,
-    r: Rule,
-    c: Span,
-    k: usize,
-    out: &mut [u32],
-    at: usize,
-) -> usize
+fn head(work: &[u32], count: usize, r: Rule, c: Span, k: usize, out: &mut [u32], at: usize) -> usize
     requires { ⌜ (4 * count ≤ length (now work)) × (r .line < count) × (11 + 7 * r .tapes + 2 * k < 2 ^ 32) × (at + 11 < 2 ^ 64) ⌝ }
     ensures { λ x. ⌜ Stored (headWords (rows count (now (work .entry))) r c (r .tapes) k) (now (out .entry)) at (now (out .exit)) x ⌝ }
 {
