@@ -1,6 +1,16 @@
 pub mod Tests
 pub mod Rows
+pub mod RowWords
 pub mod Passes
 pub mod FailureLaws
 pub mod DeclarationLaws
 pub mod RuleLaws
+pub mod Braces
+pub mod Inside
+pub mod LineLaws
+pub mod EnteredLaws
+pub mod NameLaws
+pub mod MarkLaws
+pub mod FinalLaws
+pub mod Means
+pub mod RulesMean

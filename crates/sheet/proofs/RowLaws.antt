@@ -9,9 +9,9 @@ use borrow.Author.Tests.{eq-eqb, ne-eqb}
 use mir.Syntax.{w64}
 use mir.Val.{Fits}
 use lib.Dec.{eqb}
-use lib.ListN.{length, drop}
+use lib.ListN.{length, take, drop}
 use lib.Seq.{sets}
-use Rattle.parser.specs.declared.Token.{Token}
+use Rattle.tokens.specs.declared.Token.{Token}
 use Rattle.parser.specs.Row.{peek}
 use Rattle.language.specs.Layout.{ruleLength}
 use Rattle.assembler.specs.Rows.{rows}
@@ -22,7 +22,7 @@ use Rattle.assembler.proofs.RuleLaws.{combinations-low}
 use Rattle.sheet.specs.declared.comments.Pending.{Pending}
 use Rattle.sheet.specs.Stored.{Stored}
 use Rattle.sheet.specs.Comments.{between, next, nothing, passed, leadFrom}
-use Rattle.sheet.specs.Rules.{expanded, lineRules, rulesFrom, rules, lineLength, lengthsFrom, ruleLengths}
+use Rattle.sheet.specs.Rules.{expanded, lineRules, rulesFrom, rules, readTokens, lineLength, lengthsFrom, ruleLengths}
 use Rattle.sheet.proofs.Writes.{stored-none, stored-as, Writing, writing-start, writing-on, writing-room, written as all-written, writing-same}
 use Rattle.sheet.proofs.CommentLaws.{between-few, lines-on, lines-end}
 
@@ -108,11 +108,12 @@ module _ (count : ℕ) (work : List ℕ) (p : Pending) (i : ℕ) (t : Token) whe
   unfolding lineLength
   length-other h = rw (ne-eqb (t .kind) 27 h)
 
-  pub length-rule-line : (n m k l : ℕ) (q : Token) → n ≡ combinations (drop (i + 1) (rows count work)) → m ≡ q .start → k ≡ length (between (rows count work) l i) → t .kind ≡ 27
+  pub length-rule-line : (n m k l s : ℕ) (q c : Token) → n ≡ combinations (take (s - (i + 4)) (drop (i + 4) (rows count work))) → s ≡ c .start → c ≡ peek (rows count work) (i + 3) → m ≡ q .start → k ≡ length (between (rows count work) l i) → t .kind ≡ 27
       → q ≡ peek (rows count work) (i + 1) → l ≡ leadFrom p → n * (11 + 7 * m) + 2 * k ≡ lineLength (rows count work) p i t
-  unfolding lineLength
-  length-rule-line n m k l q product arity leads h e f =
+  unfolding lineLength readTokens
+  length-rule-line n m k l s q c whole es ec arity leads h e f =
       let ts : List Token = rows count work in
+      let product : n ≡ combinations (readTokens ts i) = whole ∙ ap (λ (s : ℕ). combinations (take (s - (i + 4)) (drop (i + 4) ts))) (es ∙ ap (λ (c : Token). c .start) ec) in
       let zero-more : 11 + 7 * m ≡ ruleLength m 0 = omega arith in
       let few : k ≡ length (between ts (leadFrom p) i) = leads ∙ ap (λ (l : ℕ). length (between ts l i)) f in
       rw (eq-eqb (t .kind) 27 h, ← product, ← e, ← arity, ← few, ← zero-more)

@@ -11,7 +11,7 @@ use mir.Val.{Fits}
 use lib.Dec.{eqb, leb, ltb}
 use lib.ListN.{length, getD, take, drop, set, length-append, length-drop, length-map, drop-of-length-le}
 use lib.Seq.{sets, drop-cons, getD-drop, getD-take, length-take-le}
-use Rattle.parser.specs.declared.Token.{Token}
+use Rattle.tokens.specs.declared.Token.{Token}
 use Rattle.parser.specs.Row.{ended, peek}
 use Rattle.diag.specs.declared.Span.{Span}
 use Rattle.language.specs.Layout.{flat, ruleLength}

@@ -4,8 +4,8 @@ use mathlib.Core.Path.{_≡_}
 use mathlib.Core.Bool.{Bool, true, false, cond}
 use mathlib.Core.List.{List, [], _∷_, _++_, map}
 use lib.Dec.{eqb, ltb}
-use lib.ListN.{length, drop}
-use Rattle.parser.specs.declared.Token.{Token}
+use lib.ListN.{length, take, drop}
+use Rattle.tokens.specs.declared.Token.{Token}
 use Rattle.parser.specs.Row.{peek}
 use Rattle.diag.specs.declared.Span.{Span}
 use Rattle.language.specs.Assembly.{choices}
@@ -146,11 +146,15 @@ rules b ts = rulesFrom b ts nothing (entries ts)
 
 -- ---- how many words they take, without expanding them
 
+-- what the rule of the line at the index i reads: the tokens up to its next state
+unfoldable pub readTokens : List Token → ℕ → List Token
+readTokens ts i = take (peek ts (i + 3) .start - (i + 4)) (drop (i + 4) ts)
+
 -- a line's: the comments go to the first of its rules
 unfoldable pub lineLength : List Token → Pending → ℕ → Token → ℕ
-unfolding combinations between leadFrom
+unfolding readTokens combinations between leadFrom
 lineLength ts p i t =
-    cond (eqb (t .kind) 27) (combinations (drop (i + 1) ts) * ruleLength (peek ts (i + 1) .start) 0 + 2 * length (between ts (leadFrom p) i)) 0
+    cond (eqb (t .kind) 27) (combinations (readTokens ts i) * ruleLength (peek ts (i + 1) .start) 0 + 2 * length (between ts (leadFrom p) i)) 0
 
 unfoldable pub lengthsFrom : List Token → Pending → List Entry → ℕ
 unfolding lineLength passed

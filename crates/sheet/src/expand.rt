@@ -15,7 +15,7 @@ use crate::rules::Rule;
 use crate::wheels;
 use assembler::entry;
 use diag::Span;
-use parser::Token;
+use tokens::Token;
 
 // The rules of the choices behind the one at which the wheels stand; no comments go with them.
 fn choices(

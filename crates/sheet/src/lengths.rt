@@ -8,7 +8,7 @@ use crate::comments;
 use crate::comments::Pending;
 use assembler::entry;
 use assembler::rules;
-use parser::Token;
+use tokens::Token;
 
 // Those of the line that begins with the token t at an index, if it is a rule's.
 fn line_length(work: &[u32], count: usize, p: Pending, line: usize, t: Token) -> usize
@@ -19,7 +19,8 @@ fn line_length(work: &[u32], count: usize, p: Pending, line: usize, t: Token) ->
         return 0;
     }
     let q = entry::token_at(work, count, line + 1);
-    let n = rules::combinations(work, count, line + 1);
+    let to = entry::wide(entry::token_at(work, count, line + 3).start);
+    let n = rules::combinations(work, count, line + 4, to);
     let k = comments::count_between(work, count, comments::lead_from(p), line);
     n * (11 + 7 * entry::wide(q.start)) + 2 * k
 }

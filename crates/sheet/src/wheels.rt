@@ -7,7 +7,7 @@ ghost use lib.ListN.{length, getD, set};
 ghost use Rattle.assembler.specs.Rows.{rows};
 ghost use Rattle.sheet.specs.Wheels.{firstMember, goesOn, nextEntry, entriesOf, part, Wheels};
 use assembler::entry;
-use parser::kind;
+use lexer::kind;
 
 // The first member of the entry at the index e.
 fn first_member(work: &[u32], count: usize, e: u32) -> u32

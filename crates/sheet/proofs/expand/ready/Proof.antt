@@ -17,6 +17,6 @@ ready-spec =
     (λ c κs. search needs)
     (λ c. search needs)
     (λ c.
-    is-ready _ _ _ _ _ _ _ _ _ _ _ (c .before .before .before .before .before .before .before .before .before .token-at .ensures) (c .before .before .before .before .before .wide .ensures) (c .before .before .before .before .before .before .before .first-entry .ensures) (c .before .before .before .before .wheels .ensures .0)
+    is-ready _ _ _ _ _ _ _ _ _ _ _ (c .before .before .before .before .before .before .before .before .before .token-at .ensures) (c .before .before .before .before .before .wide .ensures .0) (c .before .before .before .before .before .before .before .first-entry .ensures) (c .before .before .before .before .wheels .ensures .0)
     (c .before .before .before .before .wheels .ensures .1) (c .before .before .before .before .wheels .ensures .2) (c .rule-at .ensures .0) (c .rule-at .ensures .1) (c .rule-at .ensures .2)
     (c .before .before .before .before .before .before .before .before .before .before .before .before .pre .0) (c .before .before .before .before .before .before .before .before .before .before .before .before .pre .1) (c .before .before .before .before .before .before .before .before .before .before .before .before .pre .2) (search needs) (c .before .before .before .before .before .before .before .before .before .before .before .before .pre .3) (c .before .before .before .before .before .before .before .before .before .before .before .before .pre .4)))
