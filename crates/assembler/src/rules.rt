@@ -88,7 +88,7 @@ fn counted(s: Sets, t: Token) -> Sets
 }
 
 // The product of the sizes of the sets from an index to before another, cut off above the limit.
-fn combinations(work: &[u32], count: usize, from: usize, to: usize) -> usize
+pub fn combinations(work: &[u32], count: usize, from: usize, to: usize) -> usize
     requires { ⌜ (4 * count ≤ length (now work)) × (count < 2 ^ 32) ⌝ }
     ensures { λ r. ⌜ r ≡ combinations (take (to - from) (drop from (rows count (now (work .entry))))) ⌝ }
 {
