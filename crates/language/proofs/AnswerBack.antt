@@ -25,13 +25,13 @@ use Rattle.language.proofs.Every.{Every, Maybe, every-any, map-ext}
 use Rattle.language.proofs.ParseHolds.{Any, any-maybe, Goods, GoodEnding, lines-good}
 use Rattle.language.proofs.AssemblyHolds.{GoodRuleOf, GoodMachine, machine-good}
 use Rattle.language.proofs.Counts.{flat-length, rule-length, symbol-length}
-use Rattle.language.proofs.TokenPlaces.{Stands, stands-at, Placed, tokens-placed}
+use Rattle.language.proofs.TokenPlaces.{Stands, stands-at, Encloses, encloses-value, Placed, tokens-placed}
 
 -- ---- sections
 
 -- records of k words each, n of them in a row
 module _ {A : Type 0} (words : A → List ℕ) (k : ℕ) (wide : (a : A) → length (words a) ≡ k) where
-  groups-back : (l : List A) (rest : List ℕ) → groups k (length l) (flat words l ++ rest) ≡ map words l
+  pub groups-back : (l : List A) (rest : List ℕ) → groups k (length l) (flat words l ++ rest) ≡ map words l
   unfolding groups flat
   groups-back [] rest = refl
   groups-back (a ∷ l) rest =
@@ -40,7 +40,7 @@ module _ {A : Type 0} (words : A → List ℕ) (k : ℕ) (wide : (a : A) → len
       (ap (take k) e ∙ take-at (words a) (flat words l ++ rest) k (wide a))
       (ap (groups k (length l)) (ap (drop k) e ∙ drop-at (words a) (flat words l ++ rest) k (wide a)) ∙ groups-back l rest)
 
-  drop-section : (l : List A) (rest : List ℕ) (n : ℕ) → n ≡ k * length l → drop n (flat words l ++ rest) ≡ rest
+  pub drop-section : (l : List A) (rest : List ℕ) (n : ℕ) → n ≡ k * length l → drop n (flat words l ++ rest) ≡ rest
   drop-section l rest n e = drop-at (flat words l) rest n (flat-length words k l (every-any _ wide l) ∙ omega (arith, e))
 
 first : (r : Rule Span) (rest : List ℕ) → getD (ruleWords r ++ rest) 0 0 ≡ ruleLength (length (r .actions)) (length (r .leading))
@@ -48,7 +48,7 @@ unfolding ruleWords
 first r rest = refl
 
 -- rules, each behind its length
-records-back : (rs : List (Rule Span)) (rest : List ℕ) → records (length rs) (flat ruleWords rs ++ rest) ≡ map ruleWords rs
+pub records-back : (rs : List (Rule Span)) (rest : List ℕ) → records (length rs) (flat ruleWords rs ++ rest) ≡ map ruleWords rs
 unfolding records flat
 records-back [] rest = refl
 records-back (r ∷ rs) rest =
@@ -70,7 +70,7 @@ map-every p f g e (a ∷ l) h = ap₂ (λ x y. x ∷ y) (e a (h .0)) (map-every 
 abbrev pub placedIn : List ℕ → Goods Span
 placedIn cs = record {
   name = λ l. Stands cs (l .place) (l .value);
-  text = λ l. (raw : List ℕ) × (unescape raw ≡ l .value) × Stands cs (l .place) raw;
+  text = λ l. (raw : List ℕ) × Encloses raw (l .value) × Stands cs (l .place) raw;
   sym = Any;
   note = λ l. Stands cs (l .place) (l .value);
 }
@@ -96,9 +96,18 @@ action-length a = refl
 abbrev lead : Rule Span → List ℕ
 lead r = ruleLength (length (r .actions)) (length (r .leading)) ∷ placeWords (r .from .place) ++ placeWords (r .to .place) ++ placeWords (r .line) ++ placeWords (placeOrNone (r .comment)) ++ length (r .actions) ∷ length (r .leading) ∷ []
 
-state-length : (s : State Span) → length (stateWords s) ≡ 3
+pub state-length : (s : State Span) → length (stateWords s) ≡ 3
 unfolding stateWords
 state-length s = refl
+
+-- the words of a rule's leading comments
+pub leading-words : (r : Rule Span) → groups 2 (length (r .leading)) (drop (11 + 7 * length (r .actions)) (ruleWords r)) ≡ map locatedWords (r .leading)
+unfolding ruleWords
+leading-words r =
+    let acts : List ℕ = flat actionWords (r .actions) in
+    let notes : List ℕ = flat locatedWords (r .leading) in
+    let behind : drop (11 + 7 * length (r .actions)) (ruleWords r) ≡ notes = drop-append-add (lead r) (acts ++ notes) (7 * length (r .actions)) ∙ drop-section actionWords 7 action-length (r .actions) notes (7 * length (r .actions)) refl in
+    ap (groups 2 (length (r .leading))) (behind ∙ sym (append-nil notes)) ∙ groups-back locatedWords 2 (λ l. refl) (r .leading) []
 
 -- two contents with equal parts
 content-of : (m : Content) {name name′ input input′ start start′ : List ℕ} {states states′ : List StateContent} {sigma sigma′ gamma gamma′ : List ℕ} {header header′ trailing trailing′ : List (List ℕ)} {rules rules′ : List RuleContent}
@@ -123,7 +132,7 @@ module _ (cs : List ℕ) (valid : scalars cs ≡ true) (short : sizes cs < 42949
   string-back : (o : Option (Located Span (List ℕ))) → Maybe (placedIn cs .text) o → stringAt (encode cs) (placeOrNone o) ≡ valueOr o
   unfolding stringAt placeOrNone valueOr charactersAt decode unescape
   string-back none h = refl
-  string-back (some l) h = ap unescape (stands-at cs (l .place) (h .0) valid (h .2)) ∙ h .1
+  string-back (some l) h = ap unescape (stands-at cs (l .place) (h .0) valid (h .2)) ∙ encloses-value (h .0) (l .value) (h .1)
 
   start-back : (o : Option (Located Span (List ℕ))) → Maybe (placedIn cs .name) o → charactersAt (encode cs) (placeOrNone o) ≡ valueOr o
   unfolding placeOrNone valueOr charactersAt decode
@@ -151,10 +160,8 @@ module _ (cs : List ℕ) (valid : scalars cs ≡ true) (short : sizes cs < 42949
       let own : commentAt (encode cs) (placeOrNone (r .comment)) ≡ optional (r .comment) = comment-back (r .comment) (h .comment-good) in
       let tapes : map actionIn (groups 7 (length (r .actions)) (acts ++ notes)) ≡ map (λ a. record { read = a .read .value; write = a .write .value; dir = a .dir }) (r .actions) =
       ap (map actionIn) (groups-back actionWords 7 action-length (r .actions) notes) ∙ map-map actionIn actionWords (r .actions) ∙ map-ext action-back (r .actions) in
-      let behind : drop (11 + 7 * length (r .actions)) (ruleWords r) ≡ notes = drop-append-add (lead r) (acts ++ notes) (7 * length (r .actions)) ∙ drop-section actionWords 7 action-length (r .actions) notes (7 * length (r .actions)) refl in
       let led : map (textIn (encode cs)) (groups 2 (length (r .leading)) (drop (11 + 7 * length (r .actions)) (ruleWords r))) ≡ values (r .leading) =
-      ap (λ l. map (textIn (encode cs)) (groups 2 (length (r .leading)) l)) (behind ∙ sym (append-nil notes))
-      ∙ ap (map (textIn (encode cs))) (groups-back locatedWords 2 (λ l. refl) (r .leading) [])
+      ap (map (textIn (encode cs))) (leading-words r)
       ∙ map-map (textIn (encode cs)) locatedWords (r .leading)
       ∙ map-every (placedIn cs .note) (λ l. textIn (encode cs) (locatedWords l)) (λ l. l .value) text-back (r .leading) (h .leading-good) in
       rule-of from to own led tapes
@@ -166,44 +173,44 @@ module _ (cs : List ℕ) (valid : scalars cs ≡ true) (short : sizes cs < 42949
   -- ---- the whole answer
 
   module _ (m : Machine Span) (good : GoodMachine (placedIn cs) m) (rest : List ℕ) where
-    ruleWordsOn : List ℕ
+    unfoldable pub ruleWordsOn : List ℕ
     ruleWordsOn = flat ruleWords (m .rules) ++ rest
 
-    trailingOn : List ℕ
+    unfoldable pub trailingOn : List ℕ
     trailingOn = flat locatedWords (m .trailing) ++ ruleWordsOn
 
-    headerOn : List ℕ
+    unfoldable pub headerOn : List ℕ
     headerOn = flat locatedWords (m .header) ++ trailingOn
 
-    gammaOn : List ℕ
+    unfoldable pub gammaOn : List ℕ
     gammaOn = flat symbolWords (m .gamma) ++ (flat placeWords (m .finals) ++ headerOn)
 
-    sigmaOn : List ℕ
+    unfoldable pub sigmaOn : List ℕ
     sigmaOn = flat symbolWords (m .sigma) ++ gammaOn
 
-    sections : sheetWords m ++ rest ≡ flat stateWords (m .states) ++ sigmaOn
+    pub sections : sheetWords m ++ rest ≡ flat stateWords (m .states) ++ sigmaOn
     unfolding sheetWords sigmaOn gammaOn headerOn trailingOn ruleWordsOn
     sections = simp append-assoc
 
-    sigma-at : drop (3 * length (m .states)) (sheetWords m ++ rest) ≡ sigmaOn
+    pub sigma-at : drop (3 * length (m .states)) (sheetWords m ++ rest) ≡ sigmaOn
     sigma-at = ap (drop (3 * length (m .states))) sections ∙ drop-section stateWords 3 state-length (m .states) sigmaOn (3 * length (m .states)) refl
 
     gamma-at : drop (3 * length (m .sigma)) (drop (3 * length (m .states)) (sheetWords m ++ rest)) ≡ gammaOn
     unfolding sigmaOn
     gamma-at = ap (drop (3 * length (m .sigma))) sigma-at ∙ drop-section symbolWords 3 symbol-length (m .sigma) gammaOn (3 * length (m .sigma)) refl
 
-    header-at : drop (3 * length (m .gamma) + 2 * length (m .finals)) (drop (3 * length (m .sigma)) (drop (3 * length (m .states)) (sheetWords m ++ rest))) ≡ headerOn
+    pub header-at : drop (3 * length (m .gamma) + 2 * length (m .finals)) (drop (3 * length (m .sigma)) (drop (3 * length (m .states)) (sheetWords m ++ rest))) ≡ headerOn
     unfolding gammaOn
     header-at =
         let n : ℕ = 3 * length (m .gamma) + 2 * length (m .finals) in
         ap (drop n) (gamma-at ∙ sym (append-assoc (flat symbolWords (m .gamma)) (flat placeWords (m .finals)) headerOn))
         ∙ drop-at (flat symbolWords (m .gamma) ++ flat placeWords (m .finals)) headerOn n (length-append (flat symbolWords (m .gamma)) (flat placeWords (m .finals)) ∙ omega (arith, flat-length symbolWords 3 (m .gamma) (every-any _ symbol-length (m .gamma)), flat-length placeWords 2 (m .finals) (every-any _ (λ p. refl) (m .finals))))
 
-    trailing-at : drop (2 * length (m .header)) (drop (3 * length (m .gamma) + 2 * length (m .finals)) (drop (3 * length (m .sigma)) (drop (3 * length (m .states)) (sheetWords m ++ rest)))) ≡ trailingOn
+    pub trailing-at : drop (2 * length (m .header)) (drop (3 * length (m .gamma) + 2 * length (m .finals)) (drop (3 * length (m .sigma)) (drop (3 * length (m .states)) (sheetWords m ++ rest)))) ≡ trailingOn
     unfolding headerOn
     trailing-at = ap (drop (2 * length (m .header))) header-at ∙ drop-section locatedWords 2 (λ l. refl) (m .header) trailingOn (2 * length (m .header)) refl
 
-    rules-at : drop (2 * length (m .trailing)) (drop (2 * length (m .header)) (drop (3 * length (m .gamma) + 2 * length (m .finals)) (drop (3 * length (m .sigma)) (drop (3 * length (m .states)) (sheetWords m ++ rest))))) ≡ ruleWordsOn
+    pub rules-at : drop (2 * length (m .trailing)) (drop (2 * length (m .header)) (drop (3 * length (m .gamma) + 2 * length (m .finals)) (drop (3 * length (m .sigma)) (drop (3 * length (m .states)) (sheetWords m ++ rest))))) ≡ ruleWordsOn
     unfolding trailingOn
     rules-at = ap (drop (2 * length (m .trailing))) trailing-at ∙ drop-section locatedWords 2 (λ l. refl) (m .trailing) ruleWordsOn (2 * length (m .trailing)) refl
 

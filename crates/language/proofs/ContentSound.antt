@@ -29,7 +29,7 @@ use Rattle.language.proofs.AssemblySound.{GoodAction, GoodRule, GoodFac
 use Rattle.language.proofs.Facts.{Facts, mentionsC, markedC, candidatesC, withBlankC, gammaC, sigmaC, tapesC, blankC, namesC, startC, contentFrom}
 use Rattle.language.proofs.InferAgain.{fresh-every}
 
-abbrev GoodDecoder : Decoder → Type 0
+abbrev pub GoodDecoder : Decoder → Type 0
 GoodDecoder asWord = Unit {0}
 GoodDecoder (asUnary c) = GoodCode c
 GoodDecoder (asBinary b) = Unit {0}

@@ -48,7 +48,7 @@ fine-small c h = byTest (leb 0x0000 c && leb c 0x02C1)
     (λ g. let k : c ≤ 0x243F = leb-true c 0x243F (and-right (leb 0x2190 c) (leb c 0x243F) g) in omega arith)
     (λ g. absurd (false≢true (sym (rw (e, within) (rw (f, within) (rw (g, within)))) ∙ h)))))
 
-fine-scalars : (cs : List ℕ) → AllFine cs → scalars cs ≡ true
+pub fine-scalars : (cs : List ℕ) → AllFine cs → scalars cs ≡ true
 unfolding scalars
 fine-scalars [] h = refl
 fine-scalars (c ∷ cs) h = rw (lt-ltb c 0xD800 (fine-small c (h .0))) (fine-scalars cs (h .1))
@@ -115,7 +115,7 @@ abbrev pub contentOfText : List ℕ → Content
 contentOfText t = contentOf (machineOf (readLines (decode t)))
 
 -- the lines of a text of admitted characters say what is well formed
-read-good : (cs : List ℕ) → AllFine cs → GoodFacts (factsOf (readLines cs))
+pub read-good : (cs : List ℕ) → AllFine cs → GoodFacts (factsOf (readLines cs))
 read-good cs h =
     subst GoodFacts (facts-natural (λ p. tt) (readLines cs))
     (subst (λ ls. GoodFacts (factsOf ls)) (sym (read-bare cs)) (facts-good (lines nowhere (map bare (kinds cs))) (lines-good cs h)))

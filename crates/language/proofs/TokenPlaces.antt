@@ -34,14 +34,18 @@ scalars-middle [] [] b h = refl
 scalars-middle [] (c ∷ w) b h = and-both (scalar c) (scalars w) (and-left (scalar c) (scalars (w ++ b)) h) (scalars-middle [] w b (and-right (scalar c) (scalars (w ++ b)) h))
 scalars-middle (c ∷ a) w b h = scalars-middle a w b (and-right (scalar c) (scalars (a ++ (w ++ b))) h)
 
--- they are what the bytes at the place decode to
-pub stands-at : (cs : List ℕ) (p : Span) (w : List ℕ) → scalars cs ≡ true → Stands cs p w → charactersAt (encode cs) p ≡ w
-unfolding charactersAt
-stands-at cs p w s h =
+-- the bytes at the place are theirs
+pub stands-bytes : (cs : List ℕ) (p : Span) (w : List ℕ) → Stands cs p w → take (p .end - p .start) (drop (p .start) (encode cs)) ≡ encode w
+stands-bytes cs p w h =
     let e : encode cs ≡ encode (h .before) ++ (encode w ++ encode (h .behind)) = ap encode (h .parts) ∙ encode-append (h .before) (w ++ h .behind) ∙ ap (λ l. encode (h .before) ++ l) (encode-append w (h .behind)) in
     let d : drop (p .start) (encode cs) ≡ encode w ++ encode (h .behind) = ap (drop (p .start)) e ∙ drop-at (encode (h .before)) (encode w ++ encode (h .behind)) (p .start) (length-encode (h .before) ∙ sym (h .start-is)) in
     let n : length (encode w) ≡ p .end - p .start = omega (arith, length-encode w, h .start-is, h .end-is) in
-    ap decode (ap (take (p .end - p .start)) d ∙ take-at (encode w) (encode (h .behind)) (p .end - p .start) n) ∙ decode-encode w (scalars-middle (h .before) w (h .behind) (ap scalars (sym (h .parts)) ∙ s))
+    ap (take (p .end - p .start)) d ∙ take-at (encode w) (encode (h .behind)) (p .end - p .start) n
+
+-- and decode to them
+pub stands-at : (cs : List ℕ) (p : Span) (w : List ℕ) → scalars cs ≡ true → Stands cs p w → charactersAt (encode cs) p ≡ w
+unfolding charactersAt
+stands-at cs p w s h = ap decode (stands-bytes cs p w h) ∙ decode-encode w (scalars-middle (h .before) w (h .behind) (ap scalars (sym (h .parts)) ∙ s))
 
 -- ---- the front of a list
 
@@ -77,6 +81,15 @@ front-trans : (l m n : List ℕ) → Front l m → Front m n → Front l n
 front-trans l m n f g = (g .0 ++ f .0, f .1 ∙ ap (λ x. x ++ f .0) (g .1) ∙ append-assoc n (g .0) (f .0))
 
 -- ---- strings
+
+-- the quote behind `raw` closes it, and its value is v
+abbrev pub Encloses : List ℕ → List ℕ → Type 0
+Encloses raw v = inside false (raw ++ 0x22 ∷ []) ≡ closed v (suc (length raw))
+
+-- then v is what the escapes of `raw` stand for
+pub encloses-value : (raw v : List ℕ) → Encloses raw v → unescape raw ≡ v
+unfolding unescape
+encloses-value raw v e = rw (e, unescape)
 
 -- what follows a string's quote closes with a quote behind `raw`, whatever stands behind that
 record Closes (b : Bool) (r v : List ℕ) (n : ℕ) : Type 0 where
@@ -186,7 +199,7 @@ abbrev FitsKind : List ℕ → TokenKind → ℕ → ℕ → ℕ → Type 0
 FitsKind l (word x) w a b = Within l x w 0 0
 FitsKind l (number x) w a b = Within l x w 0 0
 FitsKind l (comment s) w a b = Within l s w a b
-FitsKind l (str v) w a b = (raw : List ℕ) × (unescape raw ≡ v) × Within l raw w a b
+FitsKind l (str v) w a b = (raw : List ℕ) × Encloses raw v × Within l raw w a b
 FitsKind l (quoted c) w a b = Unit {0}
 FitsKind l (sign c) w a b = Unit {0}
 FitsKind l newline w a b = Unit {0}
@@ -211,11 +224,11 @@ number-fits c r = run-fits isAsciiDigit c r
 
 -- a string behind its quote
 string-closed : (c : ℕ) (r : List ℕ) (v : List ℕ) (n : ℕ) → size c ≡ 1 → Closes false r v n → FitsStep (c ∷ r) (tok (str v) (1 + sizes (take n r)) 1 1 n)
-unfolding sizes unescape
+unfolding sizes
 string-closed c r v n one h =
     let back : take n r ≡ h .raw ++ 0x22 ∷ [] = ap (take n) (h .split ∙ sym (append-assoc (h .raw) (0x22 ∷ []) (h .rest))) ∙ take-at (h .raw ++ 0x22 ∷ []) (h .rest) n (length-append (h .raw) (0x22 ∷ []) ∙ omega (arith, h .taken)) in (
       h .raw,
-      rw (h .again [], unescape) refl,
+      h .again [] ∙ ap (closed v) (h .taken),
       record {
         pre = c ∷ [];
         post = 0x22 ∷ h .rest;
@@ -305,7 +318,7 @@ Placed cs t = elim (t .kind) [
   | word w ↦ Stands cs (t .place) w
   | number w ↦ Stands cs (t .place) w
   | comment s ↦ Stands cs (t .inner) s
-  | str v ↦ (raw : List ℕ) × (unescape raw ≡ v) × Stands cs (t .inner) raw
+  | str v ↦ (raw : List ℕ) × Encloses raw v × Stands cs (t .inner) raw
   | quoted c ↦ Unit {0}
   | sign c ↦ Unit {0}
   | newline ↦ Unit {0}

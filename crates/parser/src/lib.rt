@@ -2,7 +2,7 @@
 mod elements;
 pub mod items;
 mod row;
-mod view;
+pub mod view;
 
 use lexer::Span;
 

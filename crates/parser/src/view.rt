@@ -28,7 +28,7 @@ pub(crate) fn is_choice(t: Token, first: u32, last: u32) -> bool
 }
 
 // A word but `_`.
-pub(crate) fn is_state(t: Token) -> bool
+pub fn is_state(t: Token) -> bool
     ensures { λ r. ⌜ r ≡ isState t ⌝ }
 {
     if t.kind == kind::WORD {
@@ -38,7 +38,7 @@ pub(crate) fn is_state(t: Token) -> bool
 }
 
 // A word or a number of one character, a quoted character, or another sign but `;`.
-pub(crate) fn is_symbol(t: Token) -> bool
+pub fn is_symbol(t: Token) -> bool
     ensures { λ r. ⌜ r ≡ isSymbol t ⌝ }
 {
     if t.kind == kind::WORD {
