@@ -120,7 +120,7 @@ scalar-below : (c : ℕ) → scalar c ≡ true → c < 0x110000
 unfolding scalar
 scalar-below c e = ⊎-elim (λ p. omega (arith, ltb-true c 0xD800 p)) (λ p. omega (arith, ltb-true c 0x110000 (and-both (leb 0xE000 c) (ltb c 0x110000) p .1))) (or-cases (ltb c 0xD800) (leb 0xE000 c && ltb c 0x110000) e)
 
-first-below : (c : ℕ) (w : List ℕ) → scalars (c ∷ w) ≡ true → c < 0x110000
+pub first-below : (c : ℕ) (w : List ℕ) → scalars (c ∷ w) ≡ true → c < 0x110000
 unfolding scalars
 first-below c w e = scalar-below c (and-both (scalar c) (scalars w) e .0)
 
@@ -144,7 +144,7 @@ word-is (x ∷ []) c s g h = byTest (eqb x c) (λ e. rw e) (λ e. rw e)
 word-is (x ∷ y ∷ r) c s g h = rw (and-no (eqb x c)) (sym (ne-eqb (0x110000 + keyword (x ∷ y ∷ r)) c (λ (e : 0x110000 + keyword (x ∷ y ∷ r) ≡ c). omega arith)))
 
 -- ---- a number's value
-digits-sizes : (w : List ℕ) → digits w ≡ true → sizes w ≡ length w
+pub digits-sizes : (w : List ℕ) → digits w ≡ true → sizes w ≡ length w
 unfolding sizes size
 digits-sizes [] g = refl
 digits-sizes (c ∷ w) g =
@@ -196,11 +196,11 @@ sign-range c =
     split P (eqb c 0x2A) (λ e. omega arith) λ e. omega arith
 
 -- ---- what the words say of a token in its place
-number-digits : (w : List ℕ) → Good (number w) → digits w ≡ true
+pub number-digits : (w : List ℕ) → Good (number w) → digits w ≡ true
 number-digits [] g = absurd g
 number-digits (c ∷ w) g = g
 
-word-scalars : (t : List ℕ) (w : List ℕ) (p q : Span) → Placed t (record { kind = word w; place = p; inner = q }) → scalars w ≡ true
+pub word-scalars : (t : List ℕ) (w : List ℕ) (p q : Span) → Placed t (record { kind = word w; place = p; inner = q }) → scalars w ≡ true
 word-scalars t w p q h = ap scalars (sym (h .says)) ∙ h .scalar
 
 character-by : (t : List ℕ) (k : TokenKind) (p q : Span) → Placed t (record { kind = k; place = p; inner = q })
