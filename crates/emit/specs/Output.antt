@@ -9,6 +9,7 @@ pub record Output : Type 0 where
   pub row : List ℕ
   pub at : ℕ
 
+-- an output, from its parts
 abbrev pub output : List ℕ → ℕ → Output
 output row at = record { row = row; at = at }
 

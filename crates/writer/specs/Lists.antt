@@ -15,11 +15,12 @@ pub record FinalWritten (final : Bool) (name : List ℕ) (before : Output) (coun
   pub writes : Writes (only final (only (ltb 0 count) (say ", ") ⨾ verbatim name)) before after
   pub counts : counted ≡ count + flag final
 
--- the two sides of a rule
+-- the left side of a rule: from, and what is read
 unfoldable pub ruleLeft : RuleContent → Piece
 unfolding commas
 ruleLeft r = say "δ(" ⨾ verbatim (r .from) ⨾ say ", (" ⨾ commas (λ a. symbol (a .read)) (r .actions) ⨾ say "))"
 
+-- the right side: to, what is written, and the moves
 unfoldable pub ruleRight : RuleContent → Piece
 unfolding commas
 ruleRight r = say " = (" ⨾ verbatim (r .to) ⨾ say ", (" ⨾ commas (λ a. symbol (a .write)) (r .actions) ⨾ say "), (" ⨾ commas (λ a. direction (a .dir)) (r .actions) ⨾ say "))"

@@ -1,9 +1,9 @@
--- What the writer asks of an answer, which every answer of a reading call has: symbols are scalar values, names and comments are UTF-8, strings are whole.
-use Prim.Native.Nat.{ℕ, suc, _+_, _-_, _*_}
-use mathlib.Core.Bool.{true, false}
-use mathlib.Core.List.{List, [], _∷_, _++_, map}
+-- What the writer asks of an answer, and every answer to an admitted text has: symbols are scalar values, names and comments are UTF-8, strings are whole.
+use Prim.Native.Nat.{ℕ, _+_, _-_, _*_}
+use mathlib.Core.Bool.{true}
+use mathlib.Core.List.{List, [], _∷_, map}
 use mathlib.Core.Path.{_≡_}
-use lib.ListN.{length, take, drop}
+use lib.ListN.{take, drop}
 use Rattle.chars.specs.Utf8.{scalar, scalars, encode}
 use Rattle.lexer.specs.Tokens.{Span}
 use Rattle.pieces.specs.Strings.{Whole}
@@ -67,23 +67,27 @@ pub record BodyFormed (text : List ℕ) (n : Counts) (header trailing rules : Li
   pub trailingTexts : Every (NameIn text) (groups 2 (n .trailing) trailing)
   pub ruleRecords : Every (RuleFormed text) (records (n .rules) rules)
 
--- where the words of each section begin
+-- the words of a section and all that follow: Σ
 abbrev pub sigmaFrom : Answer → List ℕ
 sigmaFrom a = drop (3 * a .head .counts .states) (a .sheet)
 
+-- Γ
 abbrev pub gammaFrom : Answer → List ℕ
 gammaFrom a = drop (3 * a .head .counts .sigma) (sigmaFrom a)
 
+-- header comments
 abbrev pub headerFrom : Answer → List ℕ
 headerFrom a = drop (3 * a .head .counts .gamma + 2 * a .head .counts .finals) (gammaFrom a)
 
+-- trailing comments
 abbrev pub trailingFrom : Answer → List ℕ
 trailingFrom a = drop (2 * a .head .counts .header) (headerFrom a)
 
+-- rules
 abbrev pub rulesFrom : Answer → List ℕ
 rulesFrom a = drop (2 * a .head .counts .trailing) (trailingFrom a)
 
--- an answer
+-- an answer with all of that (proofs/Shown.antt: every answer to an admitted text is)
 pub record WellFormed (a : Answer) : Type 0 where
   pub headPart : HeadFormed (a .text) (a .head)
   pub declaredPart : DeclaredFormed (a .text) (a .head) (a .sheet) (sigmaFrom a) (gammaFrom a)

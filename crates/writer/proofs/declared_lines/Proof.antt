@@ -11,10 +11,10 @@ declared-lines-spec =
     (λ c κs. search needs)
     (λ c κs.
     let start = c .before .before .before .before .before .before .before .before .before .before in
-    (sigma-scalar, start .pre .sigmaCodes))
+    (search (sigma-scalar, gamma-scalar), start .pre .sigmaCodes))
     (λ c κs.
     let start = c .before .before .before .before .before .before .before .before .before .before .before .before .before .before in
-    (gamma-scalar, start .pre .gammaCodes))
+    (search (sigma-scalar, gamma-scalar), start .pre .gammaCodes))
     (λ c κs. search needs)
     (λ c κs. search needs)
     (λ c κs.

@@ -20,7 +20,7 @@ rule-left-spec =
     (λ c κs. search needs)
     (λ c κs.
     let start = c .before .before .before .before .before .before .before .before .before .before .before .before .before .before .before .before .before .before .before .before .before in
-    (search needs, search needs, coded (start .args .words .now) _ _ (c .word .ensures) (c .before .after .ensures) _ (start .pre .reads)))
+    (search needs, search needs, search (coded (start .args .words .now) _ _ (c .word .ensures) (c .before .after .ensures) 0 (start .pre .reads), coded (start .args .words .now) _ _ (c .word .ensures) (c .before .after .ensures) 3 (start .pre .writes))))
     (λ c. search needs)
     (λ c κs. search needs)
     (λ c. search needs)
