@@ -30,7 +30,7 @@ use Rattle.diag.proofs.Appended.{append-all-append, append-all-count}
 use Rattle.assembler.specs.declared.Assembled.{Assembled}
 use Rattle.assembler.specs.declared.rules.RuleCount.{RuleCount}
 use Rattle.assembler.specs.Rows.{rows}
-use Rattle.assembler.specs.Entries.{Entry, entriesFrom, entries}
+use Rattle.assembler.specs.Entries.{Entry, behind, entriesFrom, entries}
 use Rattle.assembler.specs.Entered.{flat, enteredFrom, entered}
 use Rattle.assembler.specs.Names.{isWord, firstEqual, internOf, interned}
 use Rattle.assembler.specs.Failures.{lineError, lineErrors}
@@ -46,9 +46,9 @@ use Rattle.assembler.proofs.MarkLaws.{kept-row, kept-interned}
 use Rattle.assembler.proofs.FailureLaws.{line-error-one}
 use Rattle.assembler.proofs.DeclarationLaws.{one-wrong}
 use Rattle.assembler.proofs.FinalLaws.{one-final}
-use Rattle.assembler.proofs.Means.{records-append, line-errors-mean, declarations-mean, table-empty}
-use Rattle.assembler.proofs.RulesMean.{rule-errors-mean, rule-count-mean}
-use Rattle.assembler.proofs.FinalsMean.{finals-mean}
+use Rattle.assembler.proofs.Means.{AllMean, records-append, line-errors-mean, declarations-mean, table-empty}
+use Rattle.assembler.proofs.RulesMean.{RulesOf, rule-errors-mean, rule-count-mean}
+use Rattle.assembler.proofs.FinalsMean.{NamesIn, finals-mean}
 use Rattle.assembler.proofs.EntriesMean.{entries-mean}
 
 -- ---- rows and the words behind them
@@ -143,7 +143,7 @@ entries-few-from : (k i : ℕ) (ts : List Token) → length (entriesFrom k i ts)
 unfolding entriesFrom
 entries-few-from k i [] = omega arith
 entries-few-from (suc k) i (t ∷ ts) = omega (arith, entries-few-from k (suc i) ts)
-entries-few-from zero i (t ∷ ts) = omega (arith, entries-few-from _ (suc i) ts)
+entries-few-from zero i (t ∷ ts) = omega (arith, entries-few-from (behind i t) (suc i) ts)
 
 entries-few : (ts : List Token) → length (entries ts) ≤ length ts
 unfolding entries
@@ -215,7 +215,7 @@ module _ (text : List ℕ) (count : ℕ) (w₀ w₁ first : List ℕ) (l : Log)
     finals-and-rules log r c e = record {
       kept = kept;
       rules = c ∙ ap (λ (ts : List Token). ruleCount noRules (entries ts)) row-kept;
-      log =
+      written =
       e ∙ ap (λ (ts : List Token). appendAll (logged g n) (ruleErrors noRules (entries ts))) row-kept
       ∙ ap (λ (x : Log). appendAll x (ruleErrors noRules (entries (rows count w₀)))) finals
       ∙ sym (append-all-append l (finalsErrors text (rows count w₀) first) (ruleErrors noRules (entries (rows count w₀))));
@@ -266,8 +266,8 @@ module _ (text : List ℕ) (count : ℕ) (w₀ log₀ : List ℕ) (laid : Laid c
             kept = p .kept;
             first = f₂;
             rules = p .rules;
-            log =
-            p .log ∙ ap (λ (x : List ℕ). appendAll (logged g₂ m) (finalsErrors text ts x ++ ruleErrors noRules es)) same
+            written =
+            p .written ∙ ap (λ (x : List ℕ). appendAll (logged g₂ m) (finalsErrors text ts x ++ ruleErrors noRules es)) same
             ∙ ap (λ (x : Log). appendAll x F) e₂ ∙ sym (append-all-append (logged g₁ n) D F)
             ∙ ap (λ (x : Log). appendAll x (D ++ F)) e₁ ∙ sym (append-all-append (logged log₀ 0) (lineErrors es) (D ++ F));
           }
@@ -280,15 +280,16 @@ module _ (text : List ℕ) (few : length (entered (map tokenOf (tokens (decode t
   abbrev ls : List (Line Place)
   ls = lines covering (tokens (decode text))
 
+  all-mean : AllMean (λ e k. RulesOf e k × NamesIn text (E text) e k) (E text) (entries (E text)) ls
   all-mean = entries-mean text (tokens (decode text)) (tokens-lexed text) (placed text)
 
   row-mean : S.rowDiagnostics text (E text) ≡ recordsOf (A.diagnosticsOf (readLines (decode text)))
   unfolding S.rowDiagnostics A.diagnosticsOf readLines
   row-mean =
-      let a = line-errors-mean _ (E text) (entries (E text)) ls all-mean in
-      let d = declarations-mean _ (E text) undeclared [] (entries (E text)) ls all-mean (table-empty (E text) few) in
-      let f = finals-mean text (E text) _ (λ e i x. x .1) few (entries (E text)) ls all-mean in
-      let r = rule-errors-mean _ (λ e i x. x .0) (E text) (entries (E text)) ls all-mean in
+      let a = line-errors-mean (λ e k. RulesOf e k × NamesIn text (E text) e k) (E text) (entries (E text)) ls all-mean in
+      let d = declarations-mean (λ e k. RulesOf e k × NamesIn text (E text) e k) (E text) undeclared [] (entries (E text)) ls all-mean (table-empty (E text) few) in
+      let f = finals-mean text (E text) (λ e k. RulesOf e k × NamesIn text (E text) e k) (λ e i x. x .1) few (entries (E text)) ls all-mean in
+      let r = rule-errors-mean (λ e k. RulesOf e k × NamesIn text (E text) e k) (λ e i x. x .0) (E text) (entries (E text)) ls all-mean in
       let dl = A.declarationErrors [] (A.items ls) in
       let fl = A.finalErrors (A.statesIn (A.items ls)) [] (A.finalsIn (A.items ls)) in
       let rl = A.ruleErrors 0 false (A.bodyOf ls .rules) in
@@ -298,7 +299,7 @@ module _ (text : List ℕ) (few : length (entered (map tokenOf (tokens (decode t
   rules-mean : ruleCount noRules (entries (E text)) ≡ length (machineOf (readLines (decode text)) .rules)
   unfolding machineOf readLines
   rules-mean =
-      rule-count-mean _ (λ e i x. x .0) (E text) (entries (E text)) ls all-mean ∙ sym (C.rules-length (A.blankOf (A.items ls)) (A.kept 0 (A.bodyOf ls .rules)))
+      rule-count-mean (λ e k. RulesOf e k × NamesIn text (E text) e k) (λ e i x. x .0) (E text) (entries (E text)) ls all-mean ∙ sym (C.rules-length (A.blankOf (A.items ls)) (A.kept 0 (A.bodyOf ls .rules)))
 
 length-records : (ds : List (A.Diagnostic Place)) → length (recordsOf ds) ≡ length ds
 unfolding recordsOf
@@ -322,12 +323,12 @@ module _ (text : List ℕ) (count : ℕ) (w₀ w₁ : List ℕ) (p : S.Tokenized
       let size : length (E text) ≡ count = length-entered (map tokenOf (tokens (decode text))) ∙ length-map (tokens (decode text)) tokenOf ∙ sym (p .many) in
       let few : length (E text) ≤ 0xffffffff = omega (arith, passes-laid .few) in
       let found : S.rowDiagnostics text (rows count w₁) ≡ recordsOf (A.diagnosticsOf (readLines (decode text))) = ap (S.rowDiagnostics text) row₁ ∙ row-mean text few in
-      let logged-is : logged log (r .errors) ≡ appendAll (logged log₀ 0) (recordsOf (A.diagnosticsOf (readLines (decode text)))) = d .log ∙ ap (appendAll (logged log₀ 0)) found in
+      let logged-is : logged log (r .errors) ≡ appendAll (logged log₀ 0) (recordsOf (A.diagnosticsOf (readLines (decode text)))) = d .written ∙ ap (appendAll (logged log₀ 0)) found in
       record {
         errors =
         ap (λ (x : Log). x .count) logged-is ∙ append-all-count (logged log₀ 0) (recordsOf (A.diagnosticsOf (readLines (decode text))))
         ∙ ap (λ (n : ℕ). 0 + n) (length-records (A.diagnosticsOf (readLines (decode text)))) ∙ nothing-more (length (A.diagnosticsOf (readLines (decode text))));
-        log = logged-is;
+        written = logged-is;
         rules = d .rules ∙ ap (λ (ts : List Token). ruleCount noRules (entries ts)) row₁ ∙ rules-mean text few;
         entered = record { row = row₂ ∙ e .row; names = kept-interned count a b w₁ w₂ passes-laid (d .kept) text (e .names); size = d .kept .size ∙ e .size };
         first = d .first ∙ ap (λ (ts : List Token). declarations count undeclared (entries ts)) (sym row₂);

@@ -54,20 +54,20 @@ pub record Entered (text : List ℕ) (count : ℕ) (w₀ w : List ℕ) : Type 0 
 pub record FinalsAndRules (text : List ℕ) (count : ℕ) (w₀ w first : List ℕ) (l : Log) (log : List ℕ) (r : RuleCount) : Type 0 where
   pub kept : Kept (marksFrom (length text)) w₀ w
   pub rules : r .rules ≡ ruleCount noRules (entries (rows count w₀))
-  pub log : logged log (r .errors) ≡ appendAll l (finalsErrors text (rows count w₀) first ++ ruleErrors noRules (entries (rows count w₀)))
+  pub written : logged log (r .errors) ≡ appendAll l (finalsErrors text (rows count w₀) first ++ ruleErrors noRules (entries (rows count w₀)))
 
 -- the passes over a row with entries
 pub record Diagnosed (text : List ℕ) (count : ℕ) (w₀ w log₀ log : List ℕ) (r : Assembled) : Type 0 where
   pub kept : Kept (marksFrom (length text)) w₀ w
   pub first : r .first ≡ declarations count undeclared (entries (rows count w₀))
   pub rules : r .rules ≡ ruleCount noRules (entries (rows count w₀))
-  pub log : logged log (r .errors) ≡ appendAll (logged log₀ 0) (rowDiagnostics text (rows count w₀))
+  pub written : logged log (r .errors) ≡ appendAll (logged log₀ 0) (rowDiagnostics text (rows count w₀))
 
 -- the outcome in the language's terms: the diagnostics in the order in which they are found, stored as far as there is room, and the number of rules;
 -- and for the passes above, the row with its lines entered, the row of first equal words, and the entries of the first declarations
 pub record Outcome (text : List ℕ) (count : ℕ) (w₀ w log₀ log : List ℕ) (r : Assembled) : Type 0 where
   pub errors : r .errors ≡ length (diagnosticsOf (readLines (decode text)))
-  pub log : logged log (r .errors) ≡ appendAll (logged log₀ 0) (recordsOf (diagnosticsOf (readLines (decode text))))
+  pub written : logged log (r .errors) ≡ appendAll (logged log₀ 0) (recordsOf (diagnosticsOf (readLines (decode text))))
   pub rules : r .rules ≡ length (machineOf (readLines (decode text)) .rules)
   pub entered : Entered text count w₀ w
   pub first : r .first ≡ declarations count undeclared (entries (rows count w))
