@@ -33,3 +33,13 @@ fn enter(text: &[u8], work: &mut [u32], count: usize)
     let a = 4 * (text.len() + 1);
     names::intern(text, work, count, a);
 }
+
+// The diagnostics of F and of the rules, behind m others.
+fn finals_and_rules(text: &[u8], work: &mut [u32], count: usize, first: &[u32; 11], log: &mut [u32], m: usize) -> RuleCount
+    requires { ⌜ Laid count (wordsFrom (length (now text))) (marksFrom (length (now text))) (now work) × Interned (now text) (rows count (now work)) (wordsFrom (length (now text))) (now work) × (m + 2 * count < 2 ^ 64) ⌝ }
+    ensures { λ r. ⌜ FinalsAndRules (now (text .entry)) count (now (work .entry)) (now (work .exit)) (now (first .entry)) (logged (now (log .entry)) m) (now (log .exit)) r ⌝ }
+{
+    let base = text.len() + 1;
+    let n = finals::finals(text, work, count, 4 * base, 5 * base, first, log, m);
+    rules::rules(work, count, log, n)
+}
