@@ -43,3 +43,21 @@ fn finals_and_rules(text: &[u8], work: &mut [u32], count: usize, first: &[u32; 1
     let n = finals::finals(text, work, count, 4 * base, 5 * base, first, log, m);
     rules::rules(work, count, log, n)
 }
+
+// The passes over the lines that were entered.
+fn diagnose(text: &[u8], work: &mut [u32], count: usize, log: &mut [u32]) -> Assembled
+    requires { ⌜ Laid count (wordsFrom (length (now text))) (marksFrom (length (now text))) (now work) × Interned (now text) (rows count (now work)) (wordsFrom (length (now text))) (now work) ⌝ }
+    ensures { λ r. ⌜ Diagnosed (now (text .entry)) count (now (work .entry)) (now (work .exit)) (now (log .entry)) (now (log .exit)) r ⌝ }
+{
+    let mut first = [0xffff_ffffu32; 11];
+    let n = failures::line_errors(work, count, log, 0);
+    let m = declarations::declarations(work, count, &mut first, log, n);
+    let c = finals_and_rules(text, work, count, &first, log, m);
+    let rules = c.rules;
+    let errors = c.errors;
+    Assembled {
+        first,
+        rules,
+        errors,
+    }
+}
