@@ -61,3 +61,12 @@ fn diagnose(text: &[u8], work: &mut [u32], count: usize, log: &mut [u32]) -> Ass
         errors,
     }
 }
+
+// Assembles the description whose tokens stand in work: finds its declarations, counts its rules, and appends its diagnostics to the log.
+pub fn assemble(text: &[u8], work: &mut [u32], count: usize, log: &mut [u32]) -> Assembled
+    requires { ⌜ Tokenized (now text) count (now work) ⌝ }
+    ensures { λ r. ⌜ Outcome (now (text .entry)) count (now (work .entry)) (now (work .exit)) (now (log .entry)) (now (log .exit)) r ⌝ }
+{
+    enter(text, work, count);
+    diagnose(text, work, count, log)
+}
