@@ -216,9 +216,9 @@ module _ (text : List ℕ) (count : ℕ) (w₀ w₁ first : List ℕ) (l : Log)
       kept = kept;
       rules = c ∙ ap (λ (ts : List Token). ruleCount noRules (entries ts)) row-kept;
       written =
-      e ∙ ap (λ (ts : List Token). appendAll (logged g n) (ruleErrors noRules (entries ts))) row-kept
-      ∙ ap (λ (x : Log). appendAll x (ruleErrors noRules (entries (rows count w₀)))) finals
-      ∙ sym (append-all-append l (finalsErrors text (rows count w₀) first) (ruleErrors noRules (entries (rows count w₀))));
+          e ∙ ap (λ (ts : List Token). appendAll (logged g n) (ruleErrors noRules (entries ts))) row-kept
+          ∙ ap (λ (x : Log). appendAll x (ruleErrors noRules (entries (rows count w₀)))) finals
+          ∙ sym (append-all-append l (finalsErrors text (rows count w₀) first) (ruleErrors noRules (entries (rows count w₀))));
     }
 
 -- ---- all passes over the lines
@@ -267,9 +267,9 @@ module _ (text : List ℕ) (count : ℕ) (w₀ log₀ : List ℕ) (laid : Laid c
             first = f₂;
             rules = p .rules;
             written =
-            p .written ∙ ap (λ (x : List ℕ). appendAll (logged g₂ m) (finalsErrors text ts x ++ ruleErrors noRules es)) same
-            ∙ ap (λ (x : Log). appendAll x F) e₂ ∙ sym (append-all-append (logged g₁ n) D F)
-            ∙ ap (λ (x : Log). appendAll x (D ++ F)) e₁ ∙ sym (append-all-append (logged log₀ 0) (lineErrors es) (D ++ F));
+                p .written ∙ ap (λ (x : List ℕ). appendAll (logged g₂ m) (finalsErrors text ts x ++ ruleErrors noRules es)) same
+                ∙ ap (λ (x : Log). appendAll x F) e₂ ∙ sym (append-all-append (logged g₁ n) D F)
+                ∙ ap (λ (x : Log). appendAll x (D ++ F)) e₁ ∙ sym (append-all-append (logged log₀ 0) (lineErrors es) (D ++ F));
           }
 
 -- ---- in the language's terms
@@ -326,8 +326,8 @@ module _ (text : List ℕ) (count : ℕ) (w₀ w₁ : List ℕ) (p : S.Tokenized
       let logged-is : logged log (r .errors) ≡ appendAll (logged log₀ 0) (recordsOf (A.diagnosticsOf (readLines (decode text)))) = d .written ∙ ap (appendAll (logged log₀ 0)) found in
       record {
         errors =
-        ap (λ (x : Log). x .count) logged-is ∙ append-all-count (logged log₀ 0) (recordsOf (A.diagnosticsOf (readLines (decode text))))
-        ∙ ap (λ (n : ℕ). 0 + n) (length-records (A.diagnosticsOf (readLines (decode text)))) ∙ nothing-more (length (A.diagnosticsOf (readLines (decode text))));
+            ap (λ (x : Log). x .count) logged-is ∙ append-all-count (logged log₀ 0) (recordsOf (A.diagnosticsOf (readLines (decode text))))
+            ∙ ap (λ (n : ℕ). 0 + n) (length-records (A.diagnosticsOf (readLines (decode text)))) ∙ nothing-more (length (A.diagnosticsOf (readLines (decode text))));
         written = logged-is;
         rules = d .rules ∙ ap (λ (ts : List Token). ruleCount noRules (entries ts)) row₁ ∙ rules-mean text few;
         entered = record { row = row₂ ∙ e .row; names = kept-interned count a b w₁ w₂ passes-laid (d .kept) text (e .names); size = d .kept .size ∙ e .size };

@@ -6,7 +6,6 @@ ghost use lib.ListN.{length};
 ghost use Rattle.assembler.specs.Rows.{rows};
 ghost use Rattle.assembler.specs.Finals.{Interned, Laid};
 ghost use Rattle.assembler.specs.Assembled.{Tokenized, Entered, FinalsAndRules, Diagnosed, Outcome, wordsFrom, marksFrom};
-
 use rules::RuleCount;
 
 pub mod declarations;
@@ -35,7 +34,14 @@ fn enter(text: &[u8], work: &mut [u32], count: usize)
 }
 
 // The diagnostics of F and of the rules, behind m others.
-fn finals_and_rules(text: &[u8], work: &mut [u32], count: usize, first: &[u32; 11], log: &mut [u32], m: usize) -> RuleCount
+fn finals_and_rules(
+    text: &[u8],
+    work: &mut [u32],
+    count: usize,
+    first: &[u32; 11],
+    log: &mut [u32],
+    m: usize,
+) -> RuleCount
     requires { ⌜ Laid count (wordsFrom (length (now text))) (marksFrom (length (now text))) (now work) × Interned (now text) (rows count (now work)) (wordsFrom (length (now text))) (now work) × (m + 2 * count < 2 ^ 64) ⌝ }
     ensures { λ r. ⌜ FinalsAndRules (now (text .entry)) count (now (work .entry)) (now (work .exit)) (now (first .entry)) (logged (now (log .entry)) m) (now (log .exit)) r ⌝ }
 {

@@ -1,31 +1,15 @@
+-- `assembler::assemble` meets its contract: the passes over the entered lines give the diagnostics of the row, and these are the language's.
 use borrow.Author.Needs.{needs}
+use Rattle.assembler.proofs.AssembledLaws.{passes-laid, outcome}
 use Rattle.assembler.proofs.assemble.Statement.{statement}
 use Rattle.assembler.proofs.assemble.Tie as tie
-use Rattle.assembler.proofs.assemble.Reads as reads
-use Rattle.assembler.proofs.assemble.Lts as lts
-use Rattle.assembler.proofs.diagnose.Reads as diagnose-reads
-use Rattle.assembler.proofs.enter.Reads as enter-reads
-
--- src/lib.rt:70:5
-enter-requires : tie.Need-enter-requires
-enter-requires c κs = search needs
-
--- src/lib.rt:71:5
-diagnose-requires : tie.Need-diagnose-requires
-diagnose-requires c κs = ?
-
--- src/lib.rt:66:1
-same-length : tie.Need-same-length
-same-length c = search needs
-
--- src/lib.rt:66:1
-same-length-2 : tie.Need-same-length-2
-same-length-2 c = search needs
-
--- src/lib.rt:66:1
-returns : tie.Need-returns
-returns c = ?
 
 pub assemble-spec : {M : Type 1} → statement M
 assemble-spec =
-    tie.close (tie.spec enter-requires diagnose-requires same-length same-length-2 returns)
+    tie.close
+    (tie.spec
+    (λ c κs. search needs)
+    (λ c κs. (passes-laid (c .before .before .before .before .before .before .before .before .before .args .text .now) _ _ _ (c .before .before .before .before .before .before .before .before .before .pre) (c .before .before .before .before .enter .ensures), c .before .before .before .before .enter .ensures .names))
+    (λ c. search needs)
+    (λ c. search needs)
+    (λ c. outcome (c .before .before .before .before .before .before .before .before .before .before .before .before .before .before .args .text .now) _ _ _ (c .before .before .before .before .before .before .before .before .before .before .before .before .before .before .pre) (c .before .before .before .before .before .before .before .before .before .enter .ensures) _ _ _ _ (c .before .before .before .before .diagnose .ensures)))
