@@ -100,7 +100,7 @@ module _ (ts : List Token) (i : ℕ) (t : Token) (at : t ≡ peek ts i) (first :
       unfolding declarationError
       wrong-first h e = rw (← at, declares-name t k enough name low, ← name, ← there, all, le-ltb f n h) (rw (← at) at e)
 
-one-wrong : (ts : List Token) (first : List ℕ) (e : Entry) → length (declarationError ts first e) ≤ 1
+pub one-wrong : (ts : List Token) (first : List ℕ) (e : Entry) → length (declarationError ts first e) ≤ 1
 unfolding declarationError tapesError
 one-wrong ts first e =
     let v : Token = peek (e .rest) 1 in

@@ -28,7 +28,7 @@ module _ (t : Token) (l : Log) where
   unfolding lineError appendAll
   line-passed h = rw (lt-leb 32 (t .kind) h)
 
-line-error-one : (t : Token) → length (lineError t) ≤ 1
+pub line-error-one : (t : Token) → length (lineError t) ≤ 1
 unfolding lineError
 line-error-one t = at-most-one (leb 32 (t .kind)) (error (t .kind - 32) (placeOf t) ∷ []) [] (omega arith) (omega arith)
 

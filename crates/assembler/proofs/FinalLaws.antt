@@ -189,15 +189,19 @@ module _ (text : List ℕ) (count a b : ℕ) (all w₀ w : List ℕ) (i : ℕ) (
       }
 
 -- ---- the walk over F's set has come to the index i; `start` says what held before it
-at-most-final : (text : List ℕ) (ts : List Token) (d : Bool) (qs before : List ℕ) (i : ℕ) → length (finalErrorAt text ts d qs before i) ≤ 1
-unfolding finalErrorAt finalError unknownError
-at-most-final text ts d qs before i = at-most-one (isState (peek ts i)) (finalError text ts d qs before i) [] (one (listed text ts i before) (listed text ts i qs)) (omega arith)
+pub one-final : (text : List ℕ) (ts : List Token) (d : Bool) (qs before : List ℕ) (i : ℕ) → length (finalError text ts d qs before i) ≤ 1
+unfolding finalError unknownError
+one-final text ts d qs before i = one (listed text ts i before) (listed text ts i qs)
   where
     one : (o q : Option ℕ)
         → length {A = Diagnostic} (elim o [ some j ↦ withRelated (error 11 (placeOf (peek ts i))) (placeOf (peek ts j)) ∷ [] | none ↦ cond d (elim q [ some j ↦ [] | none ↦ error 3 (placeOf (peek ts i)) ∷ [] ]) [] ]) ≤ 1
     one (some j) q = omega arith
     one none (some k) = at-most-one d [] [] (omega arith) (omega arith)
     one none none = at-most-one d (error 3 (placeOf (peek ts i)) ∷ []) [] (omega arith) (omega arith)
+
+at-most-final : (text : List ℕ) (ts : List Token) (d : Bool) (qs before : List ℕ) (i : ℕ) → length (finalErrorAt text ts d qs before i) ≤ 1
+unfolding finalErrorAt
+at-most-final text ts d qs before i = at-most-one (isState (peek ts i)) (finalError text ts d qs before i) [] (one-final text ts d qs before i) (omega arith)
 
 errors-on : (text : List ℕ) (ts : List Token) (d : Bool) (qs before fs : List ℕ) (i : ℕ)
     → finalErrors text ts d qs before (nameAt i (peek ts i) ++ fs) ≡ finalErrorAt text ts d qs before i ++ finalErrors text ts d qs (before ++ nameAt i (peek ts i)) fs

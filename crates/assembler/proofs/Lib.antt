@@ -18,3 +18,4 @@ pub mod FinalsMean
 pub mod SetsMean
 pub mod NamesMean
 pub mod EntriesMean
+pub mod AssembledLaws

@@ -7,3 +7,4 @@ pub mod Entered
 pub mod Names
 pub mod Finals
 pub mod Records
+pub mod Assembled

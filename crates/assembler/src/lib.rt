@@ -1,4 +1,13 @@
-// Assembly of a description from the tokens in a row of words: entries for lines, declarations, rules and diagnostics.
+// Assembly of a description from the tokens in a row of words (the source's dsl/parser.rs, Assembler): lines are parsed once, and passes over
+// the lines find the declarations, the number of rules and the diagnostics.
+ghost use Prim.Native.Nat.{_+_, _*_, _<_, _^_};
+ghost use Rattle.diag.specs.Log.{logged};
+ghost use lib.ListN.{length};
+ghost use Rattle.assembler.specs.Rows.{rows};
+ghost use Rattle.assembler.specs.Finals.{Interned, Laid};
+ghost use Rattle.assembler.specs.Assembled.{Tokenized, Entered, FinalsAndRules, Diagnosed, Outcome, wordsFrom, marksFrom};
+use rules::RuleCount;
+
 pub mod declarations;
 pub mod entry;
 pub mod failures;
@@ -6,3 +15,64 @@ pub mod finals;
 pub mod lines;
 pub mod names;
 pub mod rules;
+
+// What assembly finds: the entry of the first declaration of each name, a value that is no index for none; the number of rules; and the number of diagnostics.
+pub struct Assembled {
+    pub first: [u32; 11],
+    pub rules: usize,
+    pub errors: usize,
+}
+
+// Enters the lines, and puts the row of first equal words behind the tokens.
+fn enter(text: &[u8], work: &mut [u32], count: usize)
+    requires { ⌜ Tokenized (now text) count (now work) ⌝ }
+    ensures { λ _. ⌜ Entered (now (text .entry)) count (now (work .entry)) (now (work .exit)) ⌝ }
+{
+    lines::lines(work, count);
+    let a = 4 * (text.len() + 1);
+    names::intern(text, work, count, a);
+}
+
+// The diagnostics of F and of the rules, behind m others.
+fn finals_and_rules(
+    text: &[u8],
+    work: &mut [u32],
+    count: usize,
+    first: &[u32; 11],
+    log: &mut [u32],
+    m: usize,
+) -> RuleCount
+    requires { ⌜ Laid count (wordsFrom (length (now text))) (marksFrom (length (now text))) (now work) × Interned (now text) (rows count (now work)) (wordsFrom (length (now text))) (now work) × (m + 2 * count < 2 ^ 64) ⌝ }
+    ensures { λ r. ⌜ FinalsAndRules (now (text .entry)) count (now (work .entry)) (now (work .exit)) (now (first .entry)) (logged (now (log .entry)) m) (now (log .exit)) r ⌝ }
+{
+    let base = text.len() + 1;
+    let n = finals::finals(text, work, count, 4 * base, 5 * base, first, log, m);
+    rules::rules(work, count, log, n)
+}
+
+// The passes over the lines that were entered.
+fn diagnose(text: &[u8], work: &mut [u32], count: usize, log: &mut [u32]) -> Assembled
+    requires { ⌜ Laid count (wordsFrom (length (now text))) (marksFrom (length (now text))) (now work) × Interned (now text) (rows count (now work)) (wordsFrom (length (now text))) (now work) ⌝ }
+    ensures { λ r. ⌜ Diagnosed (now (text .entry)) count (now (work .entry)) (now (work .exit)) (now (log .entry)) (now (log .exit)) r ⌝ }
+{
+    let mut first = [0xffff_ffffu32; 11];
+    let n = failures::line_errors(work, count, log, 0);
+    let m = declarations::declarations(work, count, &mut first, log, n);
+    let c = finals_and_rules(text, work, count, &first, log, m);
+    let rules = c.rules;
+    let errors = c.errors;
+    Assembled {
+        first,
+        rules,
+        errors,
+    }
+}
+
+// Assembles the description whose tokens stand in work: finds its declarations, counts its rules, and appends its diagnostics to the log.
+pub fn assemble(text: &[u8], work: &mut [u32], count: usize, log: &mut [u32]) -> Assembled
+    requires { ⌜ Tokenized (now text) count (now work) ⌝ }
+    ensures { λ r. ⌜ Outcome (now (text .entry)) count (now (work .entry)) (now (work .exit)) (now (log .entry)) (now (log .exit)) r ⌝ }
+{
+    enter(text, work, count);
+    diagnose(text, work, count, log)
+}
