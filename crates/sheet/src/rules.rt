@@ -15,8 +15,8 @@ use crate::comments;
 use crate::put;
 use assembler::entry;
 use diag::Span;
-use tokens::Token;
 use lexer::kind;
+use tokens::Token;
 
 // Where the parts of a rule stand: its line's first token, the next state, the first write, the first move; and how many tapes it has.
 pub struct Rule {
