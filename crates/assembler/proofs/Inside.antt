@@ -261,6 +261,7 @@ pub record PartsIn (ts : List Token) (j : ℕ) (q : Parts) : Type 0 where
   pub even : balanced false (between ts 4 (q .to)) ≡ true
   pub reads : q .reads ≤ length ts
   pub to : q .to ≤ length ts
+  pub next : (4 < q .to) × (q .to ≤ j)
   pub write : q .write ≤ length ts
   pub writes : q .writes ≤ length ts
   pub dir : q .dir ≤ length ts
@@ -352,6 +353,7 @@ right-gives l ts i h =
       even = balanced-sign ts 4 i 4 (omega (arith, h .long)) (omega arith) (a₁ .1) (λ z. omega arith) (λ z. omega arith) (h .even);
       reads = h .reads;
       to = omega arith;
+      next = (omega (arith, h .long), omega arith);
       write = omega arith;
       writes = omega arith;
       dir = omega arith;
@@ -376,11 +378,12 @@ pub record ItemIn (ts : List Token) (x : Item) : Type 0 where
   pub behind : x .end ≤ x .newline
   pub low : x .end ≤ length ts
   pub assigned : leadOf (x .kind) ≡ Equals → (x .value ≡ 2) × (eqb (peek ts 1 .kind) 9 ≡ true) × (2 < x .end)
+  pub tapes : x .kind ≡ Tapes → eqb (peek ts 2 .kind) 1 ≡ true
   pub parts : x .kind ≡ Transition → PartsIn ts (x .end) (x .parts)
 
 abbrev pub LineIn : List Token → Line → Type 0
-LineIn ts Empty = Unit {0}
-LineIn ts (Comment i) = Unit {0}
+LineIn ts Empty = eqb (peek ts 0 .kind) 13 ≡ true
+LineIn ts (Comment i) = (eqb (peek ts 0 .kind) 12 ≡ true) × (eqb (peek ts 1 .kind) 13 ≡ true)
 LineIn ts (Read x) = ItemIn ts x
 LineIn ts (Error c s) = c ≤ 8
 
@@ -405,7 +408,7 @@ unfolding newlineAt
 newline-high ts j = on-test (λ (n : ℕ). j ≤ n) (eqb (peek ts j .kind) 12) (λ _. omega arith) (λ _. omega arith)
 
 module _ (k : ItemKind) (ts : List Token) (v j : ℕ) (q : Parts) (h : j ≤ length ts) (f : Free ts 0 j) (a : leadOf k ≡ Equals → (v ≡ 2) × (eqb (peek ts 1 .kind) 9 ≡ true) × (2 < j))
-    (p : k ≡ Transition → PartsIn ts j q) where
+    (t : k ≡ Tapes → eqb (peek ts 2 .kind) 1 ≡ true) (p : k ≡ Transition → PartsIn ts j q) where
   finish-in : LineIn ts (finish k ts 0 v j q)
   unfolding finish lineEnd
   finish-in =
@@ -418,6 +421,7 @@ module _ (k : ItemKind) (ts : List Token) (v j : ℕ) (q : Parts) (h : j ≤ len
         behind = newline-high ts j;
         low = h;
         assigned = a;
+        tapes = t;
         parts = p;
       }) (λ _. code-low (peek ts (newlineAt ts j)))
 
@@ -428,18 +432,19 @@ line-on-in ts i (Failed c s) f h g = h
 
 -- an item whose value has no parts
 plain-in : (k : ItemKind) (ts : List Token) (v : ℕ) (r : Parsed) → (k ≡ Transition → ⊥) → Fair ts v r → Within ts v r → Free ts 0 v
-    → (leadOf k ≡ Equals → (v ≡ 2) × (eqb (peek ts 1 .kind) 9 ≡ true)) → LineIn ts (lineOf (plain r) λ j q. finish k ts 0 v j q)
+    → (leadOf k ≡ Equals → (v ≡ 2) × (eqb (peek ts 1 .kind) 9 ≡ true)) → (k ≡ Tapes → (j n : ℕ) → r ≡ Done j n → eqb (peek ts 2 .kind) 1 ≡ true)
+    → LineIn ts (lineOf (plain r) λ j q. finish k ts 0 v j q)
 unfolding plain on lineOf
-plain-in k ts v (Done j n) rule f w free a =
-    finish-in k ts v j noParts (w .1) (free-on ts 0 v j free (f .1)) (λ e. let x = a e in (x .0, x .1, omega (arith, x .0, w .0))) (λ e. absurd (rule e))
-plain-in k ts v (Failed c s) rule f w free a = f
+plain-in k ts v (Done j n) rule f w free a t =
+    finish-in k ts v j noParts (w .1) (free-on ts 0 v j free (f .1)) (λ e. let x = a e in (x .0, x .1, omega (arith, x .0, w .0))) (λ e. t e j n refl) (λ e. absurd (rule e))
+plain-in k ts v (Failed c s) rule f w free a t = f
 
 rule-in : (ts : List Token) → LineIn ts (lineOf (transition ts 0) λ j q. finish Transition ts 0 0 j q)
 unfolding lineOf value leadOf
 rule-in ts = go (transition ts 0) (value-ends Transition ts 0) (transition-gives ts)
   where
     go : (v : Value) → Ends ts 0 v → Gives (PartsIn ts) v → LineIn ts (lineOf v λ j q. finish Transition ts 0 0 j q)
-    go (Ended j q) e g = finish-in Transition ts 0 j q (e .1) (g .free) (λ z. absurd (let z : _≡_ {A = ℕ} 0 1 = cc in omega arith)) (λ _. g)
+    go (Ended j q) e g = finish-in Transition ts 0 j q (e .1) (g .free) (λ z. absurd (let z : _≡_ {A = ℕ} 0 1 = cc in omega arith)) (λ z. absurd (let z : _≡_ {A = ℕ} 0 1 = cc in omega arith)) (λ _. g)
     go (Broken c s) e g = g
 
 -- the kinds of declarations, by the parser of their values; `=` comes first or not
@@ -447,16 +452,16 @@ module _ (ts : List Token) (first : eqb (peek ts 0 .kind) 0 ≡ true) (k : ItemK
   key : Free ts 0 1
   key = free-one ts 0 (kind-solid (peek ts 0) 0 (omega arith) first)
 
-  straight-in : (leadOf k ≡ Equals → ⊥) → LineIn ts (lineOf (plain (p ts 1)) λ j q. finish k ts 0 1 j q)
-  straight-in lead = plain-in k ts 1 (p ts 1) rule (fairly .fair ts 1) (steps .within ts 1) key (λ e. absurd (lead e))
+  straight-in : (leadOf k ≡ Equals → ⊥) → (k ≡ Tapes → ⊥) → LineIn ts (lineOf (plain (p ts 1)) λ j q. finish k ts 0 1 j q)
+  straight-in lead tapes = plain-in k ts 1 (p ts 1) rule (fairly .fair ts 1) (steps .within ts 1) key (λ e. absurd (lead e)) (λ e. absurd (tapes e))
 
-  assigned-in : LineIn ts (lineOn (one (isKind 9) ts 1) λ v _. lineOf (plain (p ts v)) λ j q. finish k ts 0 v j q)
-  assigned-in =
+  assigned-in : (k ≡ Tapes → (j n : ℕ) → p ts 2 ≡ Done j n → eqb (peek ts 2 .kind) 1 ≡ true) → LineIn ts (lineOn (one (isKind 9) ts 1) λ v _. lineOf (plain (p ts v)) λ j q. finish k ts 0 v j q)
+  assigned-in tapes =
       line-on-in ts 1 (one (isKind 9) ts 1) (λ v _. lineOf (plain (p ts v)) λ j q. finish k ts 0 v j q) (kind-fair 9 (omega arith) .fair ts 1) λ v n e.
       let d = kind-done ts 9 1 v n e in
       let two : v ≡ 2 = omega arith in
       let g = done-fair (one (isKind 9)) ts 1 v n (kind-fair 9 (omega arith)) e in
-      plain-in k ts v (p ts v) rule (fairly .fair ts v) (steps .within ts v) (free-on ts 0 1 v key (g .1)) (λ _. (two, d .1))
+      plain-in k ts v (p ts v) rule (fairly .fair ts v) (steps .within ts v) (free-on ts 0 1 v key (g .1)) (λ _. (two, d .1)) (λ z j n r. tapes z j n (ap (p ts) (sym two) ∙ r))
 
 -- no two kinds are equal
 apart : {X : Type 0} → (_≡_ {A = ℕ} 0 1) → X
@@ -470,18 +475,18 @@ states-fair = one-fair isState solid-state
 
 item-of-in : (k : ItemKind) (ts : List Token) → eqb (peek ts 0 .kind) 0 ≡ true → LineIn ts (itemOf k ts 0)
 unfolding itemOf leadOf valueAt lineOn value
-item-of-in Machine ts f = straight-in ts f Machine (one (isKind 3)) (λ e. apart (cc)) (kind-steps 3 (omega arith)) (kind-fair 3 (omega arith)) (λ e. apart (cc))
+item-of-in Machine ts f = straight-in ts f Machine (one (isKind 3)) (λ e. apart (cc)) (kind-steps 3 (omega arith)) (kind-fair 3 (omega arith)) (λ e. apart (cc)) (λ e. apart (cc))
 item-of-in Kind ts f =
-    straight-in ts f Kind (one (isChoice 0x110010 0x110013)) (λ e. apart (cc)) (choice-steps 0x110010 0x110013) (one-fair (isChoice 0x110010 0x110013) (solid-choice 0x110010 0x110013)) (λ e. apart (cc))
-item-of-in Input ts f = straight-in ts f Input (one (isKind 3)) (λ e. apart (cc)) (kind-steps 3 (omega arith)) (kind-fair 3 (omega arith)) (λ e. apart (cc))
-item-of-in Output ts f = straight-in ts f Output output (λ e. apart (cc)) output-steps output-fair (λ e. apart (cc))
-item-of-in Tapes ts f = assigned-in ts f Tapes (one (isKind 1)) (λ e. apart (cc)) (kind-steps 1 (omega arith)) (kind-fair 1 (omega arith))
-item-of-in States ts f = assigned-in ts f States (set (one isState)) (λ e. apart (cc)) (set-steps (one isState) state-steps) (set-fair (one isState) state-steps states-fair)
-item-of-in InputAlphabet ts f = assigned-in ts f InputAlphabet (set (one isSymbol)) (λ e. apart (cc)) (set-steps (one isSymbol) symbol-steps) (set-fair (one isSymbol) symbol-steps symbols-fair)
-item-of-in TapeAlphabet ts f = assigned-in ts f TapeAlphabet (set (one isSymbol)) (λ e. apart (cc)) (set-steps (one isSymbol) symbol-steps) (set-fair (one isSymbol) symbol-steps symbols-fair)
-item-of-in Blank ts f = assigned-in ts f Blank (one isSymbol) (λ e. apart (cc)) symbol-steps symbols-fair
-item-of-in Start ts f = assigned-in ts f Start (one isState) (λ e. apart (cc)) state-steps states-fair
-item-of-in Final ts f = assigned-in ts f Final (set (one isState)) (λ e. apart (cc)) (set-steps (one isState) state-steps) (set-fair (one isState) state-steps states-fair)
+    straight-in ts f Kind (one (isChoice 0x110010 0x110013)) (λ e. apart (cc)) (choice-steps 0x110010 0x110013) (one-fair (isChoice 0x110010 0x110013) (solid-choice 0x110010 0x110013)) (λ e. apart (cc)) (λ e. apart (cc))
+item-of-in Input ts f = straight-in ts f Input (one (isKind 3)) (λ e. apart (cc)) (kind-steps 3 (omega arith)) (kind-fair 3 (omega arith)) (λ e. apart (cc)) (λ e. apart (cc))
+item-of-in Output ts f = straight-in ts f Output output (λ e. apart (cc)) output-steps output-fair (λ e. apart (cc)) (λ e. apart (cc))
+item-of-in Tapes ts f = assigned-in ts f Tapes (one (isKind 1)) (λ e. apart (cc)) (kind-steps 1 (omega arith)) (kind-fair 1 (omega arith)) (λ e j n r. kind-done ts 1 2 j n r .1)
+item-of-in States ts f = assigned-in ts f States (set (one isState)) (λ e. apart (cc)) (set-steps (one isState) state-steps) (set-fair (one isState) state-steps states-fair) (λ e. apart (cc))
+item-of-in InputAlphabet ts f = assigned-in ts f InputAlphabet (set (one isSymbol)) (λ e. apart (cc)) (set-steps (one isSymbol) symbol-steps) (set-fair (one isSymbol) symbol-steps symbols-fair) (λ e. apart (cc))
+item-of-in TapeAlphabet ts f = assigned-in ts f TapeAlphabet (set (one isSymbol)) (λ e. apart (cc)) (set-steps (one isSymbol) symbol-steps) (set-fair (one isSymbol) symbol-steps symbols-fair) (λ e. apart (cc))
+item-of-in Blank ts f = assigned-in ts f Blank (one isSymbol) (λ e. apart (cc)) symbol-steps symbols-fair (λ e. apart (cc))
+item-of-in Start ts f = assigned-in ts f Start (one isState) (λ e. apart (cc)) state-steps states-fair (λ e. apart (cc))
+item-of-in Final ts f = assigned-in ts f Final (set (one isState)) (λ e. apart (cc)) (set-steps (one isState) state-steps) (set-fair (one isState) state-steps states-fair) (λ e. apart (cc))
 item-of-in Transition ts f = rule-in ts
 
 -- a keyword is a word
@@ -497,9 +502,13 @@ item-in ts = go (keywordOf (peek ts 0)) refl
     go (Starts k) e = item-of-in k ts (keyword-word (peek ts 0) k e)
     go Other e = code-low (peek ts 0)
 
+comment-in : (ts : List Token) → isComment ts 0 ≡ true → (eqb (peek ts 0 .kind) 12 ≡ true) × (eqb (peek ts 1 .kind) 13 ≡ true)
+unfolding isComment
+comment-in ts e = by-test (eqb (peek ts 0 .kind) 12) (λ y. (y, rw y at e)) (λ n. off (rw n at e))
+
 pub line-in : (ts : List Token) → LineIn ts (line ts 0)
 unfolding line
-line-in ts = on-test (LineIn ts) (eqb (peek ts 0 .kind) 13) (λ _. tt) (λ _. on-test (LineIn ts) (isComment ts 0) (λ _. tt) (λ _. item-in ts))
+line-in ts = on-test (LineIn ts) (eqb (peek ts 0 .kind) 13) (λ y. y) (λ _. on-test (LineIn ts) (isComment ts 0) (λ y. comment-in ts y) (λ _. item-in ts))
 
 line-length-in : (ts : List Token) → lineLength ts ≤ length ts
 unfolding lineLength

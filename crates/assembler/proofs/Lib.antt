@@ -14,3 +14,7 @@ pub mod MarkLaws
 pub mod FinalLaws
 pub mod Means
 pub mod RulesMean
+pub mod FinalsMean
+pub mod SetsMean
+pub mod NamesMean
+pub mod EntriesMean

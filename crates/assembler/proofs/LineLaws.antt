@@ -104,7 +104,7 @@ number-rule Final e = absurd (omega arith)
 number-rule Transition e = refl
 
 -- only a rule has parts
-parts-other : (k : ItemKind) (i : ℕ) (q : Parts) (ts : List Token) → (itemNumber k ≡ 11 → ⊥) → withParts k i q ts ≡ ts
+pub parts-other : (k : ItemKind) (i : ℕ) (q : Parts) (ts : List Token) → (itemNumber k ≡ 11 → ⊥) → withParts k i q ts ≡ ts
 unfolding itemNumber withParts
 parts-other Machine i q ts h = refl
 parts-other Kind i q ts h = refl

@@ -85,7 +85,7 @@ pub data AllMean (X : Entry → Item Place → Type 0) (ts : List Token) : List 
   no-lines : AllMean X ts [] []
   one-line : {e : Entry} {es : List Entry} {l : Line Place} {ls : List (Line Place)} → e .at < length ts → e ≡ entryAt ts (e .at) → Means X e l → AllMean X ts es ls → AllMean X ts (e ∷ es) (l ∷ ls)
 
-records-append : (a b : List (A.Diagnostic Place)) → recordsOf (a ++ b) ≡ recordsOf a ++ recordsOf b
+pub records-append : (a b : List (A.Diagnostic Place)) → recordsOf (a ++ b) ≡ recordsOf a ++ recordsOf b
 unfolding recordsOf
 records-append [] b = refl
 records-append (x ∷ a) b = ap (λ (l : List Diagnostic). recordOf x ∷ l) (records-append a b)
