@@ -8,3 +8,4 @@ pub mod RowLaws
 pub mod Shows
 pub mod RulesShown
 pub mod BodyShown
+pub mod TokensShow
