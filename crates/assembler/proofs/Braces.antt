@@ -110,7 +110,7 @@ pub record Parted (close : ℕ) (ts : List Token) (i j n : ℕ) : Type 0 where
   pub comma : (n ≡ 0 → ⊥) → eqb (peek ts i .kind) 8 ≡ true
   pub closing : n ≡ 0 → eqb (peek ts i .kind) close ≡ true
 
-separator-done : (close : ℕ) (ts : List Token) (i j n : ℕ) → separator close ts i ≡ Done j n → Parted close ts i j n
+pub separator-done : (close : ℕ) (ts : List Token) (i j n : ℕ) → separator close ts i ≡ Done j n → Parted close ts i j n
 unfolding separator unexpected
 separator-done close ts i j n e =
     by-test (eqb (peek ts i .kind) 8)

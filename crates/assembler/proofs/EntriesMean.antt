@@ -50,42 +50,42 @@ use Rattle.assembler.proofs.SetsMean.{AllSound, sets-mean}
 use Rattle.assembler.proofs.NamesMean.{seen-append, seen-none, no-state, AllFree, walk-mean}
 
 -- ---- parts of lists of tokens
-abbrev Tokens : Type 0
+abbrev pub Tokens : Type 0
 Tokens = List (Lexed Place)
 
-all-take : (P : Lexed Place → Type 0) (n : ℕ) (l : Tokens) → All P l → All P (take n l)
+pub all-take : (P : Lexed Place → Type 0) (n : ℕ) (l : Tokens) → All P l → All P (take n l)
 all-take P zero l a = tt
 all-take P (suc n) [] a = tt
 all-take P (suc n) (t ∷ l) a = (a .0, all-take P n l (a .1))
 
-all-drop : (P : Lexed Place → Type 0) (n : ℕ) (l : Tokens) → All P l → All P (drop n l)
+pub all-drop : (P : Lexed Place → Type 0) (n : ℕ) (l : Tokens) → All P l → All P (drop n l)
 all-drop P zero l a = a
 all-drop P (suc n) [] a = tt
 all-drop P (suc n) (t ∷ l) a = all-drop P n l (a .1)
 
-sound-all : (l : Tokens) → AllSound l → All Sound l
+pub sound-all : (l : Tokens) → AllSound l → All Sound l
 sound-all [] a = tt
 sound-all (t ∷ l) a = (a .0, sound-all l (a .1))
 
-all-sound : (l : Tokens) → All Sound l → AllSound l
+pub all-sound : (l : Tokens) → All Sound l → AllSound l
 all-sound [] a = tt
 all-sound (t ∷ l) a = (a .0, all-sound l (a .1))
 
-lexed-sound : (l : Tokens) → AllLexed l → AllSound l
+pub lexed-sound : (l : Tokens) → AllLexed l → AllSound l
 lexed-sound [] a = tt
 lexed-sound (t ∷ l) a = (a .0 .sound, lexed-sound l (a .1))
 
-lexed-drop : (n : ℕ) (l : Tokens) → AllLexed l → AllLexed (drop n l)
+pub lexed-drop : (n : ℕ) (l : Tokens) → AllLexed l → AllLexed (drop n l)
 lexed-drop zero l a = a
 lexed-drop (suc n) [] a = tt
 lexed-drop (suc n) (t ∷ l) a = lexed-drop n l (a .1)
 
-take-map : (n : ℕ) (l : Tokens) → take n (map tokenOf l) ≡ map tokenOf (take n l)
+pub take-map : (n : ℕ) (l : Tokens) → take n (map tokenOf l) ≡ map tokenOf (take n l)
 take-map zero l = refl
 take-map (suc n) [] = refl
 take-map (suc n) (t ∷ l) = ap (λ (r : List Token). tokenOf t ∷ r) (take-map n l)
 
-drop-map : (n : ℕ) (l : Tokens) → drop n (map tokenOf l) ≡ map tokenOf (drop n l)
+pub drop-map : (n : ℕ) (l : Tokens) → drop n (map tokenOf l) ≡ map tokenOf (drop n l)
 drop-map zero l = refl
 drop-map (suc n) [] = refl
 drop-map (suc n) (t ∷ l) = drop-map n l
@@ -95,27 +95,27 @@ map-append [] b = refl
 map-append (t ∷ a) b = ap (λ (r : List Token). tokenOf t ∷ r) (map-append a b)
 
 -- the row's token at an index is the text's
-peek-map : (l : Tokens) (i : ℕ) → peek (map tokenOf l) i ≡ tokenOf (at l i)
+pub peek-map : (l : Tokens) (i : ℕ) → peek (map tokenOf l) i ≡ tokenOf (at l i)
 unfolding tokenOf kindNumber tokenValue
 peek-map l i = List·getD-map tokenOf l i nothing
 
-between-split : (l : Tokens) (a b c : ℕ) → a ≤ b → b ≤ c → between l a c ≡ between l a b ++ between l b c
+pub between-split : (l : Tokens) (a b c : ℕ) → a ≤ b → b ≤ c → between l a c ≡ between l a b ++ between l b c
 between-split l a b c h g =
     let x : c - a ≡ (b - a) + (c - b) = omega arith in
     let y : a + (b - a) ≡ b = omega arith in
     ap (λ (n : ℕ). take n (drop a l)) x ∙ take-add (b - a) (c - b) (drop a l)
     ∙ ap (λ (r : Tokens). take (b - a) (drop a l) ++ take (c - b) r) (drop-drop (b - a) a l ∙ ap (λ (n : ℕ). drop n l) y)
 
-between-one : (l : Tokens) (a : ℕ) → a < length l → between l a (a + 1) ≡ at l a ∷ []
+pub between-one : (l : Tokens) (a : ℕ) → a < length l → between l a (a + 1) ≡ at l a ∷ []
 between-one l a h =
     let x : a + 1 - a ≡ 1 = omega arith in
     ap (λ (n : ℕ). take n (drop a l)) x ∙ ap (take 1) (drop-cons l a nothing h)
 
-between-none : (l : Tokens) (a : ℕ) → between l a a ≡ []
+pub between-none : (l : Tokens) (a : ℕ) → between l a a ≡ []
 between-none l a = let x : a - a ≡ 0 = omega arith in ap (λ (n : ℕ). take n (drop a l)) x
 
 -- ---- the first line feed
-free-before : (l : Tokens) → AllFree (take (lineLength (map tokenOf l)) l)
+pub free-before : (l : Tokens) → AllFree (take (lineLength (map tokenOf l)) l)
 unfolding lineLength
 free-before [] = tt
 free-before (t ∷ l) = go (eqb (tokenOf t .kind) 13) refl (free-before l)
@@ -124,7 +124,7 @@ free-before (t ∷ l) = go (eqb (tokenOf t .kind) 13) refl (free-before l)
     go true e r = tt
     go false e r = (e, r)
 
-feed-there : (ws : List Token) → lineLength ws < length ws → eqb (peek ws (lineLength ws) .kind) 13 ≡ true
+pub feed-there : (ws : List Token) → lineLength ws < length ws → eqb (peek ws (lineLength ws) .kind) 13 ≡ true
 unfolding lineLength
 feed-there [] h = absurd (omega arith)
 feed-there (w ∷ ws) h = go (eqb (w .kind) 13) refl h (feed-there ws)
@@ -147,11 +147,11 @@ failed-behind : (i c n : ℕ) (s : Place) → behind i (failedEntry i c s n) ≡
 unfolding behind failedEntry
 failed-behind i c n s = rw (le-leb 16 (32 + c) (omega arith)) (omega arith)
 
-end-is : (ws : List Token) → lineEnd ws 0 ≡ lineLength ws
+pub end-is : (ws : List Token) → lineEnd ws 0 ≡ lineLength ws
 unfolding lineEnd
 end-is ws = omega arith
 
-line-behind : (i : ℕ) (w : Token) (ws : List Token) (x : Parsed) → LineIn (w ∷ ws) x → behind i (peek (enterAs x i (w ∷ ws)) 0) ≡ lineEnd (w ∷ ws) 0
+pub line-behind : (i : ℕ) (w : Token) (ws : List Token) (x : Parsed) → LineIn (w ∷ ws) x → behind i (peek (enterAs x i (w ∷ ws)) 0) ≡ lineEnd (w ∷ ws) 0
 unfolding enterAs lineLength
 line-behind i w ws Empty h = behind-kind i w 13 (eqb-true (w .kind) 13 h) (omega arith) ∙ sym (end-is (w ∷ ws) ∙ length-by w ws true h)
 line-behind i w ws (Comment k) h =
@@ -169,7 +169,7 @@ tail-of n [] r h = absurd (omega arith)
 tail-of n (x ∷ l) r h = refl
 
 -- ---- a number's value, cut off at 256 or at 64 bits
-token-place : (t : Lexed Place) → placeOf (tokenOf t) ≡ placeIn (t .place)
+pub token-place : (t : Lexed Place) → placeOf (tokenOf t) ≡ placeIn (t .place)
 unfolding tokenOf
 token-place t = refl
 
@@ -202,29 +202,29 @@ number-large t s e = number-kind (t .kind) (t .place) (t .inner) (sym (sees-numb
 -- ---- one line: that of the tokens t ∷ l′ at the index i of the row E
 module _ (text : List ℕ) (E : List Token) (i : ℕ) (t : Lexed Place) (l′ : Tokens) (lexed : AllLexed (t ∷ l′)) (placed : All (Placed text) (t ∷ l′))
     (row : drop i E ≡ enteredFrom [] i (map tokenOf (t ∷ l′))) where
-  abbrev l : Tokens
+  abbrev pub l : Tokens
   l = t ∷ l′
 
-  abbrev W : List Token
+  abbrev pub W : List Token
   W = map tokenOf (t ∷ l′)
 
-  abbrev L : List Token
+  abbrev pub L : List Token
   L = enterLine i (map tokenOf (t ∷ l′))
 
-  abbrev b : ℕ
+  abbrev pub b : ℕ
   b = behind i (peek L 0)
 
   abbrev R : List Token
   R = enteredFrom [] (i + suc b) (drop (suc b) L)
 
-  parsed : LineAt l W 0
+  pub parsed : LineAt l W 0
   parsed = subst (λ (ws : List Token). LineAt l ws 0) (append-nil W) (line-at l [] 0 lexed (omega arith))
 
-  ends : b ≡ lineEnd W 0
+  pub ends : b ≡ lineEnd W 0
   unfolding enterLine
   ends = line-behind i (tokenOf t) (map tokenOf l′) (line W 0) (line-in W)
 
-  short : suc b ≤ length l
+  pub short : suc b ≤ length l
   short = omega (arith, ends, parsed .within)
 
   size-L : length L ≡ length l
@@ -239,11 +239,11 @@ module _ (text : List ℕ) (E : List Token) (i : ℕ) (t : Lexed Place) (l′ : 
   pub low : i < length E
   low = omega (arith, length-drop i E, ap length split, length-append (take (suc b) L) R, size-line)
 
-  row-at : (r : ℕ) → r ≤ b → peek E (i + r) ≡ peek L r
+  pub row-at : (r : ℕ) → r ≤ b → peek E (i + r) ≡ peek L r
   row-at r h =
       sym (getD-drop i E r ended) ∙ ap (λ (x : List Token). getD x r ended) split ∙ List·getD-append (take (suc b) L) R ended r (omega (arith, size-line)) ∙ getD-take (suc b) L r ended (omega arith)
 
-  first-is : peek E i ≡ peek L 0
+  pub first-is : peek E i ≡ peek L 0
   first-is = let z : i + 0 ≡ i = omega arith in ap (peek E) (sym z) ∙ row-at 0 (omega arith)
 
   rest-is : drop (suc i) E ≡ take b (drop 1 L) ++ R
@@ -270,7 +270,7 @@ module _ (text : List ℕ) (E : List Token) (i : ℕ) (t : Lexed Place) (l′ : 
       let z : lineEnd W 0 + 1 ≡ suc b = omega (arith, ends) in
       parsed .means ∙ ap (λ (n : ℕ). lineMeans l (line W 0) ∷ lines covering (drop n l)) z
 
-  sound : AllSound l
+  pub sound : AllSound l
   sound = lexed-sound l lexed
 
   abbrev entry : Entry
@@ -278,20 +278,20 @@ module _ (text : List ℕ) (E : List Token) (i : ℕ) (t : Lexed Place) (l′ : 
 
   -- ---- an item
   module _ (x : Found) (read : line W 0 ≡ Read x) where
-    inside : ItemIn W x
+    pub inside : ItemIn W x
     inside = subst (LineIn W) read (line-in W)
 
-    counted : CountedAs l (x .kind) x
+    pub counted : CountedAs l (x .kind) x
     counted = subst (LineCounted l) read (parsed .counted)
 
-    L-is : L ≡ withParts (x .kind) i (x .parts) (itemEntry i x ∷ map tokenOf l′)
+    pub L-is : L ≡ withParts (x .kind) i (x .parts) (itemEntry i x ∷ map tokenOf l′)
     unfolding enterLine enterAs
     L-is = ap (λ (y : Parsed). enterAs y i W) read
 
-    b-is : b ≡ x .newline
+    pub b-is : b ≡ x .newline
     b-is = ends ∙ inside .feeds
 
-    entry-is : peek E i ≡ itemEntry i x
+    pub entry-is : peek E i ≡ itemEntry i x
     entry-is = first-is ∙ ap (λ (y : List Token). peek y 0) L-is ∙ parts-first (x .kind) i (x .parts) (itemEntry i x) (map tokenOf l′)
 
     -- of a declaration only the first token changes
@@ -386,33 +386,33 @@ module _ (text : List ℕ) (E : List Token) (i : ℕ) (t : Lexed Place) (l′ : 
       abbrev base : List Token
       base = itemEntry i x ∷ map tokenOf l′
 
-      rule-L : L ≡ set (set base 1 (countsOf q)) 3 (partsOf i q)
+      pub rule-L : L ≡ set (set base 1 (countsOf q)) 3 (partsOf i q)
       unfolding withParts
       rule-L = L-is ∙ ap (λ (k : ItemKind). withParts k i (x .parts) (itemEntry i x ∷ map tokenOf l′)) rule
 
-      parts-in : PartsIn W (x .end) (x .parts)
+      pub parts-in : PartsIn W (x .end) (x .parts)
       parts-in = inside .parts rule
 
-      rule-counted : Counted l x
+      pub rule-counted : Counted l x
       rule-counted = subst (λ (k : ItemKind). CountedAs l k x) rule counted
 
       size-base : length base ≡ length l
       size-base = ap suc (length-map l′ tokenOf)
 
-      long : 3 < b
+      pub long : 3 < b
       long = omega (arith, b-is, inside .behind, parts-in .long)
 
-      counts-at : peek (drop (suc i) E) 0 ≡ countsOf q
+      pub counts-at : peek (drop (suc i) E) 0 ≡ countsOf q
       counts-at =
           rest-at 0 (omega (arith, long)) ∙ ap (λ (y : List Token). peek y 1) rule-L ∙ getD-set-other (set base 1 (countsOf q)) 3 1 (partsOf i q) ended (λ z. omega arith)
           ∙ getD-set-same base 1 (countsOf q) ended (omega (arith, size-base, short, long))
 
-      parts-at : peek (drop (suc i) E) 2 ≡ partsOf i q
+      pub parts-at : peek (drop (suc i) E) 2 ≡ partsOf i q
       parts-at =
           rest-at 2 (omega (arith, long)) ∙ ap (λ (y : List Token). peek y 3) rule-L
           ∙ getD-set-same (set base 1 (countsOf q)) 3 (partsOf i q) ended (omega (arith, length-set base 1 (countsOf q), size-base, short, long))
 
-      beyond : (r : ℕ) → 4 + r ≤ b → peek E (i + (4 + r)) ≡ peek W (4 + r)
+      pub beyond : (r : ℕ) → 4 + r ≤ b → peek E (i + (4 + r)) ≡ peek W (4 + r)
       beyond r h =
           row-at (4 + r) h ∙ ap (λ (y : List Token). peek y (4 + r)) rule-L ∙ getD-set-other (set base 1 (countsOf q)) 3 (4 + r) (partsOf i q) ended (λ z. omega arith)
           ∙ getD-set-other base 1 (4 + r) (countsOf q) ended (λ z. omega arith) ∙ behind-first r
@@ -433,7 +433,7 @@ module _ (text : List ℕ) (E : List Token) (i : ℕ) (t : Lexed Place) (l′ : 
           ap (λ (n : ℕ). length (take n (drop 3 (drop (suc i) E)))) p ∙ length-take m (drop 3 (drop (suc i) E))
           ∙ min-eq-left {n = m} {m = length (drop 3 (drop (suc i) E))} (omega (arith, length-drop 3 (drop (suc i) E), length-drop (suc i) E, b-is, inside .behind, parts-in .next .1))
 
-      read-is : readPart entry ≡ take m (drop 4 W)
+      pub read-is : readPart entry ≡ take m (drop 4 W)
       unfolding readPart
       read-is =
           let p : peek (drop (suc i) E) 2 .start - (i + 4) ≡ m = ap (λ (w : Token). w .start - (i + 4)) parts-at ∙ omega (arith, parts-in .next .0) in
@@ -445,7 +445,7 @@ module _ (text : List ℕ) (E : List Token) (i : ℕ) (t : Lexed Place) (l′ : 
           ∙ getD-drop (suc i) E (3 + r) ended ∙ ap (peek E) z ∙ beyond r (omega (arith, b-is, inside .behind, parts-in .next .1))
           ∙ sym (getD-take m (drop 4 W) r ended low ∙ getD-drop 4 W r ended)
 
-      rule-in : RuleMeans entry (ruleOf l q (x .end))
+      pub rule-in : RuleMeans entry (ruleOf l q (x .end))
       unfolding ruleOf
       rule-in =
           let c = rule-counted in
@@ -465,7 +465,7 @@ module _ (text : List ℕ) (E : List Token) (i : ℕ) (t : Lexed Place) (l′ : 
     abbrev meant : Item Place
     meant = itemMeans l (x .kind) (x .value) (x .end) (x .parts)
 
-    order-is : (k : ItemKind) → itemOrder (itemMeans l k (x .value) (x .end) (x .parts)) ≡ itemNumber k
+    pub order-is : (k : ItemKind) → itemOrder (itemMeans l k (x .value) (x .end) (x .parts)) ≡ itemNumber k
     unfolding itemMeans itemOrder itemNumber
     order-is Machine = refl
     order-is Kind = refl

@@ -217,12 +217,12 @@ equals-fair = record {
 }
 
 -- ---- what the small parsers gave
-then-done : (r : Parsed) (f : ℕ → ℕ → Parsed) (j n : ℕ) {X : Type 0} → then r f ≡ Done j n → ((i m : ℕ) → r ≡ Done i m → f i m ≡ Done j n → X) → X
+pub then-done : (r : Parsed) (f : ℕ → ℕ → Parsed) (j n : ℕ) {X : Type 0} → then r f ≡ Done j n → ((i m : ℕ) → r ≡ Done i m → f i m ≡ Done j n → X) → X
 unfolding then
 then-done (Done i m) f j n e g = g i m refl e
 then-done (Failed c s) f j n e g = absurd (let z : _≡_ {A = ℕ} 0 1 = cc in omega arith)
 
-kind-done : (ts : List Token) (k i j n : ℕ) → one (isKind k) ts i ≡ Done j n → (j ≡ i + 1) × (eqb (peek ts i .kind) k ≡ true)
+pub kind-done : (ts : List Token) (k i j n : ℕ) → one (isKind k) ts i ≡ Done j n → (j ≡ i + 1) × (eqb (peek ts i .kind) k ≡ true)
 unfolding isKind
 kind-done ts k i j n e = one-done (isKind k) ts i j n e
 
@@ -254,6 +254,31 @@ unfolding on
 on-gives Q ts i (Done j n) f h g = g j n refl
 on-gives Q ts i (Failed c s) f h g = h
 
+-- what a rule reads, n entries, up to before the index j: `)` and `=` stand behind it
+pub record Reading (ts : List Token) (j n : ℕ) : Type 0 where
+  pub stop : ℕ
+  pub list : tuple readEntry ts 4 ≡ Done stop n
+  pub closes : eqb (peek ts stop .kind) 5 ≡ true
+  pub equal : eqb (peek ts (stop + 1) .kind) 9 ≡ true
+  pub end : j ≡ stop + 2
+
+-- the lists of a rule up to before the index j
+pub record Lists (ts : List Token) (j : ℕ) (q : Parts) : Type 0 where
+  pub from : q .from ≡ 2
+  pub side : ℕ
+  pub reading : Reading ts side (q .reads)
+  pub opens : eqb (peek ts side .kind) 4 ≡ true
+  pub to : q .to ≡ side + 1
+  pub write : q .write ≡ side + 3
+  pub writeStop : ℕ
+  pub writing : tuple (one isWrite) ts (q .write) ≡ Done writeStop (q .writes)
+  pub comma : eqb (peek ts writeStop .kind) 8 ≡ true
+  pub dir : q .dir ≡ writeStop + 1
+  pub dirStop : ℕ
+  pub moving : tuple direction ts (q .dir) ≡ Done dirStop (q .dirs)
+  pub last : eqb (peek ts dirStop .kind) 5 ≡ true
+  pub end : j ≡ dirStop + 1
+
 -- a rule up to before the index j: its state stands behind `(`, and what it reads, balanced, up to the next state
 pub record PartsIn (ts : List Token) (j : ℕ) (q : Parts) : Type 0 where
   pub long : 3 < j
@@ -267,8 +292,11 @@ pub record PartsIn (ts : List Token) (j : ℕ) (q : Parts) : Type 0 where
   pub dir : q .dir ≤ length ts
   pub dirs : q .dirs ≤ length ts
   pub free : Free ts 0 j
+  pub lists : Lists ts j q
 
 record LeftIn (ts : List Token) (j : ℕ) (q : Parts) : Type 0 where
+  from : q .from ≡ 2
+  reading : Reading ts j (q .reads)
   long : 3 < j
   read : q .read ≡ 4
   even : balanced false (between ts 4 j) ≡ true
@@ -317,6 +345,8 @@ left-gives ts =
     let e₂ : balanced false (between ts 4 (k + 1 + 1)) ≡ true = balanced-sign ts 4 (k + 1) 9 (omega arith) (omega arith) (d₁ .2) (λ z. omega arith) (λ z. omega arith) e₁ in
     let last : k + 1 + 1 ≡ end = omega arith in
     record {
+      from = omega arith;
+      reading = record { stop = k; list = ap (tuple readEntry ts) (sym four) ∙ c; closes = d₁ .1; equal = d₁ .2; end = omega arith };
       long = omega arith;
       read = four;
       even = subst (λ (x : ℕ). balanced false (between ts 4 x) ≡ true) last e₂;
@@ -359,6 +389,22 @@ right-gives l ts i h =
       dir = omega arith;
       dirs = omega arith;
       free = free-on ts 0 k end (free-on ts 0 dir k (free-on ts 0 j dir (free-on ts 0 write j (free-on ts 0 i write (h .free) (a₂ .1)) (b₂ .1)) (c₂ .1)) (d₂ .1)) (e₂ .1);
+      lists = record {
+        from = h .from;
+        side = i;
+        reading = h .reading;
+        opens = a₁ .1;
+        to = refl;
+        write = a₁ .0;
+        writeStop = j;
+        writing = b;
+        comma = kind-done ts 8 j dir n c .1;
+        dir = kind-done ts 8 j dir n c .0;
+        dirStop = k;
+        moving = d;
+        last = kind-done ts 5 k end o e .1;
+        end = kind-done ts 5 k end o e .0;
+      };
     }
 
 transition-gives : (ts : List Token) → Gives (PartsIn ts) (transition ts 0)

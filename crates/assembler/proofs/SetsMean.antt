@@ -44,13 +44,13 @@ AllSound [] = Unit {0}
 AllSound (t ∷ ts) = Sound t × AllSound ts
 
 -- what a token is where read entries are due, as the two say it
-abbrev Reads : ReadPart → Token → Type 0
+abbrev pub Reads : ReadPart → Token → Type 0
 Reads opens w = eqb (w .kind) 6 ≡ true
 Reads closes w = (eqb (w .kind) 6 ≡ false) × (eqb (w .kind) 7 ≡ true)
 Reads (reads s) w = (eqb (w .kind) 6 ≡ false) × (eqb (w .kind) 7 ≡ false) × (isSymbol w ≡ true)
 Reads passes w = (eqb (w .kind) 6 ≡ false) × (eqb (w .kind) 7 ≡ false) × (isSymbol w ≡ false)
 
-read-by : (t : Lexed Place) → Sound t → Reads (readPart (t .kind)) (tokenOf t)
+pub read-by : (t : Lexed Place) → Sound t → Reads (readPart (t .kind)) (tokenOf t)
 unfolding readPart isKind
 read-by t s =
     go (isSign 0x7B (t .kind)) (isSign 0x7D (t .kind)) (symbolIn (t .kind)) (sees-sign 0x7B 6 names-l-brace (t .kind) (t .place) (t .inner) s)

@@ -27,11 +27,11 @@ use Rattle.sheet.proofs.Writes.{stored-none, stored-as, stored-length, 
 pub text-made : (t : Token) (s : ℕ) → s ≡ (t .start + t .value) % 2 ^ 32 → record { start = s; end = t .end } ≡ textOf t
 text-made t s e = rw e
 
-comments-one : (t : Token) → t .kind ≡ 12 → commentsIn (t ∷ []) ≡ t ∷ []
+pub comments-one : (t : Token) → t .kind ≡ 12 → commentsIn (t ∷ []) ≡ t ∷ []
 unfolding commentsIn
 comments-one t h = rw (eq-eqb (t .kind) 12 h, commentsIn)
 
-comments-no : (t : Token) → (t .kind ≡ 12 → ⊥) → commentsIn (t ∷ []) ≡ []
+pub comments-no : (t : Token) → (t .kind ≡ 12 → ⊥) → commentsIn (t ∷ []) ≡ []
 unfolding commentsIn
 comments-no t h = rw (ne-eqb (t .kind) 12 h, commentsIn)
 
@@ -54,7 +54,7 @@ module _ (t : Token) (o : List ℕ) (i : ℕ) where
   comment-none h = stored-none (flat textWords (commentsIn (t ∷ []))) o i (no-words h)
 
 -- ---- the comments between two indices
-comments-append : (xs ys : List Token) → commentsIn (xs ++ ys) ≡ commentsIn xs ++ commentsIn ys
+pub comments-append : (xs ys : List Token) → commentsIn (xs ++ ys) ≡ commentsIn xs ++ commentsIn ys
 unfolding commentsIn
 comments-append [] ys = refl
 comments-append (t ∷ ts) ys = go (eqb (t .kind) 12) (comments-append ts ys)
