@@ -16,3 +16,4 @@ pub mod Counts
 pub mod ParseHolds
 pub mod AssemblyHolds
 pub mod ReadCounts
+pub mod FirstUse
