@@ -7,3 +7,5 @@ pub mod DeclarationLaws
 pub mod RuleLaws
 pub mod Inside
 pub mod LineLaws
+pub mod EnteredLaws
+pub mod NameLaws

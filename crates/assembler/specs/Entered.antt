@@ -1,5 +1,5 @@
 -- The row once the result of each line stands in the line's first token.
-use Prim.Native.Nat.{ℕ, suc, _+_}
+use Prim.Native.Nat.{ℕ, suc, _+_, _<_, _^_}
 use mathlib.Core.List.{List, [], _∷_, _++_}
 use lib.ListN.{take, drop, set}
 use Rattle.parser.specs.declared.Token.{Token}
@@ -54,6 +54,15 @@ countsOf q = record { kind = 4; start = q .reads; end = q .writes; value = q .di
 -- and the comma behind its state where the next state, the writes and the moves begin
 abbrev pub partsOf : ℕ → Parts → Token
 partsOf i q = record { kind = 8; start = i + q .to; end = i + q .write; value = i + q .dir }
+
+-- they fit into words
+pub record PartsFit (i : ℕ) (q : Parts) : Type 0 where
+  pub reads : q .reads < 2 ^ 32
+  pub writes : q .writes < 2 ^ 32
+  pub dirs : q .dirs < 2 ^ 32
+  pub to : i + q .to < 2 ^ 32
+  pub write : i + q .write < 2 ^ 32
+  pub dir : i + q .dir < 2 ^ 32
 
 -- the parts of a rule in its row
 unfoldable pub withParts : ItemKind → ℕ → Parts → List Token → List Token

@@ -4,3 +4,5 @@ pub mod Failures
 pub mod Declarations
 pub mod Rules
 pub mod Entered
+pub mod Names
+pub mod Finals

@@ -7,9 +7,9 @@ ghost use Rattle.parser.specs.Row.{peek};
 ghost use Rattle.assembler.specs.Rows.{rows, placeOf};
 ghost use Rattle.assembler.specs.Entries.{entryAt, entries};
 ghost use Rattle.assembler.specs.Declarations.{declare, declarations, tapesError, declarationError, declarationErrors};
-use parser::Token;
 use crate::entry;
 use diag::Diagnostic;
+use parser::Token;
 
 // The number of names.
 pub const NAMES: usize = 11;

@@ -5,9 +5,9 @@ ghost use lib.ListN.{length};
 ghost use Rattle.parser.specs.Row.{peek};
 ghost use Rattle.assembler.specs.Rows.{rows, placeOf};
 ghost use Rattle.assembler.specs.Entries.{behind};
+use diag::Span;
 use parser::Token;
 use parser::kind;
-use diag::Span;
 
 // The kind of an item's entry: this and its number.
 pub const ITEM: u32 = 16;

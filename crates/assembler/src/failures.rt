@@ -7,9 +7,9 @@ ghost use Rattle.parser.specs.Row.{tokensIn, peek};
 ghost use Rattle.assembler.specs.Rows.{rows};
 ghost use Rattle.assembler.specs.Entries.{entryAt, entries};
 ghost use Rattle.assembler.specs.Failures.{lineError, lineErrors};
-use parser::Token;
 use crate::entry;
 use diag::Diagnostic;
+use parser::Token;
 
 // One line's.
 fn line_error(t: Token, log: &mut [u32], errors: usize) -> usize

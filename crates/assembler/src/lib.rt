@@ -3,4 +3,5 @@ pub mod declarations;
 pub mod entry;
 pub mod failures;
 pub mod lines;
+pub mod names;
 pub mod rules;

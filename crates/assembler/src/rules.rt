@@ -8,11 +8,11 @@ ghost use Rattle.parser.specs.Row.{peek};
 ghost use Rattle.assembler.specs.Rows.{rows, placeOf};
 ghost use Rattle.assembler.specs.Entries.{entryAt, entries};
 ghost use Rattle.assembler.specs.Rules.{counted, combinations, sameArity, verdict, after, ruleError, ruleErrors, ruleCount, noRules};
-use parser::Token;
 use crate::entry;
-use parser::kind;
 use diag::Diagnostic;
 use diag::Span;
+use parser::Token;
+use parser::kind;
 
 // The number of a rule's item.
 const TRANSITION: u32 = 11;
