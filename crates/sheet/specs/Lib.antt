@@ -1,0 +1,2 @@
+pub mod Comments
+pub mod Rules
