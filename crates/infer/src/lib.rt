@@ -1,0 +1,3 @@
+// Inference (the source's spec.rs, `infer`): states and symbols from the tokens in a row of words whose lines have entries.
+pub mod put;
+pub mod states;
