@@ -8,16 +8,16 @@ use mir.Syntax.{w64}
 use mir.Val.{Fits}
 use borrow.Author.Tests.{lt-ltb, le-ltb, eq-eqb, ne-eqb}
 use lib.Dec.{eqb, ltb}
-use lib.ListN.{length, getD, take, drop, set, replicate, length-set}
-use lib.Seq.{sets, length-sets}
+use lib.ListN.{length, getD, take, drop, set, replicate, length-set, length-append, length-take, length-drop, length-replicate}
+use lib.Seq.{sets, length-sets, drop-drop, take-at, length-take-le}
 use Rattle.parser.specs.declared.Token.{Token}
 use Rattle.parser.specs.Row.{peek}
 use Rattle.parser.specs.Views.{isState}
 use Rattle.assembler.specs.Rows.{rows}
-use Rattle.assembler.specs.Entries.{Entry, entryAt, behind, entries}
+use Rattle.assembler.specs.Entries.{Entry, entryAt, behind, entriesFrom, entries}
 use Rattle.assembler.proofs.Rows.{length-rows, entriesAt, entries-step, entries-end}
 use Rattle.infer.specs.Page.{Page, page, Kept, indicesFrom, indicesIn}
-use Rattle.infer.specs.States.{markAt, Scratch, listFinal, listFinals, nameWords, stateNamed, named, namedAll, mention, mentions, startName}
+use Rattle.infer.specs.States.{markAt, Scratch, listFinal, listFinals, nameWords, stateNamed, named, namedAll, mention, mentions, startName, unmarked, inferred, finals, states}
 use Rattle.infer.proofs.Pages.{kept-refl, kept-on, kept-set, kept-at, kept-rows, indicesAt, indices-start, indices-stop, indices-on, indices-end}
 
 -- ---- the scratch rows
@@ -318,6 +318,23 @@ module _ (size count : ℕ) (target : Page) (w₀ o₀ : List ℕ) (n₀ : ℕ) 
   unfolding mentions namedAll
   mentioning-end h = sym (ap (λ (es : List Entry). namedAll size (rows count w₀) false (page w o n) (mentions (rows count w₀) es)) (entries-end (rows count w₀) i (omega (arith, scratch-length size count w₀ s)))) ∙ m .whole
 
+-- two for each line at most
+mentions-few : (ts : List Token) (es : List Entry) → length (mentions ts es) ≤ 2 * length es
+unfolding mentions
+mentions-few ts [] = omega arith
+mentions-few ts (e ∷ es) = omega (arith, length-append (mention ts e) (mentions ts es), mention-few ts e, mentions-few ts es)
+
+entries-few : (k i : ℕ) (ts : List Token) → length (entriesFrom k i ts) ≤ length ts
+unfolding entriesFrom
+entries-few zero i [] = omega arith
+entries-few (suc k) i [] = omega arith
+entries-few (suc k) i (t ∷ ts) = omega (arith, entries-few k (suc i) ts)
+entries-few zero i (t ∷ ts) = omega (arith, entries-few (behind i t) (suc i) ts)
+
+mentions-all : (count : ℕ) (ts : List Token) → length ts ≡ count → length (mentions ts (entries ts)) ≤ 2 * count
+unfolding entries
+mentions-all count ts e = omega (arith, mentions-few ts (entries ts), entries-few 0 0 ts)
+
 -- ---- a declared start
 module _ (size : ℕ) (ts : List Token) (w o : List ℕ) (n count s : ℕ) (many : length ts ≡ count) where
   pub start-none : count ≤ s → page w o n ≡ namedAll size ts false (page w o n) (startName ts s)
@@ -327,3 +344,107 @@ module _ (size : ℕ) (ts : List Token) (w o : List ℕ) (n count s : ℕ) (many
   pub start-named : (w′ o′ : List ℕ) (n′ : ℕ) → s < count → page w′ o′ n′ ≡ named size ts false (page w o n) (s + 2) → page w′ o′ n′ ≡ namedAll size ts false (page w o n) (startName ts s)
   unfolding startName namedAll
   start-named w′ o′ n′ h e = rw (many, lt-ltb s count h) e
+
+-- ---- one after another: start, rules, F
+module _ (size count s f : ℕ) (w o : List ℕ) (n : ℕ) (scratch : Scratch size count w) (w₁ o₁ : List ℕ) (n₁ : ℕ) (first : page w₁ o₁ n₁ ≡ namedAll size (rows count w) false (page w o n) (startName (rows count w) s)) where
+  start-few : length (startName (rows count w) s) ≤ 1
+  unfolding startName
+  start-few = go (ltb s (length (rows count w)))
+    where
+      go : (b : Bool) → length (cond b ((s + 2) ∷ []) []) ≤ 1
+      go true = omega arith
+      go false = omega arith
+
+  gone₁ : Gone size (length (startName (rows count w) s)) (page w o n) (page w₁ o₁ n₁)
+  gone₁ = subst (λ (q : Page). Gone size (length (startName (rows count w) s)) (page w o n) q) (sym first) (named-gone size (rows count w) false (page w o n) (startName (rows count w) s))
+
+  pub inferred-scratch : Scratch size count w₁
+  inferred-scratch = scratch-kept size count w scratch w₁ (gone₁ .kept)
+
+  pub inferred-room : n + 9 * count + 3 < 2 ^ 64 → n₁ + 6 * count < 2 ^ 64
+  inferred-room h = omega (arith, gone₁ .near, start-few)
+
+  module _ (w₂ o₂ : List ℕ) (n₂ : ℕ) (second : page w₂ o₂ n₂ ≡ namedAll size (rows count w₁) false (page w₁ o₁ n₁) (mentions (rows count w₁) (entries (rows count w₁)))) where
+    abbrev xs : List ℕ
+    xs = mentions (rows count w₁) (entries (rows count w₁))
+
+    gone₂ : Gone size (length xs) (page w₁ o₁ n₁) (page w₂ o₂ n₂)
+    gone₂ = subst (λ (q : Page). Gone size (length xs) (page w₁ o₁ n₁) q) (sym second) (named-gone size (rows count w₁) false (page w₁ o₁ n₁) xs)
+
+    pub inferred-scratch-2 : Scratch size count w₂
+    inferred-scratch-2 = scratch-kept size count w₁ inferred-scratch w₂ (gone₂ .kept)
+
+    pub inferred-room-2 : n + 9 * count + 3 < 2 ^ 64 → n₂ + 3 * count < 2 ^ 64
+    inferred-room-2 h = omega (arith, gone₁ .near, start-few, gone₂ .near, mentions-all count (rows count w₁) (scratch-length size count w₁ inferred-scratch))
+
+    pub inferred-all : (w₃ o₃ : List ℕ) (n₃ : ℕ) → page w₃ o₃ n₃ ≡ namedAll size (rows count w₂) false (page w₂ o₂ n₂) (indicesIn (rows count w₂) f) → page w₃ o₃ n₃ ≡ inferred size (rows count w) s f (page w o n)
+    unfolding inferred
+    inferred-all w₃ o₃ n₃ third =
+        let ts : List Token = rows count w in
+        let row₁ : rows count w₁ ≡ ts = scratch-rows size count w scratch w₁ (gone₁ .kept) in
+        let row₂ : rows count w₂ ≡ ts = scratch-rows size count w₁ inferred-scratch w₂ (gone₂ .kept) ∙ row₁ in
+        let a : List ℕ = startName ts s in
+        let b : List ℕ = mentions ts (entries ts) in
+        let c : List ℕ = indicesIn ts f in
+        third ∙ ap (λ (ts : List Token). namedAll size ts false (page w₂ o₂ n₂) (indicesIn ts f)) row₂
+        ∙ ap (λ (p : Page). namedAll size ts false p c) (second ∙ ap (λ (ts : List Token). namedAll size ts false (page w₁ o₁ n₁) (mentions ts (entries ts))) row₁)
+        ∙ ap (λ (p : Page). namedAll size ts false (namedAll size ts false p b) c) first
+        ∙ sym (named-append size ts false (namedAll size ts false (page w o n) a) b c)
+        ∙ sym (named-append size ts false (page w o n) a (b ++ c))
+
+-- ---- the second row cleared, and F marked in it
+module _ (size count : ℕ) (w : List ℕ) (s : Scratch size count w) (p : List ℕ) (zeros : p ≡ replicate (length (take (6 * size - 5 * size) (drop (5 * size) w))) 0) where
+  abbrev cleared : List ℕ
+  cleared = take (5 * size) w ++ (p ++ drop (6 * size - 5 * size) (drop (5 * size) w))
+
+  cleared-is : cleared ≡ unmarked size w
+  unfolding unmarked
+  cleared-is =
+      let n : length (take (6 * size - 5 * size) (drop (5 * size) w)) ≡ size = omega (arith, length-take (6 * size - 5 * size) (drop (5 * size) w), length-drop (5 * size) w, s .room) in
+      let e : 5 * size + (6 * size - 5 * size) ≡ 6 * size = omega arith in
+      ap (λ (l : List ℕ). take (5 * size) w ++ (l ++ drop (6 * size - 5 * size) (drop (5 * size) w))) (zeros ∙ ap (λ (k : ℕ). replicate k 0) n)
+      ∙ ap (λ (l : List ℕ). take (5 * size) w ++ (replicate size 0 ++ l)) (drop-drop (6 * size - 5 * size) (5 * size) w ∙ ap (λ (k : ℕ). drop k w) e)
+
+  cleared-kept : Kept (5 * size) w cleared
+  cleared-kept =
+      let n : length (take (5 * size) w) ≡ 5 * size = length-take-le (5 * size) w (omega (arith, s .room)) in
+      record {
+        below = take-at (take (5 * size) w) (p ++ drop (6 * size - 5 * size) (drop (5 * size) w)) (5 * size) n;
+        size = omega (
+          arith,
+          n,
+          s .room,
+          length-append (take (5 * size) w) (p ++ drop (6 * size - 5 * size) (drop (5 * size) w)),
+          length-append p (drop (6 * size - 5 * size) (drop (5 * size) w)),
+          length-drop (6 * size - 5 * size) (drop (5 * size) w),
+          length-drop (5 * size) w,
+          length-take (6 * size - 5 * size) (drop (5 * size) w),
+          ap length zeros ∙ length-replicate (length (take (6 * size - 5 * size) (drop (5 * size) w))) 0,
+        );
+      }
+
+  pub finals-scratch : Scratch size count cleared
+  finals-scratch = scratch-kept size count w s cleared cleared-kept
+
+  pub finals-all : (v first : List ℕ) (f : ℕ) → f ≡ getD first 10 0 → v ≡ listFinals size (rows count cleared) cleared (indicesIn (rows count cleared) f) → v ≡ finals size (rows count w) first w
+  unfolding finals
+  finals-all v first f e g =
+      let row : rows count cleared ≡ rows count w = scratch-rows size count w s cleared cleared-kept in
+      g ∙ ap (λ (ts : List Token). listFinals size ts cleared (indicesIn ts f)) row
+      ∙ ap (λ (l : List ℕ). listFinals size (rows count w) l (indicesIn (rows count w) f)) cleared-is
+      ∙ ap (λ (k : ℕ). listFinals size (rows count w) (unmarked size w) (indicesIn (rows count w) k)) e
+
+-- ---- the states
+module _ (size count : ℕ) (w o first : List ℕ) (n q : ℕ) (s : Scratch size count w) (qs : q ≡ getD first 5 0) (w′ o′ : List ℕ) (n′ : ℕ) where
+  many : length (rows count w) ≡ count
+  many = scratch-length size count w s
+
+  pub states-declared : q < count → page w′ o′ n′ ≡ namedAll size (rows count w) true (page w o n) (indicesIn (rows count w) q) → page w′ o′ n′ ≡ states size (rows count w) first (page w o n)
+  unfolding states
+  states-declared h e = rw (many, ← qs, lt-ltb q count h) e
+
+  pub states-inferred : (a f : ℕ) → count ≤ q → a ≡ getD first 9 0 → f ≡ getD first 10 0 → page w′ o′ n′ ≡ inferred size (rows count w) a f (page w o n) → page w′ o′ n′ ≡ states size (rows count w) first (page w o n)
+  unfolding states
+  states-inferred a f h ea ef e =
+      let t : ltb (getD first 5 0) (length (rows count w)) ≡ false = ap (λ (k : ℕ). ltb k (length (rows count w))) (sym qs) ∙ ap (ltb q) many ∙ le-ltb q count h in
+      rw (t, ← ea, ← ef) e

@@ -24,7 +24,7 @@ pub record Scratch (size count : ℕ) (w : List ℕ) : Type 0 where
 
 -- no name is marked
 unfoldable pub unmarked : ℕ → List ℕ → List ℕ
-unmarked size w = take (5 * size) w ++ replicate size 0 ++ drop (6 * size) w
+unmarked size w = take (5 * size) w ++ (replicate size 0 ++ drop (6 * size) w)
 
 -- the name at x is listed in F
 unfoldable pub listFinal : ℕ → List Token → List ℕ → ℕ → List ℕ
@@ -70,14 +70,19 @@ mentions ts (e ∷ es) = mention ts e ++ mentions ts es
 unfoldable pub startName : List Token → ℕ → List ℕ
 startName ts s = cond (ltb s (length ts)) ((s + 2) ∷ []) []
 
--- the states, from the first declarations: those of a declared Q (5); else the start (9), from and to of each rule, and F (10)
+-- the states where Q is not declared: the start (s), from and to of each rule, then F (f)
+unfoldable pub inferred : ℕ → List Token → ℕ → ℕ → Page → Page
+unfolding namedAll startName mentions entries indicesIn
+inferred size ts s f p = namedAll size ts false p (startName ts s ++ (mentions ts (entries ts) ++ indicesIn ts f))
+
+-- the states, from the first declarations: those of a declared Q (5), each time; or inferred, start 9 and F 10
 unfoldable pub states : ℕ → List Token → List ℕ → Page → Page
-unfolding namedAll indicesIn mentions startName entries
+unfolding namedAll indicesIn inferred
 states size ts first p =
     cond (ltb (getD first 5 0) (length ts)) (namedAll size ts true p (indicesIn ts (getD first 5 0)))
-    (namedAll size ts false p (startName ts (getD first 9 0) ++ (mentions ts (entries ts) ++ indicesIn ts (getD first 10 0))))
+    (inferred size ts (getD first 9 0) (getD first 10 0) p)
 
--- and before that the names that F lists
+-- before that, the names that F lists are marked
 unfoldable pub finals : ℕ → List Token → List ℕ → List ℕ → List ℕ
 unfolding unmarked listFinals indicesIn
 finals size ts first w = listFinals size ts (unmarked size w) (indicesIn ts (getD first 10 0))

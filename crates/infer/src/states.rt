@@ -7,15 +7,28 @@ ghost use Rattle.parser.specs.Row.{peek};
 ghost use Rattle.assembler.specs.Rows.{rows};
 ghost use Rattle.assembler.specs.Entries.{entryAt, entries};
 ghost use Rattle.infer.specs.Page.{page, indicesIn};
-ghost use Rattle.infer.specs.States.{markAt, Scratch, unmarked, listFinal, listFinals, stateNamed, named, namedAll, mention, mentions, startName, states, finals};
+ghost use Rattle.infer.specs.States.{markAt, Scratch, unmarked, listFinal, listFinals, stateNamed, named, namedAll, mention, mentions, startName, inferred, states, finals};
 use crate::put;
 use assembler::entry;
 use parser::Token;
 use parser::kind;
 use parser::view;
 
-// The number of a rule's item.
+// The numbers of items.
+const STATES: usize = 5;
+
+const START: usize = 9;
+
+const FINAL: usize = 10;
+
 const TRANSITION: u32 = 11;
+
+// A word as an index.
+fn index(x: u32) -> usize
+    ensures { λ r. ⌜ (r ≡ x) × (r < 2 ^ 32) ⌝ }
+{
+    x as usize
+}
 
 // Where the mark of the name at an index stands.
 fn mark_index(work: &[u32], count: usize, size: usize, x: usize) -> usize
@@ -177,4 +190,54 @@ fn start_name(
         return name(work, count, size, s + 2, false, out, at);
     }
     at
+}
+
+// The states where Q is not declared: the start (s), from and to of each rule, then F (f).
+fn inferred(
+    work: &mut [u32],
+    count: usize,
+    size: usize,
+    s: usize,
+    f: usize,
+    out: &mut [u32],
+    at: usize,
+) -> usize
+    requires { ⌜ Scratch size count (now work) × (f < 2 ^ 32) × (at + 9 * count + 3 < 2 ^ 64) ⌝ }
+    ensures { λ r. ⌜ page (now (work .exit)) (now (out .exit)) r ≡ inferred size (rows count (now (work .entry))) s f (page (now (work .entry)) (now (out .entry)) at) ⌝ }
+{
+    let n = start_name(work, count, size, s, out, at);
+    let m = mentions(work, count, size, out, n);
+    names_in(work, count, size, f, false, out, m)
+}
+
+// Marks the names that F lists, and no other.
+pub fn finals(work: &mut [u32], count: usize, size: usize, first: &[u32; 11])
+    requires { ⌜ Scratch size count (now work) ⌝ }
+    ensures { λ _. ⌜ now (work .exit) ≡ finals size (rows count (now (work .entry))) (now (first .entry)) (now (work .entry)) ⌝ }
+{
+    let a = 5 * size;
+    let b = 6 * size;
+    diag::clear(&mut work[a..b]);
+    list_finals(work, count, size, index(first[FINAL]));
+}
+
+// The states, once the finals are marked: stored from the index `at` on where there is room; answers the index behind them.
+pub fn states(
+    work: &mut [u32],
+    count: usize,
+    size: usize,
+    first: &[u32; 11],
+    out: &mut [u32],
+    at: usize,
+) -> usize
+    requires { ⌜ Scratch size count (now work) × (at + 9 * count + 3 < 2 ^ 64) ⌝ }
+    ensures { λ r. ⌜ page (now (work .exit)) (now (out .exit)) r ≡ states size (rows count (now (work .entry))) (now (first .entry)) (page (now (work .entry)) (now (out .entry)) at) ⌝ }
+{
+    let q = index(first[STATES]);
+    if q < count {
+        return names_in(work, count, size, q, true, out, at);
+    }
+    let s = index(first[START]);
+    let f = index(first[FINAL]);
+    inferred(work, count, size, s, f, out, at)
 }
