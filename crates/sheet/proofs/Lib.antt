@@ -1,3 +1,4 @@
 pub mod Writes
 pub mod Turns
 pub mod CommentLaws
+pub mod RuleLaws

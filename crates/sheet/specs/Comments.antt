@@ -30,47 +30,49 @@ unfoldable pub between : List Token → ℕ → ℕ → List Token
 unfolding commentsIn
 between ts i j = commentsIn (take (j - i) (drop i ts))
 
--- the index behind a line
-abbrev pub next : Entry → ℕ
-next e = e .at + 1 + behind (e .at) (e .first)
-
 -- no comment is pending
 abbrev pub nothing : Pending
 nothing = record { seen = false; from = 0; block = 0 }
 
--- what is pending behind one line more: nothing behind an item or a failed line; a comment goes on with its block; a blank line ends the block
-unfoldable pub passed : Pending → Entry → Pending
-passed p e =
-    cond (leb 16 (e .first .kind)) (record { seen = true; from = next e; block = next e })
-    (cond (eqb (e .first .kind) 12) p (record { seen = p .seen; from = p .from; block = next e }))
+-- the index behind the line that begins with the token t at the index i
+abbrev pub next : ℕ → Token → ℕ
+next i t = i + 1 + behind i t
+
+-- what is pending behind that line: nothing behind an item or a failed line; a comment goes on with its block; a blank line ends the block
+unfoldable pub passed : Pending → ℕ → Token → Pending
+passed p i t =
+    cond (leb 16 (t .kind)) (record { seen = true; from = next i t; block = next i t })
+    (cond (eqb (t .kind) 12) p (record { seen = p .seen; from = p .from; block = next i t }))
+
+-- and behind all lines
+unfoldable pub passedAll : Pending → List Entry → Pending
+unfolding passed
+passedAll p [] = p
+passedAll p (e ∷ es) = passedAll (passed p (e .at) (e .first)) es
 
 -- where the comments that lead a rule begin: all pending if an item or failed line came earlier, else only the block that touches it
-abbrev pub leadFrom : Pending → ℕ
+unfoldable pub leadFrom : Pending → ℕ
 leadFrom p = cond (p .seen) (p .from) (p .block)
 
 -- the comments that a line puts into the header: before a declaration all pending and its own; before the first rule those that do not lead it
-unfoldable pub headerOf : List Token → Pending → Entry → List Token
+unfoldable pub headerOf : List Token → Pending → Token → List Token
 unfolding between
-headerOf ts p e =
-    let k = e .first .kind in
-    cond (ltb k 16) [] (cond (ltb k 27) (between ts (p .from) (e .first .value)) (cond (eqb k 27) (cond (p .seen) [] (between ts (p .from) (p .block))) []))
+headerOf ts p t =
+    cond (ltb (t .kind) 16) []
+    (cond (ltb (t .kind) 27) (between ts (p .from) (t .value)) (cond (eqb (t .kind) 27) (cond (p .seen) [] (between ts (p .from) (p .block))) []))
 
--- at the end the pending comments are trailing, or header if no line held an item or failed
+-- at the end the pending comments are header if no line held an item or failed
 unfoldable pub headerFrom : List Token → Pending → List Entry → List Token
 unfolding between headerOf passed
 headerFrom ts p [] = cond (p .seen) [] (between ts (p .from) (length ts))
-headerFrom ts p (e ∷ es) = headerOf ts p e ++ headerFrom ts (passed p e) es
+headerFrom ts p (e ∷ es) = headerOf ts p (e .first) ++ headerFrom ts (passed p (e .at) (e .first)) es
 
-unfoldable pub trailingFrom : List Token → Pending → List Entry → List Token
-unfolding between passed
-trailingFrom ts p [] = cond (p .seen) (between ts (p .from) (length ts)) []
-trailingFrom ts p (e ∷ es) = trailingFrom ts (passed p e) es
-
--- the header comments of a row, and the trailing ones
+-- the header comments of a row
 unfoldable pub header : List Token → List Token
 unfolding headerFrom entries
 header ts = headerFrom ts nothing (entries ts)
 
+-- else they are trailing
 unfoldable pub trailing : List Token → List Token
-unfolding trailingFrom entries
-trailing ts = trailingFrom ts nothing (entries ts)
+unfolding passedAll entries between
+trailing ts = let p = passedAll nothing (entries ts) in cond (p .seen) (between ts (p .from) (length ts)) []

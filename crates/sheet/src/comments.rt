@@ -2,16 +2,14 @@
 ghost use mathlib.Core.Path.{_≡_};
 ghost use Prim.Native.Nat.{_+_, _*_, _≤_, _<_, _^_};
 ghost use lib.ListN.{length};
-ghost use lib.Seq.{sets};
-ghost use Rattle.parser.specs.Row.{peek};
 ghost use Rattle.language.specs.Layout.{flat};
 ghost use Rattle.assembler.specs.Rows.{rows};
-ghost use Rattle.assembler.specs.Entries.{entryAt};
 ghost use mathlib.Core.List.{[], _∷_};
-ghost use Rattle.sheet.specs.Comments.{textOf, textWords, commentsIn, between};
+ghost use Rattle.assembler.specs.Entries.{entries};
+ghost use Rattle.sheet.specs.Stored.{Stored};
+ghost use Rattle.sheet.specs.Comments.{textOf, textWords, commentsIn, between, nothing, passed, passedAll, headerOf, header, trailing};
 use crate::put;
 use assembler::entry;
-use assembler::rules;
 use diag::Span;
 use parser::Token;
 use parser::kind;
@@ -22,6 +20,15 @@ pub struct Pending {
     pub from: usize,
     pub block: usize,
 }
+
+// No comment is pending.
+pub const NOTHING: Pending = Pending {
+    seen: false,
+    from: 0,
+    block: 0,
+};
+// The number of a rule's item.
+pub const TRANSITION: u32 = 11;
 
 // The place of a comment's text.
 pub fn text_of(t: Token) -> Span
@@ -36,7 +43,7 @@ pub fn text_of(t: Token) -> Span
 // A token's text, if it is a comment.
 fn comment(t: Token, out: &mut [u32], at: usize) -> usize
     requires { ⌜ at + length (flat textWords (commentsIn (t ∷ []))) < 2 ^ 64 ⌝ }
-    ensures { λ r. ⌜ (now (out .exit) ≡ sets (now (out .entry)) at (flat textWords (commentsIn (t ∷ [])))) × (r ≡ at + length (flat textWords (commentsIn (t ∷ [])))) ⌝ }
+    ensures { λ r. ⌜ Stored (flat textWords (commentsIn (t ∷ []))) (now (out .entry)) at (now (out .exit)) r ⌝ }
 {
     if t.kind == kind::COMMENT {
         return put::place(out, at, text_of(t));
@@ -54,7 +61,7 @@ pub fn comments(
     at: usize,
 ) -> usize
     requires { ⌜ (4 * count ≤ length (now work)) × (at + length (flat textWords (between (rows count (now work)) from to)) < 2 ^ 64) ⌝ }
-    ensures { λ r. ⌜ (now (out .exit) ≡ sets (now (out .entry)) at (flat textWords (between (rows count (now (work .entry))) from to))) × (r ≡ at + length (flat textWords (between (rows count (now (work .entry))) from to))) ⌝ }
+    ensures { λ r. ⌜ Stored (flat textWords (between (rows count (now (work .entry))) from to)) (now (out .entry)) at (now (out .exit)) r ⌝ }
 {
     let mut n = at;
     let mut i = from;
@@ -64,4 +71,102 @@ pub fn comments(
         i += 1;
     }
     n
+}
+
+// What is pending behind the line that begins with the token t at an index.
+pub fn passed(p: Pending, t: Token, at: usize) -> Pending
+    requires { ⌜ at + 2 < 2 ^ 64 ⌝ }
+    ensures { λ r. ⌜ r ≡ passed p at t ⌝ }
+{
+    let next = entry::next_line(t, at);
+    if entry::ITEM <= t.kind {
+        return Pending {
+            seen: true,
+            from: next,
+            block: next,
+        };
+    }
+    if t.kind == kind::COMMENT {
+        return p;
+    }
+    Pending {
+        seen: p.seen,
+        from: p.from,
+        block: next,
+    }
+}
+
+// The header comments of the line that begins with the token t.
+fn header_of(
+    work: &[u32],
+    count: usize,
+    p: Pending,
+    t: Token,
+    out: &mut [u32],
+    at: usize,
+) -> usize
+    requires { ⌜ (4 * count ≤ length (now work)) × (at + length (flat textWords (headerOf (rows count (now work)) p t)) < 2 ^ 64) ⌝ }
+    ensures { λ r. ⌜ Stored (flat textWords (headerOf (rows count (now (work .entry))) p t)) (now (out .entry)) at (now (out .exit)) r ⌝ }
+{
+    if t.kind < entry::ITEM {
+        return at;
+    }
+    if t.kind < entry::ITEM + TRANSITION {
+        let end = entry::wide(t.value);
+        return comments(work, count, p.from, end, out, at);
+    }
+    if t.kind == entry::ITEM + TRANSITION {
+        if p.seen {
+            return at;
+        }
+        return comments(work, count, p.from, p.block, out, at);
+    }
+    at
+}
+
+// The header comments of a row.
+pub fn header(work: &[u32], count: usize, out: &mut [u32], at: usize) -> usize
+    requires { ⌜ (4 * count ≤ length (now work)) × (at + length (flat textWords (header (rows count (now work)))) < 2 ^ 64) ⌝ }
+    ensures { λ r. ⌜ Stored (flat textWords (header (rows count (now (work .entry))))) (now (out .entry)) at (now (out .exit)) r ⌝ }
+{
+    let mut p = NOTHING;
+    let mut n = at;
+    let mut i = 0;
+    while i < count {
+        let t = entry::token_at(work, count, i);
+        n = header_of(work, count, p, t, out, n);
+        p = passed(p, t, i);
+        i = entry::next_line(t, i);
+    }
+    if p.seen {
+        return n;
+    }
+    comments(work, count, p.from, count, out, n)
+}
+
+// What is pending behind all lines.
+fn left_pending(work: &[u32], count: usize) -> Pending
+    requires { ⌜ 4 * count ≤ length (now work) ⌝ }
+    ensures { λ r. ⌜ r ≡ passedAll nothing (entries (rows count (now (work .entry)))) ⌝ }
+{
+    let mut p = NOTHING;
+    let mut i = 0;
+    while i < count {
+        let t = entry::token_at(work, count, i);
+        p = passed(p, t, i);
+        i = entry::next_line(t, i);
+    }
+    p
+}
+
+// The trailing comments of a row.
+pub fn trailing(work: &[u32], count: usize, out: &mut [u32], at: usize) -> usize
+    requires { ⌜ (4 * count ≤ length (now work)) × (at + length (flat textWords (trailing (rows count (now work)))) < 2 ^ 64) ⌝ }
+    ensures { λ r. ⌜ Stored (flat textWords (trailing (rows count (now (work .entry))))) (now (out .entry)) at (now (out .exit)) r ⌝ }
+{
+    let p = left_pending(work, count);
+    if p.seen {
+        return comments(work, count, p.from, count, out, at);
+    }
+    at
 }

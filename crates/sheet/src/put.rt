@@ -1,9 +1,10 @@
 // Stores to the sheet.
 ghost use mathlib.Core.Path.{_≡_};
 ghost use lib.ListN.{set};
-ghost use lib.Seq.{sets};
-ghost use mathlib.Core.List.{[], _∷_};
+ghost use mathlib.Core.List.{_∷_};
 ghost use Prim.Native.Nat.{_+_, _<_, _^_};
+ghost use Rattle.sheet.specs.Stored.{Stored};
+ghost use Rattle.sheet.specs.Comments.{spanWords};
 use diag::Span;
 
 // A word at an index, where there is room.
@@ -18,9 +19,18 @@ pub fn word(out: &mut [u32], at: usize, x: u32)
 // A place at an index.
 pub fn place(out: &mut [u32], at: usize, p: Span) -> usize
     requires { ⌜ at + 2 < 2 ^ 64 ⌝ }
-    ensures { λ r. ⌜ (now (out .exit) ≡ sets (now (out .entry)) at (p .start ∷ p .end ∷ [])) × (r ≡ at + 2) ⌝ }
+    ensures { λ r. ⌜ Stored (spanWords p) (now (out .entry)) at (now (out .exit)) r ⌝ }
 {
     word(out, at, p.start);
     word(out, at + 1, p.end);
     at + 2
+}
+
+// A character and its place at an index.
+pub fn symbol(out: &mut [u32], at: usize, x: u32, p: Span) -> usize
+    requires { ⌜ at + 3 < 2 ^ 64 ⌝ }
+    ensures { λ r. ⌜ Stored (x ∷ spanWords p) (now (out .entry)) at (now (out .exit)) r ⌝ }
+{
+    word(out, at, x);
+    place(out, at + 1, p)
 }

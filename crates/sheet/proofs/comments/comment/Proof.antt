@@ -1,10 +1,10 @@
 -- `sheet::comments::comment` meets its contract: two words for a comment, none for any other token.
 use borrow.Author.Needs.{needs}
-use Rattle.sheet.proofs.CommentLaws.{comment-stored, comment-behind, comment-room, comment-none, comment-here}
+use Rattle.sheet.proofs.CommentLaws.{comment-stored, comment-room, comment-none}
 use Rattle.sheet.proofs.comments.comment.Statement.{statement}
 use Rattle.sheet.proofs.comments.comment.Tie as tie
 
-ruleset laws = (needs, comment-stored, comment-behind, comment-room, comment-none, comment-here)
+ruleset laws = (needs, comment-stored, comment-room, comment-none)
 
 pub comment-spec : {M : Type 1} → statement M
 comment-spec =

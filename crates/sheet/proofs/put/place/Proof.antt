@@ -1,10 +1,10 @@
 -- `sheet::put::place` meets its contract: two words, one behind the other.
 use borrow.Author.Needs.{needs}
-use Rattle.sheet.proofs.Writes.{two-words}
+use Rattle.sheet.proofs.Writes.{place-stored}
 use Rattle.sheet.proofs.put.place.Statement.{statement}
 use Rattle.sheet.proofs.put.place.Tie as tie
 
-ruleset laws = (needs, two-words)
+ruleset laws = (needs, place-stored)
 
 pub place-spec : {M : Type 1} → statement M
 place-spec =
