@@ -1,2 +1,4 @@
 pub mod Pages
 pub mod NameLaws
+pub mod CodeLaws
+pub mod GlyphLaws

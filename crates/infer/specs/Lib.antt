@@ -1,2 +1,4 @@
 pub mod Page
 pub mod States
+pub mod Codes
+pub mod Symbols
