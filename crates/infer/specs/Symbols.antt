@@ -54,9 +54,9 @@ firsts s (t ∷ ts) = cond (takes s t) (t ∷ []) [] ++ firsts (walked s t) ts
 
 -- the further members of the set that is open, `seen` if its first was met
 unfoldable pub others : Bool → List Token → List Token
-unfolding isSymbol
+unfolding symbols isSymbol
 others seen [] = []
-others seen (t ∷ ts) = elim (eqb (t .kind) 7) [ true ↦ [] | false ↦ cond seen (cond (isSymbol t) (t ∷ []) []) [] ++ others (cond seen true (isSymbol t)) ts ]
+others seen (t ∷ ts) = elim (eqb (t .kind) 7) [ true ↦ [] | false ↦ cond seen (symbols (t ∷ [])) [] ++ others (cond seen true (isSymbol t)) ts ]
 
 -- the further members of all sets, from the last set to the first
 unfoldable pub further : List Token → List Token
