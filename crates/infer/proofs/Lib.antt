@@ -2,3 +2,4 @@ pub mod Pages
 pub mod NameLaws
 pub mod CodeLaws
 pub mod GlyphLaws
+pub mod InputLaws

@@ -2,3 +2,4 @@ pub mod Page
 pub mod States
 pub mod Codes
 pub mod Symbols
+pub mod Input
