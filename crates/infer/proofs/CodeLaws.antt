@@ -20,7 +20,7 @@ use Rattle.infer.proofs.Pages.{kept-refl, kept-on, kept-set, kept-rows}
 pub held-length : (b n : ℕ) (w : List ℕ) → b + n ≤ length w → length (held b n w) ≡ n
 held-length b n w h = length-take-le n (drop b w) (omega (arith, length-drop b w))
 
-held-at : (b n i : ℕ) (w : List ℕ) → i < n → getD (held b n w) i 0 ≡ getD w (b + i) 0
+pub held-at : (b n i : ℕ) (w : List ℕ) → i < n → getD (held b n w) i 0 ≡ getD w (b + i) 0
 held-at b n i w h = getD-take n (drop b w) i 0 h ∙ getD-drop b w i 0
 
 -- ---- the search: c is among all codes if it is among those from the index i on

@@ -89,7 +89,7 @@ pub no-first : (s : Walk) (t : Token) (r : Bool) → r ≡ takes s t → r ≡ f
 no-first s t r e f = rw (sym e ∙ f)
 
 -- ---- ranges of tokens
-range-none : (ts : List Token) (i j : ℕ) → j ≤ i → range ts i j ≡ []
+pub range-none : (ts : List Token) (i j : ℕ) → j ≤ i → range ts i j ≡ []
 range-none ts i j h = let e : j - i ≡ 0 = omega arith in rw e
 
 range-past : (ts : List Token) (i j : ℕ) → length ts ≤ i → range ts i j ≡ []
@@ -112,7 +112,7 @@ module _ (f : List Token → List Token) (g : Token → List Token) (next : List
           ap f (range-past ts i j (omega arith)) ∙ nothing
           ∙ sym (ap (λ (t : Token). g t ++ next (range ts (i + 1) j)) past ∙ ap (λ (l : List Token). l ++ next (range ts (i + 1) j)) feed ∙ ap next (range-past ts (i + 1) j (omega arith)) ∙ none)
 
-symbols-on : (ts : List Token) (i j : ℕ) → i < j → symbols (range ts i j) ≡ symbols (peek ts i ∷ []) ++ symbols (range ts (i + 1) j)
+pub symbols-on : (ts : List Token) (i j : ℕ) → i < j → symbols (range ts i j) ≡ symbols (peek ts i ∷ []) ++ symbols (range ts (i + 1) j)
 unfolding symbols
 symbols-on ts i j h = range-on symbols (λ t. symbols (t ∷ [])) symbols refl refl refl (λ t l. go (isSymbol t) t (symbols l)) ts i j h
   where

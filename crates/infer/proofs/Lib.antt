@@ -3,3 +3,4 @@ pub mod NameLaws
 pub mod CodeLaws
 pub mod GlyphLaws
 pub mod InputLaws
+pub mod AlphabetLaws

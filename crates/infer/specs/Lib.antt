@@ -3,3 +3,4 @@ pub mod States
 pub mod Codes
 pub mod Symbols
 pub mod Input
+pub mod Alphabets

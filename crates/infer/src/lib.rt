@@ -4,3 +4,4 @@ pub mod glyphs;
 pub mod input;
 pub mod put;
 pub mod states;
+pub mod symbols;
