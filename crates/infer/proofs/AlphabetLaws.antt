@@ -5,12 +5,12 @@ use mathlib.Core.List.{List, [], _∷_, _++_, append-nil}
 use Prim.Native.Nat.{ℕ, zero, suc, _+_, _-_, _*_, _≤_, _<_, _^_}
 use native.Mathlib.Omega.{arith}
 use native.Mathlib.Numerals.{add-one}
+use native.Mathlib.Decide.{decLt}
 use borrow.Author.Tests.{eq-eqb, ne-eqb, lt-ltb, le-ltb}
 use lib.Dec.{eqb, ltb}
-use lib.ListN.{length, getD, take, drop, length-append, drop-of-length-le, length-drop}
+use lib.ListN.{length, getD, take, drop, length-append, drop-of-length-le, length-drop, List·getD-eq-default}
 use lib.Seq.{sets, drop-cons}
 use Rattle.diag.specs.declared.Span.{Span}
-use Rattle.language.specs.Infer.{member, less}
 use Rattle.language.specs.Layout.{flat}
 use Rattle.language.proofs.Counts.{flat-append}
 use Rattle.parser.specs.declared.Token.{Token}
@@ -23,10 +23,10 @@ use Rattle.sheet.specs.Comments.{spanWords}
 use Rattle.sheet.specs.Rules.{resolve}
 use Rattle.sheet.proofs.Writes.{stored-none, stored-as, Writing, writing-start, writing-on, written}
 use Rattle.infer.specs.Codes.{notedAll, held, Codes}
-use Rattle.infer.specs.Symbols.{range, blankOf, symbols, symbolsIn, codesOf}
-use Rattle.infer.specs.Alphabets.{listedWords, inferredWords, lineCodes}
+use Rattle.infer.specs.Symbols.{range, blankOf, symbols, symbolsIn, isBlank, hasBlank, codesOf}
+use Rattle.infer.specs.Alphabets.{listedWords, inferredWords, otherWords, lineCodes}
 use Rattle.infer.proofs.CodeLaws.{held-length, held-at}
-use Rattle.infer.proofs.GlyphLaws.{range-none, symbols-on, is-symbol, no-symbol}
+use Rattle.infer.proofs.GlyphLaws.{range-none, range-past, range-in, symbols-on, is-symbol, no-symbol}
 
 -- ---- the blank
 module _ (ts : List Token) (count d : ℕ) (many : length ts ≡ count) where
@@ -50,38 +50,105 @@ module _ (blank : ℕ) (t : Token) (o : List ℕ) (i : ℕ) (b : Bool) (test : b
   unfolding flat
   symbol-none e = stored-none (flat (listedWords blank) (symbols (t ∷ []))) o i (ap (flat (listedWords blank)) (no-symbol t b test e))
 
-one-width : (blank : ℕ) (t : Token) → length (flat (listedWords blank) (symbols (t ∷ []))) ≤ 3
-unfolding flat symbols
-one-width blank t = go (isSymbol t)
+-- ---- one symbol of Γ in Σ
+module _ (blank : ℕ) (t : Token) (o : List ℕ) (i : ℕ) (b : Bool) (test : b ≡ isSymbol t) where
+  pub other-no : b ≡ false → Stored (flat (otherWords blank) (symbols (t ∷ []))) o i o i
+  unfolding flat
+  other-no e = stored-none (flat (otherWords blank) (symbols (t ∷ []))) o i (ap (flat (otherWords blank)) (no-symbol t b test e))
+
+  module _ (is : b ≡ true) (c : ℕ) (code : c ≡ resolve blank t) where
+    pub other-blank : c ≡ blank → Stored (flat (otherWords blank) (symbols (t ∷ []))) o i o i
+    unfolding flat otherWords
+    other-blank e = stored-none (flat (otherWords blank) (symbols (t ∷ []))) o i (ap (flat (otherWords blank)) (is-symbol t b test is) ∙ rw (← code, eq-eqb c blank e))
+
+    pub other-put : (o′ : List ℕ) (r : ℕ) → (c ≡ blank → ⊥) → Stored (c ∷ 0 ∷ 0 ∷ []) o i o′ r → Stored (flat (otherWords blank) (symbols (t ∷ []))) o i o′ r
+    unfolding flat otherWords
+    other-put o′ r e s = stored-as (flat (otherWords blank) (symbols (t ∷ []))) (c ∷ 0 ∷ 0 ∷ []) o o′ i r (ap (flat (otherWords blank)) (is-symbol t b test is) ∙ rw (← code, ne-eqb c blank e)) s
+
+-- at most three words each
+pub listed-width : (blank : ℕ) (t : Token) → length (listedWords blank t) ≤ 3
+listed-width blank t = omega arith
+
+pub other-width : (blank : ℕ) (t : Token) → length (otherWords blank t) ≤ 3
+unfolding otherWords
+other-width blank t = go (eqb (resolve blank t) blank)
   where
-    go : (b : Bool) → length (flat (listedWords blank) (cond b (t ∷ []) [] ++ [])) ≤ 3
+    go : (b : Bool) → length (cond b [] (inferredWords (resolve blank t))) ≤ 3
     go true = omega arith
     go false = omega arith
 
--- ---- the symbols of a range: the walk has come to the index i
-pub record Putting (blank : ℕ) (ts : List Token) (from to : ℕ) (o₀ : List ℕ) (n₀ : ℕ) (o : List ℕ) (n i : ℕ) : Type 0 where
-  pub writing : let ws = flat (listedWords blank) (symbols (range ts from to)) in Writing (sets o₀ n₀ ws) (n₀ + length ws) o n (flat (listedWords blank) (symbols (range ts i to)))
+one-width : (f : Token → List ℕ) (t : Token) → length (f t) ≤ 3 → length (flat f (symbols (t ∷ []))) ≤ 3
+unfolding flat symbols
+one-width f t h = go (isSymbol t)
+  where
+    go : (b : Bool) → length (flat f (cond b (t ∷ []) [] ++ [])) ≤ 3
+    go true = omega (arith, length-append (f t) [])
+    go false = omega arith
+
+-- ---- the words f of the symbols of a range: the walk has come to the index i
+pub record Putting (f : Token → List ℕ) (ts : List Token) (from to : ℕ) (o₀ : List ℕ) (n₀ : ℕ) (o : List ℕ) (n i : ℕ) : Type 0 where
+  pub writing : let ws = flat f (symbols (range ts from to)) in Writing (sets o₀ n₀ ws) (n₀ + length ws) o n (flat f (symbols (range ts i to)))
   pub near : n + 3 * from ≤ n₀ + 3 * i
 
-pub putting-start : (blank : ℕ) (ts : List Token) (from to : ℕ) (o : List ℕ) (n : ℕ) → Putting blank ts from to o n o n from
-putting-start blank ts from to o n = record { writing = writing-start o n (flat (listedWords blank) (symbols (range ts from to))); near = omega arith }
+pub putting-start : (f : Token → List ℕ) (ts : List Token) (from to : ℕ) (o : List ℕ) (n : ℕ) → Putting f ts from to o n o n from
+putting-start f ts from to o n = record { writing = writing-start o n (flat f (symbols (range ts from to))); near = omega arith }
 
-module _ (blank : ℕ) (ts : List Token) (from to : ℕ) (o₀ : List ℕ) (n₀ : ℕ) (o : List ℕ) (n i : ℕ) (p : Putting blank ts from to o₀ n₀ o n i) where
-  pub putting-on : (t : Token) (o′ : List ℕ) (n′ : ℕ) → i < to → t ≡ peek ts i → Stored (flat (listedWords blank) (symbols (t ∷ []))) o n o′ n′ → Putting blank ts from to o₀ n₀ o′ n′ (i + 1)
-  putting-on t o′ n′ h e s =
-      let f : Token → List ℕ = listedWords blank in
+module _ (f : Token → List ℕ) (ts : List Token) (from to : ℕ) (o₀ : List ℕ) (n₀ : ℕ) (o : List ℕ) (n i : ℕ) (p : Putting f ts from to o₀ n₀ o n i) where
+  pub putting-on : (t : Token) (o′ : List ℕ) (n′ : ℕ) → length (f t) ≤ 3 → i < to → t ≡ peek ts i → Stored (flat f (symbols (t ∷ []))) o n o′ n′ → Putting f ts from to o₀ n₀ o′ n′ (i + 1)
+  putting-on t o′ n′ narrow h e s =
       let ws : List ℕ = flat f (symbols (range ts from to)) in
       let split : flat f (symbols (range ts i to)) ≡ flat f (symbols (t ∷ [])) ++ flat f (symbols (range ts (i + 1) to)) =
       ap (flat f) (symbols-on ts i to h ∙ ap (λ (t : Token). symbols (t ∷ []) ++ symbols (range ts (i + 1) to)) (sym e)) ∙ flat-append f (symbols (t ∷ [])) (symbols (range ts (i + 1) to)) in
       record {
         writing = writing-on (sets o₀ n₀ ws) (n₀ + length ws) o n (flat f (symbols (range ts i to))) (p .writing) (flat f (symbols (t ∷ []))) (flat f (symbols (range ts (i + 1) to))) o′ n′ split s;
-        near = omega (arith, p .near, s .behind, one-width blank t);
+        near = omega (arith, p .near, s .behind, one-width f t narrow);
       }
 
-  pub putting-end : to ≤ i → Stored (flat (listedWords blank) (symbols (range ts from to))) o₀ n₀ o n
+  pub putting-end : to ≤ i → Stored (flat f (symbols (range ts from to))) o₀ n₀ o n
   unfolding flat symbols
-  putting-end h = written o₀ n₀ (flat (listedWords blank) (symbols (range ts from to))) o n (flat (listedWords blank) (symbols (range ts i to))) (p .writing)
-      (ap (λ (l : List Token). flat (listedWords blank) (symbols l)) (range-none ts i to h))
+  putting-end h = written o₀ n₀ (flat f (symbols (range ts from to))) o n (flat f (symbols (range ts i to))) (p .writing) (ap (λ (l : List Token). flat f (symbols l)) (range-none ts i to h))
+
+-- ---- the blank among symbols
+module _ (blank : ℕ) (t : Token) (b : Bool) (test : b ≡ isSymbol t) where
+  pub blank-no : b ≡ false → false ≡ isBlank blank t
+  unfolding isBlank
+  blank-no e = rw (← test, e)
+
+  pub blank-symbol : (c : ℕ) → b ≡ true → c ≡ resolve blank t → eqb c blank ≡ isBlank blank t
+  unfolding isBlank
+  blank-symbol c e f = rw (← test, e, ← f)
+
+module _ (blank : ℕ) (ts : List Token) (from to i : ℕ) (inv : hasBlank blank (range ts i to) ≡ hasBlank blank (range ts from to)) where
+  pub blank-end : to ≤ i → false ≡ hasBlank blank (range ts from to)
+  unfolding hasBlank
+  blank-end h = sym (ap (hasBlank blank) (range-none ts i to h)) ∙ inv
+
+  module _ (t : Token) (b : Bool) (low : i < to) (at : t ≡ peek ts i) (test : b ≡ isBlank blank t) where
+    is : isBlank blank (peek ts i) ≡ b
+    is = ap (isBlank blank) (sym at) ∙ sym test
+
+    feed : isBlank blank ended ≡ false
+    unfolding isBlank
+    feed = refl
+
+    pub blank-here : b ≡ true → true ≡ hasBlank blank (range ts from to)
+    unfolding hasBlank
+    blank-here e = go (decLt i (length ts))
+      where
+        go : Dec (i < length ts) → true ≡ hasBlank blank (range ts from to)
+        go (yes q) = sym (ap (hasBlank blank) (range-in ts i to low q) ∙ rw (is ∙ e, hasBlank)) ∙ inv
+        go (no q) =
+            let past : peek ts i ≡ ended = List·getD-eq-default ts ended {n = i} (omega arith) in
+            let z : _≡_ {A = Bool} true false = sym e ∙ sym is ∙ ap (isBlank blank) past ∙ feed in
+            absurd (let n : _≡_ {A = ℕ} 0 1 = cc in omega arith)
+
+    pub blank-on : b ≡ false → hasBlank blank (range ts (i + 1) to) ≡ hasBlank blank (range ts from to)
+    unfolding hasBlank
+    blank-on e = go (decLt i (length ts))
+      where
+        go : Dec (i < length ts) → hasBlank blank (range ts (i + 1) to) ≡ hasBlank blank (range ts from to)
+        go (yes q) = sym (ap (hasBlank blank) (range-in ts i to low q) ∙ rw (is ∙ e, hasBlank)) ∙ inv
+        go (no q) = ap (hasBlank blank) (range-past ts (i + 1) to (omega arith) ∙ sym (range-past ts i to (omega arith))) ∙ inv
 
 -- ---- codes without a place: the walk has come to the code i
 pub record Coding (cs : List ℕ) (o₀ : List ℕ) (n₀ : ℕ) (o : List ℕ) (n i : ℕ) : Type 0 where

@@ -92,10 +92,10 @@ no-first s t r e f = rw (sym e ∙ f)
 pub range-none : (ts : List Token) (i j : ℕ) → j ≤ i → range ts i j ≡ []
 range-none ts i j h = let e : j - i ≡ 0 = omega arith in rw e
 
-range-past : (ts : List Token) (i j : ℕ) → length ts ≤ i → range ts i j ≡ []
+pub range-past : (ts : List Token) (i j : ℕ) → length ts ≤ i → range ts i j ≡ []
 range-past ts i j h = rw (drop-of-length-le ts {i = i} h, take-nil {A = Token} (j - i))
 
-range-in : (ts : List Token) (i j : ℕ) → i < j → i < length ts → range ts i j ≡ peek ts i ∷ range ts (i + 1) j
+pub range-in : (ts : List Token) (i j : ℕ) → i < j → i < length ts → range ts i j ≡ peek ts i ∷ range ts (i + 1) j
 range-in ts i j h g =
     let e : j - i ≡ suc (j - (i + 1)) = omega arith in
     ap (take (j - i)) (drop-cons ts i ended g ∙ ap (λ (k : ℕ). peek ts i ∷ drop k ts) (sym (add-one i))) ∙ ap (λ (k : ℕ). take k (peek ts i ∷ drop (i + 1) ts)) e

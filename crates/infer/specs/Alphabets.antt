@@ -4,7 +4,6 @@ use mathlib.Core.Bool.{Bool, true, false, cond}
 use mathlib.Core.List.{List, [], _∷_, _++_}
 use lib.Dec.{eqb, ltb}
 use lib.ListN.{length, getD, drop}
-use Rattle.language.specs.Infer.{member, less}
 use Rattle.language.specs.Layout.{flat}
 use Rattle.parser.specs.declared.Token.{Token}
 use Rattle.parser.specs.Row.{peek}
@@ -13,7 +12,7 @@ use Rattle.assembler.specs.Entries.{entries}
 use Rattle.sheet.specs.Comments.{spanWords}
 use Rattle.sheet.specs.Rules.{resolve}
 use Rattle.infer.specs.Codes.{notedAll}
-use Rattle.infer.specs.Symbols.{symbolsIn, rulesSymbols, codesOf}
+use Rattle.infer.specs.Symbols.{lineRange, symbolsIn, hasBlank, rulesSymbols, codesOf}
 use Rattle.infer.specs.Input.{inputOf}
 
 -- a listed symbol
@@ -23,6 +22,11 @@ listedWords b t = resolve b t ∷ spanWords (placeOf t)
 -- an inferred one
 abbrev pub inferredWords : ℕ → List ℕ
 inferredWords c = c ∷ 0 ∷ 0 ∷ []
+
+-- a symbol of Γ that is not the blank, as one of Σ
+unfoldable pub otherWords : ℕ → Token → List ℕ
+unfolding resolve
+otherWords b t = cond (eqb (resolve b t) b) [] (inferredWords (resolve b t))
 
 -- the characters of the line at f
 abbrev pub lineCodes : ℕ → List Token → ℕ → List ℕ
@@ -42,8 +46,8 @@ gammaCodes text b ts first = notedAll (b ∷ []) (candidates text b ts first)
 
 -- a declared Γ, with the blank last if it lacks it
 unfoldable pub declaredGamma : ℕ → List Token → ℕ → List ℕ
-unfolding symbolsIn member flat
-declaredGamma b ts g = flat (listedWords b) (symbolsIn ts g) ++ cond (member eqb (lineCodes b ts g) b) [] (inferredWords b)
+unfolding symbolsIn hasBlank flat
+declaredGamma b ts g = flat (listedWords b) (symbolsIn ts g) ++ cond (hasBlank b (lineRange ts g)) [] (inferredWords b)
 
 -- Γ (7), whose codes are cs where it is not declared
 unfoldable pub gammaWords : ℕ → List Token → List ℕ → List ℕ → List ℕ
@@ -52,7 +56,7 @@ gammaWords b ts first cs = cond (ltb (getD first 7 0) (length ts)) (declaredGamm
 
 -- Σ (6); where it is not declared, Γ less the blank, which stands first in cs
 unfoldable pub sigmaWords : ℕ → List Token → List ℕ → List ℕ → List ℕ
-unfolding symbolsIn flat less
+unfolding symbolsIn flat otherWords
 sigmaWords b ts first cs =
     cond (ltb (getD first 6 0) (length ts)) (flat (listedWords b) (symbolsIn ts (getD first 6 0)))
-    (cond (ltb (getD first 7 0) (length ts)) (flat inferredWords (less b (lineCodes b ts (getD first 7 0)))) (flat inferredWords (drop 1 cs)))
+    (cond (ltb (getD first 7 0) (length ts)) (flat (otherWords b) (symbolsIn ts (getD first 7 0))) (flat inferredWords (drop 1 cs)))

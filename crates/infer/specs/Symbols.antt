@@ -26,10 +26,25 @@ unfolding isSymbol
 symbols [] = []
 symbols (t ∷ ts) = cond (isSymbol t) (t ∷ []) [] ++ symbols ts
 
--- those of the line at f: its entry holds the index of its end
+-- the tokens of the line at f behind its entry, which holds the index of its end
+abbrev pub lineRange : List Token → ℕ → List Token
+lineRange ts f = range ts (f + 1) (peek ts f .value)
+
+-- its symbols
 unfoldable pub symbolsIn : List Token → ℕ → List Token
 unfolding symbols
-symbolsIn ts f = symbols (range ts (f + 1) (peek ts f .value))
+symbolsIn ts f = symbols (lineRange ts f)
+
+-- a symbol that is the blank
+unfoldable pub isBlank : ℕ → Token → Bool
+unfolding isSymbol resolve
+isBlank b t = cond (isSymbol t) (eqb (resolve b t) b) false
+
+-- tokens among which the blank is
+unfoldable pub hasBlank : ℕ → List Token → Bool
+unfolding isBlank
+hasBlank b [] = false
+hasBlank b (t ∷ ts) = elim (isBlank b t) [ true ↦ true | false ↦ hasBlank b ts ]
 
 -- ---- the characters of a rule in the order of first use
 

@@ -5,13 +5,12 @@ ghost use mathlib.Core.List.{[], _∷_};
 ghost use Prim.Native.Nat.{_+_, _*_, _≤_, _<_, _^_};
 ghost use lib.Dec.{eqb};
 ghost use lib.ListN.{length};
-ghost use Rattle.language.specs.Infer.{member, less};
 ghost use Rattle.language.specs.Layout.{flat};
 ghost use Rattle.assembler.specs.Rows.{rows};
 ghost use Rattle.sheet.specs.Stored.{Stored};
 ghost use Rattle.infer.specs.Codes.{notedAll, held, Codes};
-ghost use Rattle.infer.specs.Symbols.{range, blankOf, symbols, symbolsIn, codesOf};
-ghost use Rattle.infer.specs.Alphabets.{listedWords, inferredWords, lineCodes, candidates, gammaCodes, declaredGamma, gammaWords, sigmaWords};
+ghost use Rattle.infer.specs.Symbols.{range, blankOf, symbols, symbolsIn, isBlank, hasBlank, codesOf};
+ghost use Rattle.infer.specs.Alphabets.{listedWords, inferredWords, otherWords, lineCodes, candidates, gammaCodes, declaredGamma, gammaWords, sigmaWords};
 use crate::codes;
 use crate::glyphs;
 use crate::input;
@@ -87,4 +86,66 @@ fn put_codes(work: &[u32], base: usize, n: usize, out: &mut [u32], at: usize) ->
         i += 1;
     }
     m
+}
+
+// A symbol of Γ as one of Σ, unless it is the blank.
+fn put_other(t: Token, blank: u32, out: &mut [u32], at: usize) -> usize
+    requires { ⌜ at + 3 < 2 ^ 64 ⌝ }
+    ensures { λ r. ⌜ Stored (flat (otherWords blank) (symbols (t ∷ []))) (now (out .entry)) at (now (out .exit)) r ⌝ }
+{
+    if view::is_symbol(t) {
+        let c = rules::resolve(blank, t);
+        if c == blank {
+            return at;
+        }
+        return put::symbol(out, at, c, NOWHERE);
+    }
+    at
+}
+
+// The symbols from an index to before another as those of Σ.
+fn put_others(
+    work: &[u32],
+    count: usize,
+    from: usize,
+    to: usize,
+    blank: u32,
+    out: &mut [u32],
+    at: usize,
+) -> usize
+    requires { ⌜ (4 * count ≤ length (now work)) × (to < 2 ^ 32) × (at < 2 ^ 63) ⌝ }
+    ensures { λ r. ⌜ Stored (flat (otherWords blank) (symbols (range (rows count (now (work .entry))) from to))) (now (out .entry)) at (now (out .exit)) r ⌝ }
+{
+    let mut n = at;
+    let mut i = from;
+    while i < to {
+        n = put_other(entry::token_at(work, count, i), blank, out, n);
+        i += 1;
+    }
+    n
+}
+
+// Whether a token is a symbol that is the blank.
+fn is_blank(t: Token, blank: u32) -> bool
+    ensures { λ r. ⌜ r ≡ isBlank blank t ⌝ }
+{
+    if view::is_symbol(t) {
+        return rules::resolve(blank, t) == blank;
+    }
+    false
+}
+
+// Whether the blank is among the symbols from an index to before another.
+fn has_blank(work: &[u32], count: usize, from: usize, to: usize, blank: u32) -> bool
+    requires { ⌜ 4 * count ≤ length (now work) ⌝ }
+    ensures { λ r. ⌜ r ≡ hasBlank blank (range (rows count (now (work .entry))) from to) ⌝ }
+{
+    let mut i = from;
+    while i < to {
+        if is_blank(entry::token_at(work, count, i), blank) {
+            return true;
+        }
+        i += 1;
+    }
+    false
 }
