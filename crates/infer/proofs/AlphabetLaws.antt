@@ -8,24 +8,28 @@ use native.Mathlib.Numerals.{add-one}
 use native.Mathlib.Decide.{decLt}
 use borrow.Author.Tests.{eq-eqb, ne-eqb, lt-ltb, le-ltb}
 use lib.Dec.{eqb, ltb}
-use lib.ListN.{length, getD, take, drop, length-append, drop-of-length-le, length-drop, List·getD-eq-default}
-use lib.Seq.{sets, drop-cons}
+use lib.ListN.{length, getD, take, drop, length-append, drop-of-length-le, length-drop, length-take, List·getD-eq-default}
+use lib.Seq.{sets, drop-cons, drop-drop, take-nil}
 use Rattle.diag.specs.declared.Span.{Span}
+use Rattle.language.specs.Infer.{member}
 use Rattle.language.specs.Layout.{flat}
 use Rattle.language.proofs.Counts.{flat-append}
 use Rattle.parser.specs.declared.Token.{Token}
 use Rattle.parser.specs.Row.{peek, ended}
 use Rattle.parser.specs.Views.{isSymbol}
 use Rattle.assembler.specs.Rows.{rows, placeOf}
+use Rattle.assembler.specs.Entries.{entries}
 use Rattle.assembler.proofs.Rows.{length-rows}
 use Rattle.sheet.specs.Stored.{Stored}
 use Rattle.sheet.specs.Comments.{spanWords}
 use Rattle.sheet.specs.Rules.{resolve}
-use Rattle.sheet.proofs.Writes.{stored-none, stored-as, Writing, writing-start, writing-on, written}
-use Rattle.infer.specs.Codes.{notedAll, held, Codes}
-use Rattle.infer.specs.Symbols.{range, blankOf, symbols, symbolsIn, isBlank, hasBlank, codesOf}
-use Rattle.infer.specs.Alphabets.{listedWords, inferredWords, otherWords, lineCodes}
-use Rattle.infer.proofs.CodeLaws.{held-length, held-at}
+use Rattle.sheet.proofs.Writes.{stored-none, stored-as, stored-append, Writing, writing-start, writing-on, written}
+use Rattle.infer.specs.Codes.{noted, notedAll, held, Codes}
+use Rattle.infer.specs.Symbols.{range, blankOf, symbols, symbolsIn, isBlank, hasBlank, lineRange, rulesSymbols, codesOf}
+use Rattle.infer.specs.Alphabets.{listedWords, inferredWords, otherWords, lineCodes, candidates, gammaCodes, declaredGamma, gammaWords, inferredSigma, sigmaWords}
+use Rattle.infer.specs.Input.{inputOf}
+use Rattle.infer.proofs.CodeLaws.{held-length, held-at, Noting, noting-start, noting-room, noting-on, noting-end, noting-rows}
+use Rattle.infer.proofs.Pages.{kept-on, kept-rows}
 use Rattle.infer.proofs.GlyphLaws.{range-none, range-past, range-in, symbols-on, is-symbol, no-symbol}
 
 -- ---- the blank
@@ -175,3 +179,161 @@ module _ (b k : ℕ) (w : List ℕ) (o₀ : List ℕ) (n₀ : ℕ) (o : List ℕ
   unfolding flat
   coding-end h = written o₀ n₀ (flat inferredWords (held b k w)) o n (flat inferredWords (drop i (held b k w))) (p .writing)
       (ap (flat inferredWords) (drop-of-length-le (held b k w) {i = i} (omega (arith, held-length b k w room))))
+
+-- ---- Γ's codes where it is not declared
+pub line-room : (b n blank : ℕ) (w : List ℕ) (ts : List Token) (f : ℕ) (t : Token) (to : ℕ) → t ≡ peek ts f → to ≡ t .value → b + n + length (lineCodes blank ts f) ≤ length w
+    → b + n + length (codesOf blank (symbols (range ts (f + 1) to))) ≤ length w
+unfolding symbolsIn
+line-room b n blank w ts f t to e g h =
+    subst (λ (k : ℕ). b + n + length (codesOf blank (symbols (range ts (f + 1) k))) ≤ length w) (sym (g ∙ ap (λ (t : Token). t .value) e)) h
+
+pub line-noted : (b n blank : ℕ) (w : List ℕ) (ts : List Token) (f : ℕ) (t : Token) (to : ℕ) (w′ : List ℕ) (r : ℕ) → t ≡ peek ts f → to ≡ t .value
+    → Codes b w (notedAll (held b n w) (codesOf blank (symbols (range ts (f + 1) to)))) w′ r → Codes b w (notedAll (held b n w) (lineCodes blank ts f)) w′ r
+unfolding symbolsIn
+line-noted b n blank w ts f t to w′ r e g c =
+    subst (λ (k : ℕ). Codes b w (notedAll (held b n w) (codesOf blank (symbols (range ts (f + 1) k)))) w′ r) (g ∙ ap (λ (t : Token). t .value) e) c
+
+-- two lists noted, one on top of the other; the second is read from the row again, which is as it was
+module _ (b n count : ℕ) (w : List ℕ) (few : 4 * count ≤ b) (all : List ℕ) (room : b + n + length all ≤ length w) (xs : List ℕ) (ys : List Token → List ℕ) (split : all ≡ xs ++ ys (rows count w)) where
+  whole : Noting b (notedAll (held b n w) all) w w n (xs ++ ys (rows count w))
+  whole = subst (λ (l : List ℕ). Noting b (notedAll (held b n w) all) w w n l) split (noting-start b w n all room)
+
+  pub two-room : b + n + length xs ≤ length w
+  two-room = noting-room b (notedAll (held b n w) all) w w n xs (ys (rows count w)) whole
+
+  module _ (w₁ : List ℕ) (n₁ : ℕ) (one : Codes b w (notedAll (held b n w) xs) w₁ n₁) where
+    then : Noting b (notedAll (held b n w) all) w w₁ n₁ (ys (rows count w))
+    then = noting-on b (notedAll (held b n w) all) w w n xs (ys (rows count w)) w₁ n₁ whole one
+
+    again : ys (rows count w₁) ≡ ys (rows count w)
+    again = ap ys (noting-rows b count (notedAll (held b n w) all) w w₁ n₁ (ys (rows count w)) then few)
+
+    last : Noting b (notedAll (held b n w) all) w w₁ n₁ (ys (rows count w₁) ++ [])
+    last = subst (λ (l : List ℕ). Noting b (notedAll (held b n w) all) w w₁ n₁ l) (sym (append-nil (ys (rows count w₁)) ∙ again)) then
+
+    pub two-room-2 : b + n₁ + length (ys (rows count w₁)) ≤ length w₁
+    two-room-2 = noting-room b (notedAll (held b n w) all) w w₁ n₁ (ys (rows count w₁)) [] last
+
+    pub two-noted : (w₂ : List ℕ) (n₂ : ℕ) → Codes b w₁ (notedAll (held b n₁ w₁) (ys (rows count w₁))) w₂ n₂ → Codes b w (notedAll (held b n w) all) w₂ n₂
+    two-noted w₂ n₂ c = noting-end b (notedAll (held b n w) all) w w₂ n₂ (noting-on b (notedAll (held b n w) all) w w₁ n₁ (ys (rows count w₁)) [] w₂ n₂ last c)
+
+module _ (text : List ℕ) (blank : ℕ) (ts : List Token) (first : List ℕ) (count s : ℕ) (many : length ts ≡ count) (is : s ≡ getD first 6 0) where
+  test : (b : Bool) → ltb s count ≡ b → ltb (getD first 6 0) (length ts) ≡ b
+  test b e = ap (λ (k : ℕ). ltb k (length ts)) (sym is) ∙ ap (ltb s) many ∙ e
+
+  pub candidates-declared : s < count → candidates text blank ts first ≡ lineCodes blank ts s ++ codesOf blank (rulesSymbols ts (entries ts))
+  unfolding candidates
+  candidates-declared h = rw (test true (lt-ltb s count h), ← is)
+
+  pub candidates-not : (d : ℕ) → d ≡ getD first 2 0 → count ≤ s → candidates text blank ts first ≡ codesOf blank (rulesSymbols ts (entries ts)) ++ inputOf text ts d
+  unfolding candidates
+  candidates-not d e h = rw (test false (le-ltb s count h), ← e)
+
+-- the blank first
+module _ (text : List ℕ) (b blank count : ℕ) (w first : List ℕ) (few : 4 * count ≤ b) (room : b + 1 + length (candidates text blank (rows count w) first) ≤ length w) where
+  pub gamma-head : b + 0 < length w
+  gamma-head = omega arith
+
+  module _ (w₁ : List ℕ) (n₁ : ℕ) (one : Codes b w (noted (held b 0 w) blank) w₁ n₁) where
+    gamma-rows : rows count w₁ ≡ rows count w
+    gamma-rows = kept-rows count b w w₁ (one .kept) few (omega arith)
+
+    single : noted (held b 0 w) blank ≡ blank ∷ []
+    unfolding noted member
+    single = refl
+
+    pub gamma-room : b + n₁ + length (candidates text blank (rows count w₁) first) ≤ length w₁
+    gamma-room = omega (arith, one .count, ap length single, ap (λ (ts : List Token). length (candidates text blank ts first)) gamma-rows, one .kept .size)
+
+    pub gamma-noted : (w₂ : List ℕ) (n₂ : ℕ) → Codes b w₁ (notedAll (held b n₁ w₁) (candidates text blank (rows count w₁) first)) w₂ n₂ → Codes b w (gammaCodes text blank (rows count w) first) w₂ n₂
+    unfolding gammaCodes
+    gamma-noted w₂ n₂ c =
+        let e : notedAll (held b n₁ w₁) (candidates text blank (rows count w₁) first) ≡ notedAll (blank ∷ []) (candidates text blank (rows count w) first)
+        = ap (λ (l : List ℕ). notedAll l (candidates text blank (rows count w₁) first)) (one .codes ∙ single) ∙ ap (λ (ts : List Token). notedAll (blank ∷ []) (candidates text blank ts first)) gamma-rows in
+        record { kept = kept-on b w w₁ w₂ (one .kept) (c .kept); codes = c .codes ∙ e; count = c .count ∙ ap length e }
+
+-- ---- Γ and Σ in the sheet
+flat-width : (f : Token → List ℕ) → ((t : Token) → length (f t) ≤ 3) → (ts : List Token) → length (flat f (symbols ts)) ≤ 3 * length ts
+unfolding flat symbols
+flat-width f w [] = omega arith
+flat-width f w (t ∷ ts) = go (isSymbol t) (flat-width f w ts)
+  where
+    go : (b : Bool) → length (flat f (symbols ts)) ≤ 3 * length ts → length (flat f (cond b (t ∷ []) [] ++ symbols ts)) ≤ 3 * suc (length ts)
+    go true h = omega (arith, length-append (f t) (flat f (symbols ts)), w t)
+    go false h = omega arith
+
+module _ (blank : ℕ) (ts : List Token) (g : ℕ) (t : Token) (end : ℕ) (at : t ≡ peek ts g) (ends : end ≡ t .value) (o : List ℕ) (i : ℕ) where
+  ends-is : end ≡ peek ts g .value
+  ends-is = ends ∙ ap (λ (t : Token). t .value) at
+
+  -- the symbols of a line, as words f
+  pub line-put : (f : Token → List ℕ) (o′ : List ℕ) (r : ℕ) → Stored (flat f (symbols (range ts (g + 1) end))) o i o′ r → Stored (flat f (symbolsIn ts g)) o i o′ r
+  unfolding symbolsIn
+  line-put f o′ r s = subst (λ (k : ℕ). Stored (flat f (symbols (range ts (g + 1) k))) o i o′ r) ends-is s
+
+  module _ (o₁ : List ℕ) (n : ℕ) (one : Stored (flat (listedWords blank) (symbols (range ts (g + 1) end))) o i o₁ n) (b : Bool) (has : b ≡ hasBlank blank (range ts (g + 1) end)) where
+    has-is : hasBlank blank (lineRange ts g) ≡ b
+    has-is = ap (λ (k : ℕ). hasBlank blank (range ts (g + 1) k)) (sym ends-is) ∙ sym has
+
+    pub gamma-put-room : i < 2 ^ 62 → end < 2 ^ 32 → n + 3 < 2 ^ 64
+    gamma-put-room h e = omega (arith, one .behind, flat-width (listedWords blank) (λ t. omega arith) (range ts (g + 1) end), length-take (end - (g + 1)) (drop (g + 1) ts))
+
+    pub gamma-has : b ≡ true → Stored (declaredGamma blank ts g) o i o₁ n
+    unfolding declaredGamma
+    gamma-has e = stored-as (declaredGamma blank ts g) (flat (listedWords blank) (symbolsIn ts g)) o o₁ i n (rw (has-is, e) (append-nil (flat (listedWords blank) (symbolsIn ts g)))) (line-put (listedWords blank) o₁ n one)
+
+    pub gamma-lacks : (o₂ : List ℕ) (r : ℕ) → b ≡ false → Stored (blank ∷ 0 ∷ 0 ∷ []) o₁ n o₂ r → Stored (declaredGamma blank ts g) o i o₂ r
+    unfolding declaredGamma
+    gamma-lacks o₂ r e s = stored-as (declaredGamma blank ts g) (flat (listedWords blank) (symbolsIn ts g) ++ (blank ∷ 0 ∷ 0 ∷ [])) o o₂ i r (rw (has-is, e))
+        (stored-append (flat (listedWords blank) (symbolsIn ts g)) (blank ∷ 0 ∷ 0 ∷ []) o o₁ o₂ i n r (line-put (listedWords blank) o₁ n one) s)
+
+module _ (blank count : ℕ) (ts : List Token) (first cs : List ℕ) (k x : ℕ) (many : length ts ≡ count) (is : x ≡ getD first k 0) (o : List ℕ) (i : ℕ) (o′ : List ℕ) (r : ℕ) where
+  declared : (b : Bool) → ltb x count ≡ b → ltb (getD first k 0) (length ts) ≡ b
+  declared b e = ap (λ (j : ℕ). ltb j (length ts)) (sym is) ∙ ap (ltb x) many ∙ e
+
+  pub gamma-declared : k ≡ 7 → x < count → Stored (declaredGamma blank ts x) o i o′ r → Stored (gammaWords blank ts first cs) o i o′ r
+  unfolding gammaWords
+  gamma-declared e h s = stored-as (gammaWords blank ts first cs) (declaredGamma blank ts x) o o′ i r
+      (let t : ltb (getD first 7 0) (length ts) ≡ true = subst (λ (j : ℕ). ltb (getD first j 0) (length ts) ≡ true) e (declared true (lt-ltb x count h)) in
+      let y : getD first 7 0 ≡ x = subst (λ (j : ℕ). getD first j 0 ≡ x) e (sym is) in
+      rw t (ap (declaredGamma blank ts) y)) s
+
+  pub gamma-inferred : k ≡ 7 → count ≤ x → Stored (flat inferredWords cs) o i o′ r → Stored (gammaWords blank ts first cs) o i o′ r
+  unfolding gammaWords
+  gamma-inferred e h s = stored-as (gammaWords blank ts first cs) (flat inferredWords cs) o o′ i r
+      (let t : ltb (getD first 7 0) (length ts) ≡ false = subst (λ (j : ℕ). ltb (getD first j 0) (length ts) ≡ false) e (declared false (le-ltb x count h)) in rw t) s
+
+  pub sigma-declared : k ≡ 6 → x < count → Stored (flat (listedWords blank) (symbolsIn ts x)) o i o′ r → Stored (sigmaWords blank ts first cs) o i o′ r
+  unfolding sigmaWords
+  sigma-declared e h s = stored-as (sigmaWords blank ts first cs) (flat (listedWords blank) (symbolsIn ts x)) o o′ i r
+      (let t : ltb (getD first 6 0) (length ts) ≡ true = subst (λ (j : ℕ). ltb (getD first j 0) (length ts) ≡ true) e (declared true (lt-ltb x count h)) in
+      let y : getD first 6 0 ≡ x = subst (λ (j : ℕ). getD first j 0 ≡ x) e (sym is) in
+      rw t (ap (λ (j : ℕ). flat (listedWords blank) (symbolsIn ts j)) y)) s
+
+  pub sigma-inferred : (g : ℕ) → k ≡ 6 → g ≡ getD first 7 0 → count ≤ x → Stored (inferredSigma blank ts g cs) o i o′ r → Stored (sigmaWords blank ts first cs) o i o′ r
+  unfolding sigmaWords
+  sigma-inferred g e f h s = stored-as (sigmaWords blank ts first cs) (inferredSigma blank ts g cs) o o′ i r
+      (let t : ltb (getD first 6 0) (length ts) ≡ false = subst (λ (j : ℕ). ltb (getD first j 0) (length ts) ≡ false) e (declared false (le-ltb x count h)) in
+      rw t (ap (λ (j : ℕ). inferredSigma blank ts j cs) (sym f))) s
+
+module _ (blank count : ℕ) (ts : List Token) (g : ℕ) (many : length ts ≡ count) (cs o : List ℕ) (i : ℕ) (o′ : List ℕ) (r : ℕ) where
+  pub others-line : g < count → Stored (flat (otherWords blank) (symbolsIn ts g)) o i o′ r → Stored (inferredSigma blank ts g cs) o i o′ r
+  unfolding inferredSigma
+  others-line h s = stored-as (inferredSigma blank ts g cs) (flat (otherWords blank) (symbolsIn ts g)) o o′ i r (rw (many, lt-ltb g count h)) s
+
+  pub others-codes : count ≤ g → Stored (flat inferredWords (drop 1 cs)) o i o′ r → Stored (inferredSigma blank ts g cs) o i o′ r
+  unfolding inferredSigma
+  others-codes h s = stored-as (inferredSigma blank ts g cs) (flat inferredWords (drop 1 cs)) o o′ i r (rw (many, le-ltb g count h)) s
+
+-- the codes behind the first
+pub codes-none : (b n : ℕ) (w o : List ℕ) (i : ℕ) → n ≡ 0 → Stored (flat inferredWords (drop 1 (held b n w))) o i o i
+unfolding flat
+codes-none b n w o i e = stored-none (flat inferredWords (drop 1 (held b n w))) o i (ap (λ (k : ℕ). flat inferredWords (drop 1 (held b k w))) e)
+
+pub codes-behind : (b n : ℕ) (w o : List ℕ) (i : ℕ) (o′ : List ℕ) (r : ℕ) → (n ≡ 0 → ⊥) → Stored (flat inferredWords (held (b + 1) (n - 1) w)) o i o′ r → Stored (flat inferredWords (drop 1 (held b n w))) o i o′ r
+codes-behind b n w o i o′ r h s = stored-as (flat inferredWords (drop 1 (held b n w))) (flat inferredWords (held (b + 1) (n - 1) w)) o o′ i r
+    (let e : n ≡ suc (n - 1) = omega arith in ap (flat inferredWords) (ap (λ (k : ℕ). drop 1 (take k (drop b w))) e ∙ behind-first (n - 1) (drop b w) ∙ ap (take (n - 1)) (drop-drop 1 b w))) s
+  where
+    behind-first : (k : ℕ) (l : List ℕ) → drop 1 (take (suc k) l) ≡ take k (drop 1 l)
+    behind-first k [] = sym (take-nil {A = ℕ} k)
+    behind-first k (x ∷ l) = refl

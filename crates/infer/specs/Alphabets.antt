@@ -54,9 +54,12 @@ unfoldable pub gammaWords : ℕ → List Token → List ℕ → List ℕ → Lis
 unfolding declaredGamma flat
 gammaWords b ts first cs = cond (ltb (getD first 7 0) (length ts)) (declaredGamma b ts (getD first 7 0)) (flat inferredWords cs)
 
--- Σ (6); where it is not declared, Γ less the blank, which stands first in cs
-unfoldable pub sigmaWords : ℕ → List Token → List ℕ → List ℕ → List ℕ
+-- an undeclared Σ: Γ less the blank; the line at g declares Γ, or its codes are cs, the blank first
+unfoldable pub inferredSigma : ℕ → List Token → ℕ → List ℕ → List ℕ
 unfolding symbolsIn flat otherWords
-sigmaWords b ts first cs =
-    cond (ltb (getD first 6 0) (length ts)) (flat (listedWords b) (symbolsIn ts (getD first 6 0)))
-    (cond (ltb (getD first 7 0) (length ts)) (flat (otherWords b) (symbolsIn ts (getD first 7 0))) (flat inferredWords (drop 1 cs)))
+inferredSigma b ts g cs = cond (ltb g (length ts)) (flat (otherWords b) (symbolsIn ts g)) (flat inferredWords (drop 1 cs))
+
+-- Σ (6)
+unfoldable pub sigmaWords : ℕ → List Token → List ℕ → List ℕ → List ℕ
+unfolding symbolsIn flat inferredSigma
+sigmaWords b ts first cs = cond (ltb (getD first 6 0) (length ts)) (flat (listedWords b) (symbolsIn ts (getD first 6 0))) (inferredSigma b ts (getD first 7 0) cs)

@@ -83,7 +83,7 @@ fn note_symbol(work: &mut [u32], base: usize, n: usize, t: Token, blank: u32) ->
 }
 
 // The symbols from an index to before another.
-fn note_range(
+pub(crate) fn note_range(
     work: &mut [u32],
     count: usize,
     base: usize,

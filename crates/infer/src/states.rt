@@ -23,13 +23,6 @@ const FINAL: usize = 10;
 
 const TRANSITION: u32 = 11;
 
-// A word as an index.
-fn index(x: u32) -> usize
-    ensures { λ r. ⌜ (r ≡ x) × (r < 2 ^ 32) ⌝ }
-{
-    x as usize
-}
-
 // Where the mark of the name at an index stands.
 fn mark_index(work: &[u32], count: usize, size: usize, x: usize) -> usize
     requires { ⌜ Scratch size count (now work) × (x < count) ⌝ }
@@ -218,7 +211,7 @@ pub fn finals(work: &mut [u32], count: usize, size: usize, first: &[u32; 11])
     let a = 5 * size;
     let b = 6 * size;
     diag::clear(&mut work[a..b]);
-    list_finals(work, count, size, index(first[FINAL]));
+    list_finals(work, count, size, crate::index(first[FINAL]));
 }
 
 // The states, once the finals are marked: stored from the index `at` on where there is room; answers the index behind them.
@@ -233,11 +226,11 @@ pub fn states(
     requires { ⌜ Scratch size count (now work) × (at + 9 * count + 3 < 2 ^ 64) ⌝ }
     ensures { λ r. ⌜ page (now (work .exit)) (now (out .exit)) r ≡ states size (rows count (now (work .entry))) (now (first .entry)) (page (now (work .entry)) (now (out .entry)) at) ⌝ }
 {
-    let q = index(first[STATES]);
+    let q = crate::index(first[STATES]);
     if q < count {
         return names_in(work, count, size, q, true, out, at);
     }
-    let s = index(first[START]);
-    let f = index(first[FINAL]);
+    let s = crate::index(first[START]);
+    let f = crate::index(first[FINAL]);
     inferred(work, count, size, s, f, out, at)
 }

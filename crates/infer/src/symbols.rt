@@ -10,7 +10,7 @@ ghost use Rattle.assembler.specs.Rows.{rows};
 ghost use Rattle.sheet.specs.Stored.{Stored};
 ghost use Rattle.infer.specs.Codes.{notedAll, held, Codes};
 ghost use Rattle.infer.specs.Symbols.{range, blankOf, symbols, symbolsIn, isBlank, hasBlank, codesOf};
-ghost use Rattle.infer.specs.Alphabets.{listedWords, inferredWords, otherWords, lineCodes, candidates, gammaCodes, declaredGamma, gammaWords, sigmaWords};
+ghost use Rattle.infer.specs.Alphabets.{listedWords, inferredWords, otherWords, lineCodes, candidates, gammaCodes, declaredGamma, gammaWords, inferredSigma, sigmaWords};
 use crate::codes;
 use crate::glyphs;
 use crate::input;
@@ -23,6 +23,13 @@ use sheet::rules;
 
 // The blank where none is declared.
 const BLANK: u32 = 0x2423;
+
+// The numbers of items.
+const INPUT: usize = 2;
+
+const INPUT_ALPHABET: usize = 6;
+
+const TAPE_ALPHABET: usize = 7;
 
 // The place of an inferred symbol.
 const NOWHERE: Span = Span {
@@ -148,4 +155,155 @@ fn has_blank(work: &[u32], count: usize, from: usize, to: usize, blank: u32) -> 
         i += 1;
     }
     false
+}
+
+// Notes the symbols of the line at an index.
+fn note_line(
+    work: &mut [u32],
+    count: usize,
+    base: usize,
+    n: usize,
+    f: usize,
+    blank: u32,
+) -> usize
+    requires { ⌜ (4 * count ≤ base) × (f < 2 ^ 32) × (base + n + length (lineCodes blank (rows count (now work)) f) ≤ length (now work)) ⌝ }
+    ensures { λ r. ⌜ Codes base (now (work .entry)) (notedAll (held base n (now (work .entry))) (lineCodes blank (rows count (now (work .entry))) f)) (now (work .exit)) r ⌝ }
+{
+    let t = entry::token_at(work, count, f);
+    glyphs::note_range(
+        work,
+        count,
+        base,
+        n,
+        f + 1,
+        entry::wide(t.value),
+        blank,
+    )
+}
+
+// Notes what an undeclared Γ holds besides the blank: a declared Σ and what the rules use; or what they use and the input.
+fn note_candidates(
+    text: &[u8],
+    work: &mut [u32],
+    count: usize,
+    base: usize,
+    n: usize,
+    first: &[u32; 11],
+    blank: u32,
+) -> usize
+    requires { ⌜ (4 * count ≤ base) × (base + n + length (candidates (now text) blank (rows count (now work)) (now first)) ≤ length (now work)) ⌝ }
+    ensures { λ r. ⌜ Codes base (now (work .entry)) (notedAll (held base n (now (work .entry))) (candidates (now (text .entry)) blank (rows count (now (work .entry))) (now (first .entry)))) (now (work .exit)) r ⌝ }
+{
+    let s = crate::index(first[INPUT_ALPHABET]);
+    if s < count {
+        let m = note_line(work, count, base, n, s, blank);
+        return glyphs::note_rules(work, count, base, m, blank);
+    }
+    let m = glyphs::note_rules(work, count, base, n, blank);
+    input::note_input(text, work, count, base, m, crate::index(first[INPUT]))
+}
+
+// The codes of an undeclared Γ from the index `base` on; answers their number.
+pub fn gamma_codes(
+    text: &[u8],
+    work: &mut [u32],
+    count: usize,
+    base: usize,
+    first: &[u32; 11],
+    blank: u32,
+) -> usize
+    requires { ⌜ (4 * count ≤ base) × (base + 1 + length (candidates (now text) blank (rows count (now work)) (now first)) ≤ length (now work)) ⌝ }
+    ensures { λ r. ⌜ Codes base (now (work .entry)) (gammaCodes (now (text .entry)) blank (rows count (now (work .entry))) (now (first .entry))) (now (work .exit)) r ⌝ }
+{
+    let n = codes::note(work, base, 0, blank);
+    note_candidates(text, work, count, base, n, first, blank)
+}
+
+// A declared Γ, with the blank last if it lacks it.
+fn put_gamma(
+    work: &[u32],
+    count: usize,
+    g: usize,
+    blank: u32,
+    out: &mut [u32],
+    at: usize,
+) -> usize
+    requires { ⌜ (4 * count ≤ length (now work)) × (g < 2 ^ 32) × (at < 2 ^ 62) ⌝ }
+    ensures { λ r. ⌜ Stored (declaredGamma blank (rows count (now (work .entry))) g) (now (out .entry)) at (now (out .exit)) r ⌝ }
+{
+    let t = entry::token_at(work, count, g);
+    let end = crate::index(t.value);
+    let n = put_range(work, count, g + 1, end, blank, out, at);
+    if has_blank(work, count, g + 1, end, blank) {
+        return n;
+    }
+    put::symbol(out, n, blank, NOWHERE)
+}
+
+// Γ, from the first declarations; where it is not declared, its n codes stand from the index `base` on.
+pub fn gamma(
+    work: &[u32],
+    count: usize,
+    base: usize,
+    n: usize,
+    first: &[u32; 11],
+    blank: u32,
+    out: &mut [u32],
+    at: usize,
+) -> usize
+    requires { ⌜ (4 * count ≤ length (now work)) × (base + n ≤ length (now work)) × (at < 2 ^ 62) ⌝ }
+    ensures { λ r. ⌜ Stored (gammaWords blank (rows count (now (work .entry))) (now (first .entry)) (held base n (now (work .entry)))) (now (out .entry)) at (now (out .exit)) r ⌝ }
+{
+    let g = crate::index(first[TAPE_ALPHABET]);
+    if g < count {
+        return put_gamma(work, count, g, blank, out, at);
+    }
+    put_codes(work, base, n, out, at)
+}
+
+// Σ where it is not declared: Γ less the blank.
+fn put_sigma(
+    work: &[u32],
+    count: usize,
+    base: usize,
+    n: usize,
+    g: usize,
+    blank: u32,
+    out: &mut [u32],
+    at: usize,
+) -> usize
+    requires { ⌜ (4 * count ≤ length (now work)) × (base + n ≤ length (now work)) × (g < 2 ^ 32) × (at < 2 ^ 62) ⌝ }
+    ensures { λ r. ⌜ Stored (inferredSigma blank (rows count (now (work .entry))) g (held base n (now (work .entry)))) (now (out .entry)) at (now (out .exit)) r ⌝ }
+{
+    if g < count {
+        let t = entry::token_at(work, count, g);
+        return put_others(work, count, g + 1, crate::index(t.value), blank, out, at);
+    }
+    if n == 0 {
+        return at;
+    }
+    put_codes(work, base + 1, n - 1, out, at)
+}
+
+// Σ, from the first declarations; the n codes of an undeclared Γ stand from the index `base` on.
+pub fn sigma(
+    work: &[u32],
+    count: usize,
+    base: usize,
+    n: usize,
+    first: &[u32; 11],
+    blank: u32,
+    out: &mut [u32],
+    at: usize,
+) -> usize
+    requires { ⌜ (4 * count ≤ length (now work)) × (base + n ≤ length (now work)) × (at < 2 ^ 62) ⌝ }
+    ensures { λ r. ⌜ Stored (sigmaWords blank (rows count (now (work .entry))) (now (first .entry)) (held base n (now (work .entry)))) (now (out .entry)) at (now (out .exit)) r ⌝ }
+{
+    let s = crate::index(first[INPUT_ALPHABET]);
+    if s < count {
+        let t = entry::token_at(work, count, s);
+        return put_range(work, count, s + 1, crate::index(t.value), blank, out, at);
+    }
+    let g = crate::index(first[TAPE_ALPHABET]);
+    put_sigma(work, count, base, n, g, blank, out, at)
 }
