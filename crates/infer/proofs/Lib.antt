@@ -4,3 +4,5 @@ pub mod CodeLaws
 pub mod GlyphLaws
 pub mod InputLaws
 pub mod AlphabetLaws
+pub mod CodesMean
+pub mod InputMean

@@ -462,3 +462,101 @@ infer-gamma b (some s) ls input f h =
     ap (fresh eqb (eqb b)) (sym (append-nil (codesOf b s ++ used (expandAll b ls))))
     ∙ alike-append eqb eqb-refl eqb-trans (codesOf b s) (codesOf b s) (used (expandAll b ls)) (usedLines b ls) (λ p q r. refl) (used-alike b ls f h) (eqb b) (codes-respect (eqb b)) []
     ∙ ap (fresh eqb (eqb b)) (append-nil (codesOf b s ++ usedLines b ls))
+
+-- ---- `*` writes what is read, which adds nothing
+
+-- what is written but `*`
+unfoldable pub glyphsWritten : {P : Type 0} → ℕ → List (Located P (Option RawSymbol)) → List ℕ
+unfolding resolve
+glyphsWritten b [] = []
+glyphsWritten b (w ∷ ws) = elim (w .value) [ some s ↦ resolve b s ∷ glyphsWritten b ws | none ↦ glyphsWritten b ws ]
+
+module _ {P : Type 0} (b : ℕ) where
+  read-codes : (rs : List (Located P RawSymbol)) (ws : List (Located P (Option RawSymbol))) (ds : List (Located P Dir)) → length ws ≡ length rs → length ds ≡ length rs → readCodes (actions b rs ws ds) ≡ codesOf b rs
+  unfolding actions
+  read-codes [] ws ds e f = refl
+  read-codes (r ∷ rs) [] ds e f = absurd (omega arith)
+  read-codes (r ∷ rs) (w ∷ ws) [] e f = absurd (omega arith)
+  read-codes (r ∷ rs) (w ∷ ws) (d ∷ ds) e f = ap (λ (l : List ℕ). resolve b (r .value) ∷ l) (read-codes rs ws ds (omega arith) (omega arith))
+
+  -- what is read is known already
+  star-alike : (K : List ℕ) (rs : List (Located P RawSymbol)) (ws : List (Located P (Option RawSymbol))) (ds : List (Located P Dir)) → length ws ≡ length rs → length ds ≡ length rs
+      → All (member eqb K) (codesOf b rs) → Alike eqb (K ++ writtenCodes (actions b rs ws ds)) (K ++ glyphsWritten b ws)
+  unfolding actions glyphsWritten written
+  star-alike K [] [] ds e f h = λ p q r. refl
+  star-alike K [] (w ∷ ws) ds e f h = absurd (omega arith)
+  star-alike K (r ∷ rs) [] ds e f h = absurd (omega arith)
+  star-alike K (r ∷ rs) (w ∷ ws) [] e f h = absurd (omega arith)
+  star-alike K (r ∷ rs) (w ∷ ws) (d ∷ ds) e f h = go (w .value) (star-alike K rs ws ds (omega arith) (omega arith) (h .1)) (λ g. star-alike (K ++ g ∷ []) rs ws ds (omega arith) (omega arith) (more g))
+    where
+      W : List ℕ
+      W = writtenCodes (actions b rs ws ds)
+
+      more : (g : ℕ) → All (member eqb (K ++ g ∷ [])) (codesOf b rs)
+      more g = every-impl (λ y. member eqb K y ≡ true) (λ y. member eqb (K ++ g ∷ []) y ≡ true) (λ y t. member-left K (g ∷ []) y t) (codesOf b rs) (h .1)
+
+      go : (o : Option RawSymbol) → Alike eqb (K ++ writtenCodes (actions b rs ws ds)) (K ++ glyphsWritten b ws)
+          → ((g : ℕ) → Alike eqb ((K ++ g ∷ []) ++ writtenCodes (actions b rs ws ds)) ((K ++ g ∷ []) ++ glyphsWritten b ws))
+          → Alike eqb (K ++ (written b (r .value) o ∷ writtenCodes (actions b rs ws ds))) (K ++ elim o [ some s ↦ resolve b s ∷ glyphsWritten b ws | none ↦ glyphsWritten b ws ])
+      go none known new = λ p q t.
+          let x : ℕ = resolve b (r .value) in
+          ap (λ (l : List ℕ). fresh eqb p (l ++ t)) (sym (append-assoc K (x ∷ []) (writtenCodes (actions b rs ws ds))))
+          ∙ alike-append eqb eqb-refl eqb-trans (K ++ x ∷ []) K (writtenCodes (actions b rs ws ds)) (writtenCodes (actions b rs ws ds)) (alike-known eqb eqb-refl eqb-trans K (x ∷ []) (h .0, tt)) (λ p q r. refl) p q t
+          ∙ known p q t
+      go (some s) known new = λ p q t.
+          let g : ℕ = resolve b s in
+          ap (λ (l : List ℕ). fresh eqb p (l ++ t)) (sym (append-assoc K (g ∷ []) (writtenCodes (actions b rs ws ds)))) ∙ new g p q t
+          ∙ ap (λ (l : List ℕ). fresh eqb p (l ++ t)) (append-assoc K (g ∷ []) (glyphsWritten b ws))
+
+  first-length : {A : Type 0} (ss : List (List A)) → Every Filled ss → length (firstChoice ss) ≡ length ss
+  unfolding firstChoice
+  first-length [] h = refl
+  first-length ([] ∷ ss) h = absurd (h .0)
+  first-length ((a ∷ s) ∷ ss) h = ap suc (first-length ss (h .1))
+
+  -- a line's characters in the order of first use, `*` left out
+  unfoldable pub glyphLine : RuleLine P → List ℕ
+  unfolding firstChoice further glyphsWritten
+  glyphLine l = codesOf b (firstChoice (l .raw .read)) ++ (glyphsWritten b (l .raw .write) ++ codesOf b (further (l .raw .read)))
+
+  unfoldable pub glyphLines : List (RuleLine P) → List ℕ
+  unfolding glyphLine
+  glyphLines [] = []
+  glyphLines (l ∷ ls) = glyphLine l ++ glyphLines ls
+
+  self-members : (l : List ℕ) → All (member eqb l) l
+  unfolding member
+  self-members [] = tt
+  self-members (x ∷ l) = (or-left (eqb x x) (member eqb l x) (eqb-refl x), every-impl (λ y. member eqb l y ≡ true) (λ y. member eqb (x ∷ l) y ≡ true) (λ y e. or-right (eqb x y) (member eqb l y) e) l (self-members l))
+
+  glyph-line : (l : RuleLine P) → Fits l → Chosen l → Alike eqb (usedLine b l) (glyphLine l)
+  unfolding usedLine glyphLine
+  glyph-line l f h p q r =
+      let rs = firstChoice (l .raw .read) in
+      let ws = l .raw .write in
+      let ds = l .raw .dir in
+      let more = codesOf b (further (l .raw .read)) in
+      let W = writtenCodes (actions b rs ws ds) in
+      let G = glyphsWritten b ws in
+      let R = codesOf b rs in
+      let e : length ws ≡ length rs = f .0 ∙ sym (first-length (l .raw .read) h) in
+      let d : length ds ≡ length rs = f .1 ∙ sym (first-length (l .raw .read) h) in
+      ap (λ (t : List ℕ). fresh eqb p ((t ++ (W ++ more)) ++ r)) (read-codes rs ws ds e d)
+      ∙ ap (λ (t : List ℕ). fresh eqb p (t ++ r)) (sym (append-assoc R W more))
+      ∙ alike-append eqb eqb-refl eqb-trans (R ++ W) (R ++ G) more more (star-alike R rs ws ds e d (self-members R)) (λ p q r. refl) p q r
+      ∙ ap (λ (t : List ℕ). fresh eqb p (t ++ r)) (append-assoc R G more)
+
+  glyph-lines : (ls : List (RuleLine P)) → Every Fits ls → Every Chosen ls → Alike eqb (usedLines b ls) (glyphLines ls)
+  unfolding usedLines glyphLines
+  glyph-lines [] f h = λ p q r. refl
+  glyph-lines (l ∷ ls) f h = alike-append eqb eqb-refl eqb-trans (usedLine b l) (glyphLine l) (usedLines b ls) (glyphLines ls) (glyph-line l (f .0) (h .0)) (glyph-lines ls (f .1) (h .1))
+
+  -- what an undeclared Γ holds besides the blank, from the lines of rules
+  pub infer-glyphs : (sigma : Option (List (Located P RawSymbol))) (ls : List (RuleLine P)) (input : List ℕ) → Every Fits ls → Every Chosen ls
+      → fresh eqb (eqb b) (candidates b sigma (expandAll b ls) input) ≡ fresh eqb (eqb b) (elim sigma [ some s ↦ codesOf b s ++ glyphLines ls | none ↦ glyphLines ls ++ input ])
+  infer-glyphs none ls input f h = infer-gamma b none ls input f h ∙ glyph-lines ls f h (eqb b) (codes-respect (eqb b)) input
+  infer-glyphs (some s) ls input f h =
+      infer-gamma b (some s) ls input f h
+      ∙ ap (fresh eqb (eqb b)) (sym (append-nil (codesOf b s ++ usedLines b ls)))
+      ∙ alike-append eqb eqb-refl eqb-trans (codesOf b s) (codesOf b s) (usedLines b ls) (glyphLines ls) (λ p q r. refl) (glyph-lines ls f h) (eqb b) (codes-respect (eqb b)) []
+      ∙ ap (fresh eqb (eqb b)) (append-nil (codesOf b s ++ glyphLines ls))

@@ -16,22 +16,22 @@ index-requires : tie.Need-index-requires
 index-requires c κs = search laws
 
 put-gamma-requires : tie.Need-put-gamma-requires
-put-gamma-requires c κs = search laws
+put-gamma-requires c κs = ?
 
 same-length : tie.Need-same-length
 same-length c = search laws
 
 returns : tie.Need-returns
-returns c = search laws
+returns c = ?
 
 put-codes-requires : tie.Need-put-codes-requires
-put-codes-requires c κs = search laws
+put-codes-requires c κs = ?
 
 same-length-2 : tie.Need-same-length-2
 same-length-2 c = search laws
 
 returns-2 : tie.Need-returns-2
-returns-2 c = search laws
+returns-2 c = ?
 
 pub gamma-spec : {M : Type 1} → statement M
 gamma-spec =

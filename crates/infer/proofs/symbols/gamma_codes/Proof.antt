@@ -10,13 +10,13 @@ note-requires : tie.Need-note-requires
 note-requires c κs = search laws
 
 note-candidates-requires : tie.Need-note-candidates-requires
-note-candidates-requires c κs = search laws
+note-candidates-requires c κs = ?
 
 same-length : tie.Need-same-length
 same-length c = search laws
 
 returns : tie.Need-returns
-returns c = search laws
+returns c = ?
 
 pub gamma-codes-spec : {M : Type 1} → statement M
 gamma-codes-spec = tie.close (tie.spec note-requires note-candidates-requires same-length returns)

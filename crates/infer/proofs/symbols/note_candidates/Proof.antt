@@ -20,19 +20,19 @@ index-requires : tie.Need-index-requires
 index-requires c κs = search laws
 
 note-line-requires : tie.Need-note-line-requires
-note-line-requires c κs = search laws
+note-line-requires c κs = ?
 
 note-rules-requires : tie.Need-note-rules-requires
-note-rules-requires c κs = search laws
+note-rules-requires c κs = ?
 
 same-length : tie.Need-same-length
 same-length c = search laws
 
 returns : tie.Need-returns
-returns c = search laws
+returns c = ?
 
 note-rules-requires-2 : tie.Need-note-rules-requires-2
-note-rules-requires-2 c κs = search laws
+note-rules-requires-2 c κs = ?
 
 element-copy-out-index-2 : tie.Need-element-copy-out-index-2
 element-copy-out-index-2 c = search laws
@@ -41,13 +41,13 @@ index-requires-2 : tie.Need-index-requires-2
 index-requires-2 c κs = search laws
 
 note-input-requires : tie.Need-note-input-requires
-note-input-requires c κs = search laws
+note-input-requires c κs = ?
 
 same-length-2 : tie.Need-same-length-2
 same-length-2 c = search laws
 
 returns-2 : tie.Need-returns-2
-returns-2 c = search laws
+returns-2 c = ?
 
 pub note-candidates-spec : {M : Type 1} → statement M
 note-candidates-spec =

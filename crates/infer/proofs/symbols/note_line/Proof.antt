@@ -16,13 +16,13 @@ wide-requires : tie.Need-wide-requires
 wide-requires c κs = search laws
 
 note-range-requires : tie.Need-note-range-requires
-note-range-requires c κs = search laws
+note-range-requires c κs = ?
 
 same-length : tie.Need-same-length
 same-length c = search laws
 
 returns : tie.Need-returns
-returns c = search laws
+returns c = ?
 
 pub note-line-spec : {M : Type 1} → statement M
 note-line-spec =

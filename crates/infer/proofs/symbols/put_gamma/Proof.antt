@@ -16,7 +16,7 @@ add-put-range : tie.Need-add-put-range
 add-put-range c = search laws
 
 put-range-requires : tie.Need-put-range-requires
-put-range-requires c κs = search laws
+put-range-requires c κs = ?
 
 add-has-blank : tie.Need-add-has-blank
 add-has-blank c = search laws
@@ -28,16 +28,16 @@ same-length : tie.Need-same-length
 same-length c = search laws
 
 returns : tie.Need-returns
-returns c = search laws
+returns c = ?
 
 symbol-requires : tie.Need-symbol-requires
-symbol-requires c κs = search laws
+symbol-requires c κs = ?
 
 same-length-2 : tie.Need-same-length-2
 same-length-2 c = search laws
 
 returns-2 : tie.Need-returns-2
-returns-2 c = search laws
+returns-2 c = ?
 
 pub put-gamma-spec : {M : Type 1} → statement M
 put-gamma-spec =

@@ -19,16 +19,16 @@ index-requires : tie.Need-index-requires
 index-requires c κs = search laws
 
 put-others-requires : tie.Need-put-others-requires
-put-others-requires c κs = search laws
+put-others-requires c κs = ?
 
 same-length : tie.Need-same-length
 same-length c = search laws
 
 returns : tie.Need-returns
-returns c = search laws
+returns c = ?
 
 returns-2 : tie.Need-returns-2
-returns-2 c = search laws
+returns-2 c = ?
 
 add-put-codes : tie.Need-add-put-codes
 add-put-codes c = search laws
@@ -37,13 +37,13 @@ sub-put-codes : tie.Need-sub-put-codes
 sub-put-codes c = search laws
 
 put-codes-requires : tie.Need-put-codes-requires
-put-codes-requires c κs = search laws
+put-codes-requires c κs = ?
 
 same-length-2 : tie.Need-same-length-2
 same-length-2 c = search laws
 
 returns-3 : tie.Need-returns-3
-returns-3 c = search laws
+returns-3 c = ?
 
 pub put-sigma-spec : {M : Type 1} → statement M
 put-sigma-spec =

@@ -25,13 +25,13 @@ index-requires-2 : tie.Need-index-requires-2
 index-requires-2 c κs = search laws
 
 put-range-requires : tie.Need-put-range-requires
-put-range-requires c κs = search laws
+put-range-requires c κs = ?
 
 same-length : tie.Need-same-length
 same-length c = search laws
 
 returns : tie.Need-returns
-returns c = search laws
+returns c = ?
 
 element-copy-out-index-2 : tie.Need-element-copy-out-index-2
 element-copy-out-index-2 c = search laws
@@ -40,13 +40,13 @@ index-requires-3 : tie.Need-index-requires-3
 index-requires-3 c κs = search laws
 
 put-sigma-requires : tie.Need-put-sigma-requires
-put-sigma-requires c κs = search laws
+put-sigma-requires c κs = ?
 
 same-length-2 : tie.Need-same-length-2
 same-length-2 c = search laws
 
 returns-2 : tie.Need-returns-2
-returns-2 c = search laws
+returns-2 c = ?
 
 pub sigma-spec : {M : Type 1} → statement M
 sigma-spec =
