@@ -11,7 +11,7 @@ use lib.ListN.{length, getD, take, drop, set, length-append, length-take, length
 use native.Mathlib.Nat.{add-zero}
 use lib.Seq.{getD-append-add, drop-set-lt, take-append-add, drop-append-add, length-take-le, drop-cons, take-all, drop-length}
 use Rattle.lexer.specs.Words.{onto}
-use Rattle.parser.specs.declared.Token.{Token}
+use Rattle.tokens.specs.declared.Token.{Token}
 use Rattle.parser.specs.declared.Parts.{Parts}
 use Rattle.parser.specs.declared.ItemKind.{ItemKind}
 use Rattle.parser.specs.declared.ItemKind.the-variants.{Machine, Kind, Input, Output, Tapes, States, InputAlphabet, TapeAlphabet, Blank, Start, Final, Transition}
@@ -74,7 +74,7 @@ parts-drop Transition i q ts n h =
     drop-set-lt n (set ts 1 (countsOf q)) 3 (partsOf i q) l ∙ drop-set-lt n ts 1 (countsOf q) (omega arith)
 
 -- the first token of an item's line is its entry
-parts-first : (k : ItemKind) (i : ℕ) (q : Parts) (t : Token) (ts : List Token) → peek (withParts k i q (t ∷ ts)) 0 ≡ t
+pub parts-first : (k : ItemKind) (i : ℕ) (q : Parts) (t : Token) (ts : List Token) → peek (withParts k i q (t ∷ ts)) 0 ≡ t
 unfolding withParts
 parts-first Machine i q t ts = refl
 parts-first Kind i q t ts = refl
@@ -90,7 +90,7 @@ parts-first Final i q t ts = refl
 parts-first Transition i q t ts = refl
 
 -- the tokens behind an item's entry are those up to its line feed
-entry-behind : (i : ℕ) (x : Item) → behind i (itemEntry i x) ≡ x .newline
+pub entry-behind : (i : ℕ) (x : Item) → behind i (itemEntry i x) ≡ x .newline
 unfolding behind itemEntry
 entry-behind i x = rw (le-leb 16 (16 + itemNumber (x .kind)) (omega arith)) (omega arith)
 
@@ -103,7 +103,7 @@ as-drop (Read x) i t ts h =
     let e : Token = itemEntry i x in
     let l : List Token = withParts (x .kind) i (x .parts) (e ∷ ts) in
     let first : behind i (peek l 0) ≡ x .newline = ap (behind i) (parts-first (x .kind) i (x .parts) e ts) ∙ entry-behind i x in
-    let long : x .kind ≡ Transition → 3 < suc (x .newline) = λ k. omega (arith, h .parts k .long) in
+    let long : x .kind ≡ Transition → 3 < suc (x .newline) = λ k. omega (arith, h .parts k .long, h .behind) in
     ap (λ (n : ℕ). drop n (drop 1 l)) first ∙ dropped l (x .newline) ∙ parts-drop (x .kind) i (x .parts) (e ∷ ts) (suc (x .newline)) long ∙ ap (λ (n : ℕ). drop n ts) (sym first)
   where
     dropped : (l : List Token) (n : ℕ) → drop n (drop 1 l) ≡ drop (suc n) l
@@ -112,7 +112,7 @@ as-drop (Read x) i t ts h =
     dropped (t ∷ l) n = refl
 as-drop (Error c s) i t ts h = refl
 
-enter-drop : (i : ℕ) (t : Token) (ts : List Token)
+pub enter-drop : (i : ℕ) (t : Token) (ts : List Token)
     → drop (behind i (peek (enterLine i (t ∷ ts)) 0)) (drop 1 (enterLine i (t ∷ ts))) ≡ drop (behind i (peek (enterLine i (t ∷ ts)) 0)) ts
 unfolding enterLine
 enter-drop i t ts = as-drop (line (t ∷ ts) 0) i t ts (line-in (t ∷ ts))
@@ -129,7 +129,7 @@ left-over (suc b) i (x ∷ m) (t ∷ ts) e =
     ap (λ (l : List Token). x ∷ l) (left-over b (suc i) m ts (omega arith) ∙ ap (λ (k : ℕ). take b m ++ enteredFrom [] k (drop b ts)) z)
 
 -- one line more
-entered-one : (i : ℕ) (t : Token) (ts : List Token)
+pub entered-one : (i : ℕ) (t : Token) (ts : List Token)
     → enteredFrom [] i (t ∷ ts)
     ≡ take (suc (behind i (peek (enterLine i (t ∷ ts)) 0))) (enterLine i (t ∷ ts))
     ++ enteredFrom [] (i + suc (behind i (peek (enterLine i (t ∷ ts)) 0))) (drop (suc (behind i (peek (enterLine i (t ∷ ts)) 0))) (enterLine i (t ∷ ts)))

@@ -5,7 +5,16 @@ pub mod Passes
 pub mod FailureLaws
 pub mod DeclarationLaws
 pub mod RuleLaws
+pub mod Braces
 pub mod Inside
 pub mod LineLaws
 pub mod EnteredLaws
 pub mod NameLaws
+pub mod MarkLaws
+pub mod FinalLaws
+pub mod Means
+pub mod RulesMean
+pub mod FinalsMean
+pub mod SetsMean
+pub mod NamesMean
+pub mod EntriesMean

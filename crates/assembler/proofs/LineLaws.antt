@@ -10,8 +10,8 @@ use mir.Val.{Fits}
 use lib.ListN.{length, take, drop, set, length-drop, length-set, take-append-drop}
 use lib.Seq.{sets, length-sets, drop-set-add, take-set-le}
 use Rattle.lexer.specs.Words.{onto}
-use Rattle.parser.specs.declared.Token.{Token}
-use Rattle.parser.specs.declared.Span.{Span}
+use Rattle.tokens.specs.declared.Token.{Token}
+use Rattle.lexer.specs.declared.Span.{Span}
 use Rattle.parser.specs.declared.Parts.{Parts}
 use Rattle.parser.specs.declared.ItemKind.{ItemKind}
 use Rattle.parser.specs.declared.ItemKind.the-variants.{Machine, Kind, Input, Output, Tapes, States, InputAlphabet, TapeAlphabet, Blank, Start, Final, Transition}
@@ -104,7 +104,7 @@ number-rule Final e = absurd (omega arith)
 number-rule Transition e = refl
 
 -- only a rule has parts
-parts-other : (k : ItemKind) (i : ℕ) (q : Parts) (ts : List Token) → (itemNumber k ≡ 11 → ⊥) → withParts k i q ts ≡ ts
+pub parts-other : (k : ItemKind) (i : ℕ) (q : Parts) (ts : List Token) → (itemNumber k ≡ 11 → ⊥) → withParts k i q ts ≡ ts
 unfolding itemNumber withParts
 parts-other Machine i q ts h = refl
 parts-other Kind i q ts h = refl
@@ -139,11 +139,11 @@ module _ (n i : ℕ) (w : List ℕ) (room : 4 * n ≤ length w) (low : i < n) (f
       is-rule : x .kind ≡ Transition
       is-rule = number-rule (x .kind) (sym number ∙ rule)
 
-      parts-inside : PartsIn rest (x .newline) (x .parts)
+      parts-inside : PartsIn rest (x .end) (x .parts)
       parts-inside = item-inside .parts is-rule
 
       pub rule-room : i + 3 < n
-      rule-room = omega (arith, item-inside .newline, parts-inside .long, rest-length)
+      rule-room = omega (arith, item-inside .low, parts-inside .long, rest-length)
 
       pub rule-fits : PartsFit i (x .parts)
       rule-fits =

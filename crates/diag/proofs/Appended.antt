@@ -4,9 +4,9 @@ use mathlib.Core.Bool.{Bool, true, false, cond}
 use mathlib.Core.List.{List, [], _∷_, _++_, append-nil, append-assoc}
 use Prim.Native.Nat.{ℕ, suc, _+_, _-_, _*_, _/_, _≤_, _<_}
 use native.Mathlib.Omega.{arith}
-use lib.ListN.{length, take, drop, replicate, length-append, length-replicate, length-take}
+use lib.ListN.{length, take, replicate, length-append, length-replicate, length-take}
 use native.Mathlib.Nat.{sub-zero}
-use lib.Seq.{take-nil, take-all, take-append-le, take-at, drop-append-add, sets, sets-eq, length-sets}
+use lib.Seq.{take-nil, take-all, take-append-le, sets, length-sets}
 use lib.Dec.{leb}
 use borrow.Author.Tests.{leb-true, leb-false}
 use Rattle.diag.specs.declared.Diagnostic.{Diagnostic}
@@ -42,19 +42,17 @@ pub length-padded : (n : ℕ) (ds : List Diagnostic) → 5 * length ds ≤ n →
 unfolding padded
 length-padded n ds h = omega (arith, length-append (flat ds) (replicate (n - 5 * length ds) 0), length-flat ds, length-replicate {A = ℕ} (n - 5 * length ds) 0)
 
--- a store behind the records that are there
+-- a record stored behind the words p, over five of the zeros there
+store-behind : (p r : List ℕ) (d : Diagnostic) → sets (p ++ 0 ∷ 0 ∷ 0 ∷ 0 ∷ 0 ∷ r) (length p) (words d) ≡ (p ++ words d) ++ r
+store-behind [] r d = refl
+store-behind (x ∷ p) r d = ap (λ (l : List ℕ). x ∷ l) (store-behind p r d)
+
 padded-more : (n : ℕ) (ds : List Diagnostic) (d : Diagnostic) → 5 * length ds + 5 ≤ n → sets (padded n ds) (5 * length ds) (words d) ≡ padded n (ds ++ d ∷ [])
 unfolding padded flat
 padded-more n ds d h =
-    let z : List ℕ = replicate (n - 5 * length ds) 0 in
     let m : ℕ = n - 5 * length (ds ++ d ∷ []) in
-    let len : 5 * length ds + 5 ≤ length (flat ds ++ z) = omega (arith, length-padded n ds (omega arith)) in
     let e : n - 5 * length ds ≡ suc (suc (suc (suc (suc m)))) = omega (arith, length-append ds (d ∷ [])) in
-    sets-eq (words d) (flat ds ++ z) (5 * length ds) len
-    ∙ ap (λ (p : List ℕ). p ++ words d ++ drop (5 * length ds + 5) (flat ds ++ z)) (take-at (flat ds) z (5 * length ds) (length-flat ds))
-    ∙ ap (λ (k : ℕ). flat ds ++ words d ++ drop (k + 5) (flat ds ++ z)) (sym (length-flat ds))
-    ∙ ap (λ (r : List ℕ). flat ds ++ words d ++ r) (drop-append-add (flat ds) z 5 ∙ ap (λ (k : ℕ). drop 5 (replicate k 0)) e)
-    ∙ ap (λ (p : List ℕ). p ++ replicate m 0) (sym (flat-append ds (d ∷ [])))
+    rw (e, ← length-flat ds, store-behind (flat ds) (replicate m 0) d, flat-append ds (d ∷ []))
 
 given-length : (n : ℕ) (ds : List Diagnostic) → length (padded n (take (n / 5) ds)) ≡ n
 given-length n ds = length-padded n (take (n / 5) ds) (omega (arith, length-take (n / 5) ds))

@@ -66,6 +66,7 @@ pub record Log : Type 0 where
   pub row : List ℕ
   pub count : ℕ
 
+-- the words w with the count n
 abbrev pub logged : List ℕ → ℕ → Log
 logged w n = record { row = w; count = n }
 

@@ -14,7 +14,7 @@ use Rattle.diag.specs.declared.Span.{Span}
 use Rattle.language.specs.Infer.{member}
 use Rattle.language.specs.Layout.{flat}
 use Rattle.language.proofs.Counts.{flat-append}
-use Rattle.parser.specs.declared.Token.{Token}
+use Rattle.tokens.specs.declared.Token.{Token}
 use Rattle.parser.specs.Row.{peek, ended}
 use Rattle.parser.specs.Views.{isSymbol}
 use Rattle.assembler.specs.Rows.{rows, placeOf}

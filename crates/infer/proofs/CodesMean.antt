@@ -7,8 +7,15 @@ use borrow.Author.Tests.{eq-eqb, eqb-true}
 use lib.Dec.{eqb}
 use Rattle.language.specs.Infer.{member, fresh, less}
 use Rattle.language.proofs.Every.{byTest, or-left}
-use Rattle.language.proofs.FirstUse.{fresh-there, fresh-new}
 use Rattle.infer.specs.Codes.{noted, notedAll}
+
+pub fresh-there : (known : ℕ → Bool) (x : ℕ) (l : List ℕ) → known x ≡ true → fresh eqb known (x ∷ l) ≡ fresh eqb known l
+unfolding fresh
+fresh-there known x l e = rw (e, fresh)
+
+pub fresh-new : (known : ℕ → Bool) (x : ℕ) (l : List ℕ) → known x ≡ false → fresh eqb known (x ∷ l) ≡ x ∷ fresh eqb (λ y. eqb x y || known y) l
+unfolding fresh
+fresh-new known x l e = rw (e, fresh)
 
 or-none : (b : Bool) → (b || false) ≡ b
 or-none true = refl
@@ -38,12 +45,12 @@ pub noted-fresh : (cs xs : List ℕ) → notedAll cs xs ≡ cs ++ fresh eqb (mem
 unfolding notedAll fresh
 noted-fresh cs [] = sym (append-nil cs)
 noted-fresh cs (x ∷ xs) = byTest (member eqb cs x)
-    (λ e. ap (λ (l : List ℕ). notedAll l xs) (noted-there cs x e) ∙ noted-fresh cs xs ∙ ap (λ (l : List ℕ). cs ++ l) (sym (fresh-there eqb (member eqb cs) x xs e)))
+    (λ e. ap (λ (l : List ℕ). notedAll l xs) (noted-there cs x e) ∙ noted-fresh cs xs ∙ ap (λ (l : List ℕ). cs ++ l) (sym (fresh-there (member eqb cs) x xs e)))
     (λ e.
     ap (λ (l : List ℕ). notedAll l xs) (noted-new cs x e) ∙ noted-fresh (cs ++ x ∷ []) xs
     ∙ ap (λ (k : ℕ → Bool). (cs ++ x ∷ []) ++ fresh eqb k xs) (fun-ext (member-last cs x))
     ∙ append-assoc cs (x ∷ []) (fresh eqb (λ y. eqb x y || member eqb cs y) xs)
-    ∙ ap (λ (l : List ℕ). cs ++ l) (sym (fresh-new eqb (member eqb cs) x xs e)))
+    ∙ ap (λ (l : List ℕ). cs ++ l) (sym (fresh-new (member eqb cs) x xs e)))
 
 -- the codes of an undeclared Γ
 pub codes-mean : (b : ℕ) (xs : List ℕ) → notedAll (b ∷ []) xs ≡ b ∷ fresh eqb (eqb b) xs
@@ -55,10 +62,10 @@ fresh-lacks : (b : ℕ) (known : ℕ → Bool) (xs : List ℕ) → known b ≡ t
 unfolding fresh less
 fresh-lacks b known [] k = refl
 fresh-lacks b known (x ∷ xs) k = byTest (known x)
-    (λ e. ap (less b) (fresh-there eqb known x xs e) ∙ fresh-lacks b known xs k ∙ sym (fresh-there eqb known x xs e))
+    (λ e. ap (less b) (fresh-there known x xs e) ∙ fresh-lacks b known xs k ∙ sym (fresh-there known x xs e))
     (λ e.
     let other : eqb x b ≡ false = differs (eqb x b) refl e in
-    ap (less b) (fresh-new eqb known x xs e) ∙ rw (other, less) (ap (λ (l : List ℕ). x ∷ l) (fresh-lacks b (λ y. eqb x y || known y) xs (or-known (eqb x b) (known b) k)) ∙ sym (fresh-new eqb known x xs e)))
+    ap (less b) (fresh-new known x xs e) ∙ rw (other, less) (ap (λ (l : List ℕ). x ∷ l) (fresh-lacks b (λ y. eqb x y || known y) xs (or-known (eqb x b) (known b) k)) ∙ sym (fresh-new known x xs e)))
   where
     differs : (t : Bool) → eqb x b ≡ t → known x ≡ false → eqb x b ≡ false
     differs true q e = absurd (false≢true (sym e ∙ ap known (eqb-true x b q) ∙ k))

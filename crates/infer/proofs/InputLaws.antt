@@ -12,7 +12,7 @@ use Rattle.chars.specs.declared.Decoded.{Decoded}
 use Rattle.chars.specs.declared.Decoded.the-variants.{Char, Invalid, End}
 use Rattle.chars.proofs.Laws.{char-decode, invalid-decode, end-decode}
 use Rattle.lexer.specs.Places.{rest}
-use Rattle.parser.specs.declared.Token.{Token}
+use Rattle.tokens.specs.declared.Token.{Token}
 use Rattle.parser.specs.Row.{peek}
 use Rattle.assembler.specs.Rows.{rows}
 use Rattle.assembler.proofs.Rows.{length-rows}

@@ -10,7 +10,7 @@ use borrow.Author.Tests.{eq-eqb, ne-eqb}
 use lib.Dec.{eqb}
 use lib.ListN.{length, getD, take, drop, set, length-set, drop-of-length-le, length-take}
 use lib.Seq.{sets, take-set-le, getD-take, take-take, drop-cons}
-use Rattle.parser.specs.declared.Token.{Token}
+use Rattle.tokens.specs.declared.Token.{Token}
 use Rattle.parser.specs.Row.{tokensIn, peek, ended}
 use Rattle.parser.specs.Views.{isState}
 use Rattle.assembler.specs.Rows.{rows}

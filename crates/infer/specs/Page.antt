@@ -5,7 +5,7 @@ use mathlib.Core.Bool.{true, false}
 use mathlib.Core.List.{List, [], _∷_}
 use lib.Dec.{eqb}
 use lib.ListN.{length, getD, take, drop}
-use Rattle.parser.specs.declared.Token.{Token}
+use Rattle.tokens.specs.declared.Token.{Token}
 
 -- the words of work, those of the sheet, and the index at which the next go there
 pub record Page : Type 0 where

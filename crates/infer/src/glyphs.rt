@@ -13,8 +13,8 @@ ghost use Rattle.infer.specs.Symbols.{range, symbols, takes, walked, fir
 use crate::codes;
 use assembler::entry;
 use sheet::rules;
-use parser::Token;
-use parser::kind;
+use tokens::Token;
+use lexer::kind;
 use parser::view;
 
 // The number of a rule's item.

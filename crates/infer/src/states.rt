@@ -10,8 +10,8 @@ ghost use Rattle.infer.specs.Page.{page, indicesIn};
 ghost use Rattle.infer.specs.States.{markAt, Scratch, unmarked, listFinal, listFinals, stateNamed, named, namedAll, mention, mentions, startName, inferred, states, finals};
 use crate::put;
 use assembler::entry;
-use parser::Token;
-use parser::kind;
+use tokens::Token;
+use lexer::kind;
 use parser::view;
 
 // The numbers of items.

@@ -16,7 +16,7 @@ use crate::glyphs;
 use crate::input;
 use assembler::entry;
 use diag::Span;
-use parser::Token;
+use tokens::Token;
 use parser::view;
 use sheet::put;
 use sheet::rules;

@@ -1,43 +1,83 @@
 -- What holds of each line's names, strings and comments holds of the rules, the comments and the machine that they make.
-use Prim.Native.Nat.{ℕ, zero, suc, _+_}
-use mathlib.Core.Bool.{Bool, true, false, _&&_, _||_, not}
-use mathlib.Core.List.{List, [], _∷_, _++_, map}
+use Prim.Native.Nat.{ℕ}
+use mathlib.Core.Bool.{Bool, true, false, _||_}
+use mathlib.Core.List.{List, [], _∷_, _++_}
 use mathlib.Core.Option.{Option, none, some}
-use mathlib.Core.Path.{_≡_, refl, ap, _∙_, sym}
-use lib.Dec.{eqb, leb}
-use lib.ListN.{length}
-use Rattle.language.specs.Machine.{Located, Kind, Decoder, State, Action, Rule, Symbol, Machine}
-use Rattle.language.specs.Lines.{
-  RawSymbol,
-  RawDecoder,
-  RawTransition,
-  Text,
-  Item,
-  machineItem,
-  inputItem,
-  kindItem,
-  outputItem,
-  tapesItem,
-  statesItem,
-  finalItem,
-  inputAlphabetItem,
-  tapeAlphabetItem,
-  blankItem,
-  startItem,
-  transitionItem,
-  Line,
-  blankLine,
-  commentLine,
-  itemLine,
-  errorLine,
-}
-use Rattle.language.specs.Assembly.{Parts, parts, items, first, found, orElse, resolve, blankOf, statesIn, finalsIn, RuleLine, Body, ofOption, addHeader, addRule, atEnd, leads, unled, attachItem, attach, bodyOf, combinations, verdict, expands, kept, choices, ruleOf, dressed, expand, expandAll}
+use mathlib.Core.Path.{_≡_, refl, sym, subst}
+use Rattle.language.specs.Machine.{Located, Rule, Machine}
+use Rattle.language.specs.Lines.{RawSymbol, RawTransition, Text, Item, machineItem, inputItem, kindItem, outputItem, tapesItem, statesItem, finalItem, inputAlphabetItem, tapeAlphabetItem, blankItem, startItem, transitionItem, Line, blankLine, commentLine, itemLine, errorLine}
+use Rattle.language.specs.Assembly.{Parts, parts, items, first, found, orElse, blankOf, statesIn, finalsIn, RuleLine, Body, ofOption, addHeader, addRule, atEnd, leads, unled, attachItem, attach, bodyOf, kept, choices, ruleOf, dressed, expand, expandAll}
 use Rattle.language.specs.Infer.{sameName, member, fresh, nothing, mentions, inferStates, marked, head, between, machineOf}
-use Rattle.language.proofs.Every.{byTest, Every, Maybe, Filled, every-append, every-any, every-map, every-impl}
-use Rattle.language.proofs.ParseHolds.{Goods, GoodRaw, GoodItem, GoodLine}
+use Rattle.language.proofs.Every.{byTest, Every, Maybe, every-append, every-any, every-map}
+use Rattle.language.proofs.ParseHolds.{Goods, GoodRaw, GoodDecoder, GoodItem, GoodLine}
 use Rattle.language.proofs.Counts.{kept-every}
 
 module _ {P : Type 0} (S : Goods P) where
+  -- ---- declarations
+
+  -- what an item has in its columns
+  pub record GoodParts (p : Parts P) : Type 0 where
+    pub machine-part : Maybe (λ x. S .text (x .value)) (p .machine)
+    pub input-part : Maybe (λ x. S .text (x .value)) (p .input)
+    pub output-part : Maybe (GoodDecoder S) (p .output)
+    pub states-part : Maybe (Every (S .name)) (p .states)
+    pub sigma-part : Maybe (Every (λ s. S .sym (s .value))) (p .sigma)
+    pub gamma-part : Maybe (Every (λ s. S .sym (s .value))) (p .gamma)
+    pub blank-part : Maybe (S .sym) (p .blank)
+    pub start-part : Maybe (S .name) (p .start)
+    pub finals-part : Maybe (Every (S .name)) (p .finals)
+    pub rule-part : Maybe (GoodRaw S) (p .rule)
+
+  good-parts : {p : Parts P} → Maybe (λ x. S .text (x .value)) (p .machine) → Maybe (λ x. S .text (x .value)) (p .input) → Maybe (GoodDecoder S) (p .output) → Maybe (Every (S .name)) (p .states)
+      → Maybe (Every (λ s. S .sym (s .value))) (p .sigma) → Maybe (Every (λ s. S .sym (s .value))) (p .gamma) → Maybe (S .sym) (p .blank) → Maybe (S .name) (p .start) → Maybe (Every (S .name)) (p .finals)
+      → Maybe (GoodRaw S) (p .rule) → GoodParts p
+  good-parts a b c d e f g h i j = record {
+    machine-part = a;
+    input-part = b;
+    output-part = c;
+    states-part = d;
+    sigma-part = e;
+    gamma-part = f;
+    blank-part = g;
+    start-part = h;
+    finals-part = i;
+    rule-part = j;
+  }
+
+  parts-good : (i : Item P) → GoodItem S i → GoodParts (parts i)
+  unfolding parts
+  parts-good (machineItem x) h = good-parts h tt tt tt tt tt tt tt tt tt
+  parts-good (inputItem x) h = good-parts tt h tt tt tt tt tt tt tt tt
+  parts-good (kindItem x) h = good-parts tt tt tt tt tt tt tt tt tt tt
+  parts-good (outputItem x) h = good-parts tt tt h tt tt tt tt tt tt tt
+  parts-good (tapesItem x) h = good-parts tt tt tt tt tt tt tt tt tt tt
+  parts-good (statesItem x) h = good-parts tt tt tt h tt tt tt tt tt tt
+  parts-good (inputAlphabetItem x) h = good-parts tt tt tt tt h tt tt tt tt tt
+  parts-good (tapeAlphabetItem x) h = good-parts tt tt tt tt tt h tt tt tt tt
+  parts-good (blankItem x) h = good-parts tt tt tt tt tt tt h tt tt tt
+  parts-good (startItem x) h = good-parts tt tt tt tt tt tt tt h tt tt
+  parts-good (finalItem x) h = good-parts tt tt tt tt tt tt tt tt h tt
+  parts-good (transitionItem x) h = good-parts tt tt tt tt tt tt tt tt tt h
+
+  pub items-good : (ls : List (Line P)) → Every (GoodLine S) ls → Every (λ i. GoodItem S (i .value)) (items ls)
+  unfolding items
+  items-good [] g = tt
+  items-good (blankLine ∷ ls) g = items-good ls (g .1)
+  items-good (commentLine c ∷ ls) g = items-good ls (g .1)
+  items-good (errorLine n p ∷ ls) g = items-good ls (g .1)
+  items-good (itemLine i p c ∷ ls) g = (g .0 .0, items-good ls (g .1))
+
+  -- what is found first is good if every item's part is
+  pub found-good : {A : Type 0} (good : A → Type 0) (part : Parts P → Option A) → ((p : Parts P) → GoodParts p → Maybe good (part p)) → (is : List (Located P (Item P)))
+      → Every (λ i. GoodItem S (i .value)) is → Maybe good (found (first part is))
+  unfolding first found
+  found-good good part e [] g = tt
+  found-good good part e (i ∷ is) g = byPart (part (parts (i .value))) refl (e (parts (i .value)) (parts-good (i .value) (g .0))) (found-good good part e is (g .1))
+    where
+      byPart : (o : Option _) → part (parts (i .value)) ≡ o → Maybe good (part (parts (i .value))) → Maybe good (found (first part is)) → Maybe good (found (first part (i ∷ is)))
+      byPart none q h k = rw (q, first) k
+      byPart (some a) q h k = rw (q, first) (subst (Maybe good) q h)
+
   -- ---- rules and comments
 
   abbrev Notes : List (Located P (List ℕ)) → Type 0
@@ -77,13 +117,9 @@ module _ {P : Type 0} (S : Goods P) where
   unfolding addHeader
   header-added cs b h g = record { header-good = every-append (S .note) cs (b .header) h (g .header-good); rules-good = g .rules-good; trailing-good = g .trailing-good }
 
-  -- the rule of an item, if it is one
-  GoodRule : Option (RawTransition P) → Type 0
-  GoodRule o = Maybe (GoodRaw S) o
-
   item-good : (o : Option (RawTransition P)) (seen : Bool) (old block : List (Located P (List ℕ))) (p : P) (c : Option (Located P (List ℕ))) (b : Body P)
-      → GoodRule o → Notes old → Notes block → Maybe (S .note) c → GoodBody b → GoodBody (attachItem o seen old block p c b)
-  unfolding attachItem addRule GoodRule
+      → Maybe (GoodRaw S) o → Notes old → Notes block → Maybe (S .note) c → GoodBody b → GoodBody (attachItem o seen old block p c b)
+  unfolding attachItem addRule
   item-good none seen old block p c b r h k n g =
       header-added (old ++ block ++ ofOption c) b (every-append (S .note) (old ++ block) (ofOption c) (every-append (S .note) old block h k) (option-notes c n)) g
   item-good (some raw) seen old block p c b r h k n g =
@@ -93,21 +129,6 @@ module _ {P : Type 0} (S : Goods P) where
         trailing-good = g .trailing-good;
       })
 
-  rule-good : (i : Item P) → GoodItem S i → GoodRule (parts i .rule)
-  unfolding parts GoodRule
-  rule-good (machineItem x) h = tt
-  rule-good (kindItem x) h = tt
-  rule-good (inputItem x) h = tt
-  rule-good (outputItem x) h = tt
-  rule-good (tapesItem x) h = tt
-  rule-good (statesItem x) h = tt
-  rule-good (inputAlphabetItem x) h = tt
-  rule-good (tapeAlphabetItem x) h = tt
-  rule-good (blankItem x) h = tt
-  rule-good (startItem x) h = tt
-  rule-good (finalItem x) h = tt
-  rule-good (transitionItem x) h = h
-
   attach-good : (seen : Bool) (old block : List (Located P (List ℕ))) (ls : List (Line P)) → Notes old → Notes block → Every (GoodLine S) ls → GoodBody (attach seen old block ls)
   unfolding attach
   attach-good seen old block [] h k g = end-good seen (old ++ block) (every-append (S .note) old block h k)
@@ -115,108 +136,12 @@ module _ {P : Type 0} (S : Goods P) where
   attach-good seen old block (commentLine c ∷ ls) h k g = attach-good seen old (block ++ c ∷ []) ls h (every-append (S .note) block (c ∷ []) k (g .0, tt)) (g .1)
   attach-good seen old block (errorLine n p ∷ ls) h k g = attach-good true [] [] ls tt tt (g .1)
   attach-good seen old block (itemLine i p c ∷ ls) h k g =
-      item-good (parts i .rule) seen old block p c (attach true [] [] ls) (rule-good i (g .0 .0)) h k (g .0 .1) (attach-good true [] [] ls tt tt (g .1))
+      item-good (parts i .rule) seen old block p c (attach true [] [] ls) (parts-good i (g .0 .0) .rule-part) h k (g .0 .1) (attach-good true [] [] ls tt tt (g .1))
 
   -- the rules and comments of good lines are good
   pub body-good : (ls : List (Line P)) → Every (GoodLine S) ls → GoodBody (bodyOf ls)
   unfolding bodyOf
   body-good ls g = attach-good false [] [] ls tt tt g
-
-  -- ---- declarations
-
-  items-good : (ls : List (Line P)) → Every (GoodLine S) ls → Every (λ i. GoodItem S (i .value)) (items ls)
-  unfolding items
-  items-good [] g = tt
-  items-good (blankLine ∷ ls) g = items-good ls (g .1)
-  items-good (commentLine c ∷ ls) g = items-good ls (g .1)
-  items-good (errorLine n p ∷ ls) g = items-good ls (g .1)
-  items-good (itemLine i p c ∷ ls) g = (g .0 .0, items-good ls (g .1))
-
-  -- what is found first is good if every item's part is
-  first-good : {A : Type 0} (good : A → Type 0) (part : Parts P → Option A) → ((i : Item P) → GoodItem S i → Maybe good (part (parts i))) → (is : List (Located P (Item P)))
-      → Every (λ i. GoodItem S (i .value)) is → Maybe good (found (first part is))
-  unfolding first found
-  first-good good part e [] g = tt
-  first-good good part e (i ∷ is) g = byPart (part (parts (i .value))) refl (e (i .value) (g .0)) (first-good good part e is (g .1))
-    where
-      byPart : (o : Option _) → part (parts (i .value)) ≡ o → Maybe good o → Maybe good (found (first part is)) → Maybe good (found (first part (i ∷ is)))
-      byPart none q h k = rw (q, first) k
-      byPart (some a) q h k = rw (q, first) h
-
-  machine-part : (i : Item P) → GoodItem S i → Maybe (λ x. S .text (x .value)) (parts i .machine)
-  unfolding parts
-  machine-part (machineItem x) h = h
-  machine-part (kindItem x) h = tt
-  machine-part (inputItem x) h = tt
-  machine-part (outputItem x) h = tt
-  machine-part (tapesItem x) h = tt
-  machine-part (statesItem x) h = tt
-  machine-part (inputAlphabetItem x) h = tt
-  machine-part (tapeAlphabetItem x) h = tt
-  machine-part (blankItem x) h = tt
-  machine-part (startItem x) h = tt
-  machine-part (finalItem x) h = tt
-  machine-part (transitionItem x) h = tt
-
-  input-part : (i : Item P) → GoodItem S i → Maybe (λ x. S .text (x .value)) (parts i .input)
-  unfolding parts
-  input-part (machineItem x) h = tt
-  input-part (kindItem x) h = tt
-  input-part (inputItem x) h = h
-  input-part (outputItem x) h = tt
-  input-part (tapesItem x) h = tt
-  input-part (statesItem x) h = tt
-  input-part (inputAlphabetItem x) h = tt
-  input-part (tapeAlphabetItem x) h = tt
-  input-part (blankItem x) h = tt
-  input-part (startItem x) h = tt
-  input-part (finalItem x) h = tt
-  input-part (transitionItem x) h = tt
-
-  states-part : (i : Item P) → GoodItem S i → Maybe (Every (S .name)) (parts i .states)
-  unfolding parts
-  states-part (machineItem x) h = tt
-  states-part (kindItem x) h = tt
-  states-part (inputItem x) h = tt
-  states-part (outputItem x) h = tt
-  states-part (tapesItem x) h = tt
-  states-part (statesItem x) h = h
-  states-part (inputAlphabetItem x) h = tt
-  states-part (tapeAlphabetItem x) h = tt
-  states-part (blankItem x) h = tt
-  states-part (startItem x) h = tt
-  states-part (finalItem x) h = tt
-  states-part (transitionItem x) h = tt
-
-  start-part : (i : Item P) → GoodItem S i → Maybe (S .name) (parts i .start)
-  unfolding parts
-  start-part (machineItem x) h = tt
-  start-part (kindItem x) h = tt
-  start-part (inputItem x) h = tt
-  start-part (outputItem x) h = tt
-  start-part (tapesItem x) h = tt
-  start-part (statesItem x) h = tt
-  start-part (inputAlphabetItem x) h = tt
-  start-part (tapeAlphabetItem x) h = tt
-  start-part (blankItem x) h = tt
-  start-part (startItem x) h = h
-  start-part (finalItem x) h = tt
-  start-part (transitionItem x) h = tt
-
-  finals-part : (i : Item P) → GoodItem S i → Maybe (Every (S .name)) (parts i .finals)
-  unfolding parts
-  finals-part (machineItem x) h = tt
-  finals-part (kindItem x) h = tt
-  finals-part (inputItem x) h = tt
-  finals-part (outputItem x) h = tt
-  finals-part (tapesItem x) h = tt
-  finals-part (statesItem x) h = tt
-  finals-part (inputAlphabetItem x) h = tt
-  finals-part (tapeAlphabetItem x) h = tt
-  finals-part (blankItem x) h = tt
-  finals-part (startItem x) h = tt
-  finals-part (finalItem x) h = h
-  finals-part (transitionItem x) h = tt
 
   -- ---- inference
 
@@ -285,7 +210,7 @@ module _ {P : Type 0} (S : Goods P) where
     pub trailing-good : Notes (m .trailing)
     pub rules-good : Every GoodRuleOf (m .rules)
 
-  kept-good : (ls : List (Line P)) → Every (GoodLine S) ls → Every GoodRuleLine (kept 0 (bodyOf ls .rules))
+  pub kept-good : (ls : List (Line P)) → Every (GoodLine S) ls → Every GoodRuleLine (kept 0 (bodyOf ls .rules))
   kept-good ls g = kept-every GoodRuleLine GoodRuleLine (λ n l h e. h) 0 (bodyOf ls .rules) (body-good ls g .rules-good)
 
   -- the machine of good lines is good
@@ -297,16 +222,16 @@ module _ {P : Type 0} (S : Goods P) where
       let rules : List (Rule P) = expandAll (blankOf is) (kept 0 (bodyOf ls .rules)) in
       let gr : Every GoodRuleOf rules = expand-good (blankOf is) (kept 0 (bodyOf ls .rules)) (kept-good ls g) in
       let start : Option (Located P (List ℕ)) = found (first (λ p. p .start) is) in
-      let gs : Maybe (S .name) start = first-good (S .name) (λ p. p .start) start-part is gi in
+      let gs : Maybe (S .name) start = found-good (S .name) (λ p. p .start) (λ p k. k .start-part) is gi in
       let finals : List (Located P (List ℕ)) = fresh sameName nothing (finalsIn is) in
-      let gf : Every (S .name) finals = fresh-good nothing (finalsIn is) (else-good (Every (S .name)) (found (first (λ p. p .finals) is)) [] (first-good (Every (S .name)) (λ p. p .finals) finals-part is gi) tt) in
+      let gf : Every (S .name) finals = fresh-good nothing (finalsIn is) (else-good (Every (S .name)) (found (first (λ p. p .finals) is)) [] (found-good (Every (S .name)) (λ p. p .finals) (λ p k. k .finals-part) is gi) tt) in
       let mentioned : List (Located P (List ℕ)) = ofOption start ++ mentions rules ++ finals in
       let gm : Every (S .name) mentioned = every-append (S .name) (ofOption start ++ mentions rules) finals (every-append (S .name) (ofOption start) (mentions rules) (option-names start gs) (mentions-good rules gr)) gf in
       let names : List (Located P (List ℕ)) = orElse (statesIn is) (inferStates start rules finals) in
-      let gn : Every (S .name) names = else-good (Every (S .name)) (statesIn is) (inferStates start rules finals) (first-good (Every (S .name)) (λ p. p .states) states-part is gi) (fresh-good nothing mentioned gm) in
+      let gn : Every (S .name) names = else-good (Every (S .name)) (statesIn is) (inferStates start rules finals) (found-good (Every (S .name)) (λ p. p .states) (λ p k. k .states-part) is gi) (fresh-good nothing mentioned gm) in
       record {
-        name-good = between-good (found (first (λ p. p .machine) is)) (first-good (λ x. S .text (x .value)) (λ p. p .machine) machine-part is gi);
-        input-good = between-good (found (first (λ p. p .input) is)) (first-good (λ x. S .text (x .value)) (λ p. p .input) input-part is gi);
+        name-good = between-good (found (first (λ p. p .machine) is)) (found-good (λ x. S .text (x .value)) (λ p. p .machine) (λ p k. k .machine-part) is gi);
+        input-good = between-good (found (first (λ p. p .input) is)) (found-good (λ x. S .text (x .value)) (λ p. p .input) (λ p k. k .input-part) is gi);
         start-good = head-good (ofOption start ++ names) (every-append (S .name) (ofOption start) names (option-names start gs) gn);
         states-good = marked-good (member sameName finals) nothing names gn;
         header-good = body-good ls g .header-good;

@@ -1,38 +1,38 @@
 -- Places do not steer assembly either: the facts and the codes of the diagnostics are those of the lines without places.
-use Prim.Native.Nat.{ℕ, zero, suc, _+_, _*_}
+use Prim.Native.Nat.{ℕ, _+_, _*_}
 use mathlib.Core.Bool.{Bool, true, false, _&&_}
 use mathlib.Core.List.{List, [], _∷_, _++_, map, map-map}
 use mathlib.Core.Option.{Option, none, some}
 use mathlib.Core.Path.{_≡_, refl, ap, ap₂, _∙_, sym}
 use lib.Dec.{eqb, leb}
-use lib.ListN.{length, length-map}
+use lib.ListN.{length-map}
 use Rattle.lexer.specs.Text.{same}
-use Rattle.language.specs.Machine.{Located, Kind, Dir, Action, Rule}
-use Rattle.language.specs.Content.{ActionContent, RuleContent, optional, values, ruleContent}
-use Rattle.language.specs.Lines.{RawSymbol, rawBlank, RawDecoder, RawTransition, Text, Item, machineItem, inputItem, kindItem, outputItem, tapesItem, statesItem, finalItem, inputAlphabetItem, tapeAlphabetItem, blankItem, startItem, transitionItem, Line, blankLine, commentLine, itemLine, errorLine}
+use Rattle.language.specs.Machine.{Located, Dir, Action}
+use Rattle.language.specs.Content.{ActionContent, optional, values, ruleContent}
+use Rattle.language.specs.Lines.{RawSymbol, rawBlank, RawTransition, Item, machineItem, inputItem, kindItem, outputItem, tapesItem, statesItem, finalItem, inputAlphabetItem, tapeAlphabetItem, blankItem, startItem, transitionItem, Line, blankLine, commentLine, itemLine, errorLine}
 use Rattle.language.specs.Assembly.{Parts, parts, items, first, found, orElse, resolve, blankOf, statesIn, finalsIn, RuleLine, Body, ofOption, addHeader, addRule, atEnd, leads, unled, attachItem, attach, bodyOf, combinations, Verdict, expands, wrongArity, tooMany, verdict, kept, eachFront, choices, written, actions, ruleOf, dressed, expand, expandAll, Diagnostic, diagnostic, lineErrors, declaration, isNumber, declaredAt, earlier, tapesError, declarationError, declarationErrors, listedAt, unknownError, finalError, finalErrors, ruleErrors, diagnosticsOf}
-use Rattle.language.proofs.Every.{byTest, map-ext}
-use Rattle.language.proofs.Facts.{Facts, mapOption, factsFrom, factsOf, map-append}
+use Rattle.language.proofs.Every.{byTest}
+use Rattle.language.proofs.Facts.{mapOption, factsFrom, factsOf, map-append}
 use Rattle.language.proofs.ParsePlaces.{onLoc, onText, onRaw, onItem, onLine}
 
-found-none : {P A : Type 0} (part : Parts P → Option A) (i : Located P (Item P)) (is : List (Located P (Item P))) → part (parts (i .value)) ≡ none → found (first part (i ∷ is)) ≡ found (first part is)
+pub found-none : {P A : Type 0} (part : Parts P → Option A) (i : Located P (Item P)) (is : List (Located P (Item P))) → part (parts (i .value)) ≡ none → found (first part (i ∷ is)) ≡ found (first part is)
 unfolding first
 found-none part i is e = rw (e, first)
 
-found-some : {P A : Type 0} (part : Parts P → Option A) (i : Located P (Item P)) (is : List (Located P (Item P))) {a : A} → part (parts (i .value)) ≡ some a → found (first part (i ∷ is)) ≡ some a
+pub found-some : {P A : Type 0} (part : Parts P → Option A) (i : Located P (Item P)) (is : List (Located P (Item P))) {a : A} → part (parts (i .value)) ≡ some a → found (first part (i ∷ is)) ≡ some a
 unfolding first found
 found-some part i is e = rw (e, first)
 
 module _ {P : Type 0} (n : ℕ) (r : RuleLine P) (rs : List (RuleLine P)) where
-  kept-expands : verdict n (r .raw) ≡ expands → kept n (r ∷ rs) ≡ r ∷ kept (n + combinations (r .raw .read)) rs
+  pub kept-expands : verdict n (r .raw) ≡ expands → kept n (r ∷ rs) ≡ r ∷ kept (n + combinations (r .raw .read)) rs
   unfolding kept
   kept-expands e = rw (e, kept)
 
-  kept-arity : verdict n (r .raw) ≡ wrongArity → kept n (r ∷ rs) ≡ kept n rs
+  pub kept-arity : verdict n (r .raw) ≡ wrongArity → kept n (r ∷ rs) ≡ kept n rs
   unfolding kept
   kept-arity e = rw (e, kept)
 
-  kept-many : verdict n (r .raw) ≡ tooMany → kept n (r ∷ rs) ≡ kept n rs
+  pub kept-many : verdict n (r .raw) ≡ tooMany → kept n (r ∷ rs) ≡ kept n rs
   unfolding kept
   kept-many e = rw (e, kept)
 
@@ -43,10 +43,71 @@ each-natural g (a ∷ s) ls =
     ap₂ (λ x y. x ++ y) (map-map (λ l. g a ∷ l) (map g) ls ∙ sym (map-map (map g) (λ l. a ∷ l) ls)) (each-natural g s ls)
     ∙ sym (map-append (map g) (map (λ l. a ∷ l) ls) (eachFront s ls))
 
-choices-natural : {A B : Type 0} (g : A → B) (ss : List (List A)) → choices (map (map g) ss) ≡ map (map g) (choices ss)
+pub choices-natural : {A B : Type 0} (g : A → B) (ss : List (List A)) → choices (map (map g) ss) ≡ map (map g) (choices ss)
 unfolding choices
 choices-natural g [] = refl
 choices-natural g (s ∷ ss) = ap (eachFront (map g s)) (choices-natural g ss) ∙ each-natural g s (choices ss)
+
+declared-yes : {P : Type 0} (n : ℕ) (i : Located P (Item P)) (is : List (Located P (Item P))) → isNumber n (declaration (i .value)) ≡ true → declaredAt n (i ∷ is) ≡ some (i .place)
+unfolding declaredAt
+declared-yes n i is e = rw (e, declaredAt)
+
+declared-no : {P : Type 0} (n : ℕ) (i : Located P (Item P)) (is : List (Located P (Item P))) → isNumber n (declaration (i .value)) ≡ false → declaredAt n (i ∷ is) ≡ declaredAt n is
+unfolding declaredAt
+declared-no n i is e = rw (e, declaredAt)
+
+module _ {P : Type 0} where
+  twice-none : (before : List (Located P (Item P))) (i : Located P (Item P)) → earlier (declaration (i .value)) before ≡ none → declarationError before i ≡ tapesError (parts (i .value) .tapes)
+  unfolding declarationError
+  twice-none before i e = rw (e, declarationError)
+
+  twice-some : (before : List (Located P (Item P))) (i : Located P (Item P)) (p : P) → earlier (declaration (i .value)) before ≡ some p → declarationError before i ≡ diagnostic 11 (i .place) (some p) ∷ []
+  unfolding declarationError
+  twice-some before i p e = rw (e, declarationError)
+
+  listed-yes : (w : List ℕ) (x : Located P (List ℕ)) (l : List (Located P (List ℕ))) → same (x .value) w ≡ true → listedAt w (x ∷ l) ≡ some (x .place)
+  unfolding listedAt
+  listed-yes w x l e = rw (e, listedAt)
+
+  listed-no : (w : List ℕ) (x : Located P (List ℕ)) (l : List (Located P (List ℕ))) → same (x .value) w ≡ false → listedAt w (x ∷ l) ≡ listedAt w l
+  unfolding listedAt
+  listed-no w x l e = rw (e, listedAt)
+
+  unknown-absent : (q : List (Located P (List ℕ))) (x : Located P (List ℕ)) → listedAt (x .value) q ≡ none → unknownError (some q) x ≡ diagnostic 3 (x .place) none ∷ []
+  unfolding unknownError
+  unknown-absent q x e = rw (e, unknownError)
+
+  unknown-there : (q : List (Located P (List ℕ))) (x : Located P (List ℕ)) (p : P) → listedAt (x .value) q ≡ some p → unknownError (some q) x ≡ []
+  unfolding unknownError
+  unknown-there q x p e = rw (e, unknownError)
+
+  final-new : (q : Option (List (Located P (List ℕ)))) (before : List (Located P (List ℕ))) (x : Located P (List ℕ)) → listedAt (x .value) before ≡ none → finalError q before x ≡ unknownError q x
+  unfolding finalError
+  final-new q before x e = rw (e, finalError)
+
+  final-repeat : (q : Option (List (Located P (List ℕ)))) (before : List (Located P (List ℕ))) (x : Located P (List ℕ)) (p : P) → listedAt (x .value) before ≡ some p → finalError q before x ≡ diagnostic 11 (x .place) (some p) ∷ []
+  unfolding finalError
+  final-repeat q before x p e = rw (e, finalError)
+
+module _ {P : Type 0} (n : ℕ) (r : RuleLine P) (rs : List (RuleLine P)) where
+  pub error-expands : (cut : Bool) → verdict n (r .raw) ≡ expands → ruleErrors n cut (r ∷ rs) ≡ ruleErrors (n + combinations (r .raw .read)) cut rs
+  unfolding ruleErrors
+  error-expands cut e = rw (e, ruleErrors)
+
+  pub error-arity : (cut : Bool) → verdict n (r .raw) ≡ wrongArity → ruleErrors n cut (r ∷ rs) ≡ diagnostic 10 (r .line) none ∷ ruleErrors n cut rs
+  unfolding ruleErrors
+  error-arity cut e = rw (e, ruleErrors)
+
+  pub error-many : verdict n (r .raw) ≡ tooMany → ruleErrors n false (r ∷ rs) ≡ diagnostic 9 (r .line) none ∷ ruleErrors n true rs
+  unfolding ruleErrors
+  error-many e = rw (e, ruleErrors)
+
+  error-more : verdict n (r .raw) ≡ tooMany → ruleErrors n true (r ∷ rs) ≡ ruleErrors n true rs
+  unfolding ruleErrors
+  error-more e = rw (e, ruleErrors)
+
+four-append : {A B : Type 0} (g : A → B) (a b c d : List A) → map g (a ++ (b ++ (c ++ d))) ≡ map g a ++ (map g b ++ (map g c ++ map g d))
+four-append g a b c d = map-append g a (b ++ (c ++ d)) ∙ ap (λ t. map g a ++ t) (map-append g b (c ++ d) ∙ ap (λ t. map g b ++ t) (map-append g c d))
 
 -- a verdict from the numbers of entries written, read and moved, and of rules
 abbrev judge : ℕ → ℕ → ℕ → ℕ → Verdict
@@ -286,3 +347,132 @@ module _ {P Q : Type 0} (f : P → Q) where
   pub facts-natural : (ls : List (Line P)) → factsOf (map (onLine f) ls) ≡ factsOf ls
   unfolding factsOf
   facts-natural ls = ap₂ factsFrom (items-natural ls) (body-natural ls) ∙ from-natural (items ls) (bodyOf ls)
+
+  -- ---- diagnostics
+
+  abbrev onDiagnostic : Diagnostic P → Diagnostic Q
+  onDiagnostic d = record { code = d .code; place = f (d .place); related = mapOption f (d .related) }
+
+  errors-natural : (ls : List (Line P)) → lineErrors (map (onLine f) ls) ≡ map onDiagnostic (lineErrors ls)
+  unfolding lineErrors
+  errors-natural [] = refl
+  errors-natural (blankLine ∷ ls) = errors-natural ls
+  errors-natural (commentLine c ∷ ls) = errors-natural ls
+  errors-natural (itemLine i p c ∷ ls) = errors-natural ls
+  errors-natural (errorLine n p ∷ ls) = ap (λ t. diagnostic n (f p) none ∷ t) (errors-natural ls)
+
+  number-natural : (i : Item P) → declaration (onItem f i) ≡ declaration i
+  unfolding declaration
+  number-natural (machineItem x) = refl
+  number-natural (kindItem x) = refl
+  number-natural (inputItem x) = refl
+  number-natural (outputItem x) = refl
+  number-natural (tapesItem x) = refl
+  number-natural (statesItem x) = refl
+  number-natural (inputAlphabetItem x) = refl
+  number-natural (tapeAlphabetItem x) = refl
+  number-natural (blankItem x) = refl
+  number-natural (startItem x) = refl
+  number-natural (finalItem x) = refl
+  number-natural (transitionItem x) = refl
+
+  declared-natural : (n : ℕ) (is : List (Located P (Item P))) → declaredAt n (map onItems is) ≡ mapOption f (declaredAt n is)
+  unfolding declaredAt
+  declared-natural n [] = refl
+  declared-natural n (i ∷ is) = byTest (isNumber n (declaration (i .value)))
+      (λ e. declared-yes n (onItems i) (map onItems is) (ap (isNumber n) (number-natural (i .value)) ∙ e) ∙ sym (ap (mapOption f) (declared-yes n i is e)))
+      (λ e. declared-no n (onItems i) (map onItems is) (ap (isNumber n) (number-natural (i .value)) ∙ e) ∙ (declared-natural n is ∙ sym (ap (mapOption f) (declared-no n i is e))))
+
+  earlier-natural : (o : Option ℕ) (is : List (Located P (Item P))) → earlier o (map onItems is) ≡ mapOption f (earlier o is)
+  unfolding earlier
+  earlier-natural none is = refl
+  earlier-natural (some n) is = declared-natural n is
+
+  tapes-natural : (o : Option (Located P ℕ)) → tapesError (mapOption (onLoc f) o) ≡ map onDiagnostic (tapesError o)
+  unfolding tapesError
+  tapes-natural none = refl
+  tapes-natural (some n) = byTest (leb (n .value) 255) (λ e. rw (e, tapesError)) (λ e. rw (e, tapesError))
+
+  declaration-natural : (before : List (Located P (Item P))) (i : Located P (Item P)) → declarationError (map onItems before) (onItems i) ≡ map onDiagnostic (declarationError before i)
+  declaration-natural before i = go (earlier (declaration (i .value)) before) refl
+    where
+      seen : (o : Option P) → earlier (declaration (i .value)) before ≡ o → earlier (declaration (onItem f (i .value))) (map onItems before) ≡ mapOption f o
+      seen o e = ap (λ n. earlier n (map onItems before)) (number-natural (i .value)) ∙ (earlier-natural (declaration (i .value)) before ∙ ap (mapOption f) e)
+
+      go : (o : Option P) → earlier (declaration (i .value)) before ≡ o → declarationError (map onItems before) (onItems i) ≡ map onDiagnostic (declarationError before i)
+      go none e = twice-none (map onItems before) (onItems i) (seen none e) ∙ (ap tapesError (ap (λ q. q .tapes) (parts-natural (i .value))) ∙ (tapes-natural (parts (i .value) .tapes) ∙ sym (ap (map onDiagnostic) (twice-none before i e))))
+      go (some p) e = twice-some (map onItems before) (onItems i) (f p) (seen (some p) e) ∙ sym (ap (map onDiagnostic) (twice-some before i p e))
+
+  declarations-natural : (before is : List (Located P (Item P))) → declarationErrors (map onItems before) (map onItems is) ≡ map onDiagnostic (declarationErrors before is)
+  unfolding declarationErrors
+  declarations-natural before [] = refl
+  declarations-natural before (i ∷ is) =
+      ap₂ (λ x y. x ++ y) (declaration-natural before i) (ap (λ t. declarationErrors t (map onItems is)) (sym (map-append onItems before (i ∷ []))) ∙ declarations-natural (before ++ i ∷ []) is)
+      ∙ sym (map-append onDiagnostic (declarationError before i) (declarationErrors (before ++ i ∷ []) is))
+
+  listed-natural : (w : List ℕ) (l : List (Located P (List ℕ))) → listedAt w (map (onLoc f) l) ≡ mapOption f (listedAt w l)
+  unfolding listedAt
+  listed-natural w [] = refl
+  listed-natural w (x ∷ l) = byTest (same (x .value) w)
+      (λ e. listed-yes w (onLoc f x) (map (onLoc f) l) e ∙ sym (ap (mapOption f) (listed-yes w x l e)))
+      (λ e. listed-no w (onLoc f x) (map (onLoc f) l) e ∙ (listed-natural w l ∙ sym (ap (mapOption f) (listed-no w x l e))))
+
+  unknown-natural : (q : Option (List (Located P (List ℕ)))) (x : Located P (List ℕ)) → unknownError (mapOption (map (onLoc f)) q) (onLoc f x) ≡ map onDiagnostic (unknownError q x)
+  unfolding unknownError
+  unknown-natural none x = refl
+  unknown-natural (some q) x = go (listedAt (x .value) q) refl
+    where
+      go : (o : Option P) → listedAt (x .value) q ≡ o → unknownError (some (map (onLoc f) q)) (onLoc f x) ≡ map onDiagnostic (unknownError (some q) x)
+      go none e = unknown-absent (map (onLoc f) q) (onLoc f x) (listed-natural (x .value) q ∙ ap (mapOption f) e) ∙ sym (ap (map onDiagnostic) (unknown-absent q x e))
+      go (some p) e = unknown-there (map (onLoc f) q) (onLoc f x) (f p) (listed-natural (x .value) q ∙ ap (mapOption f) e) ∙ sym (ap (map onDiagnostic) (unknown-there q x p e))
+
+  final-natural : (q : Option (List (Located P (List ℕ)))) (before : List (Located P (List ℕ))) (x : Located P (List ℕ))
+      → finalError (mapOption (map (onLoc f)) q) (map (onLoc f) before) (onLoc f x) ≡ map onDiagnostic (finalError q before x)
+  final-natural q before x = go (listedAt (x .value) before) refl
+    where
+      go : (o : Option P) → listedAt (x .value) before ≡ o → finalError (mapOption (map (onLoc f)) q) (map (onLoc f) before) (onLoc f x) ≡ map onDiagnostic (finalError q before x)
+      go none e = final-new (mapOption (map (onLoc f)) q) (map (onLoc f) before) (onLoc f x) (listed-natural (x .value) before ∙ ap (mapOption f) e) ∙ (unknown-natural q x ∙ sym (ap (map onDiagnostic) (final-new q before x e)))
+      go (some p) e = final-repeat (mapOption (map (onLoc f)) q) (map (onLoc f) before) (onLoc f x) (f p) (listed-natural (x .value) before ∙ ap (mapOption f) e) ∙ sym (ap (map onDiagnostic) (final-repeat q before x p e))
+
+  finals-natural : (q : Option (List (Located P (List ℕ)))) (before l : List (Located P (List ℕ))) → finalErrors (mapOption (map (onLoc f)) q) (map (onLoc f) before) (map (onLoc f) l) ≡ map onDiagnostic (finalErrors q before l)
+  unfolding finalErrors
+  finals-natural q before [] = refl
+  finals-natural q before (x ∷ l) =
+      ap₂ (λ a b. a ++ b) (final-natural q before x) (ap (λ t. finalErrors (mapOption (map (onLoc f)) q) t (map (onLoc f) l)) (sym (map-append (onLoc f) before (x ∷ []))) ∙ finals-natural q (before ++ x ∷ []) l)
+      ∙ sym (map-append onDiagnostic (finalError q before x) (finalErrors q (before ++ x ∷ []) l))
+
+  rules-case : (n : ℕ) (cut : Bool) (r : RuleLine P) (rs : List (RuleLine P)) (v : Verdict) → verdict n (r .raw) ≡ v → ((k : ℕ) (c : Bool) → ruleErrors k c (map onRuleLine rs) ≡ map onDiagnostic (ruleErrors k c rs))
+      → ruleErrors n cut (map onRuleLine (r ∷ rs)) ≡ map onDiagnostic (ruleErrors n cut (r ∷ rs))
+  rules-case n cut r rs expands e h =
+      error-expands n (onRuleLine r) (map onRuleLine rs) cut (verdict-natural n (r .raw) ∙ e)
+      ∙ (ap (λ k. ruleErrors (n + k) cut (map onRuleLine rs)) (combinations-natural (r .raw .read)) ∙ (h (n + combinations (r .raw .read)) cut ∙ sym (ap (map onDiagnostic) (error-expands n r rs cut e))))
+  rules-case n cut r rs wrongArity e h =
+      error-arity n (onRuleLine r) (map onRuleLine rs) cut (verdict-natural n (r .raw) ∙ e) ∙ (ap (λ t. diagnostic 10 (f (r .line)) none ∷ t) (h n cut) ∙ sym (ap (map onDiagnostic) (error-arity n r rs cut e)))
+  rules-case n false r rs tooMany e h =
+      error-many n (onRuleLine r) (map onRuleLine rs) (verdict-natural n (r .raw) ∙ e) ∙ (ap (λ t. diagnostic 9 (f (r .line)) none ∷ t) (h n true) ∙ sym (ap (map onDiagnostic) (error-many n r rs e)))
+  rules-case n true r rs tooMany e h = error-more n (onRuleLine r) (map onRuleLine rs) (verdict-natural n (r .raw) ∙ e) ∙ (h n true ∙ sym (ap (map onDiagnostic) (error-more n r rs e)))
+
+  rules-natural : (n : ℕ) (cut : Bool) (rs : List (RuleLine P)) → ruleErrors n cut (map onRuleLine rs) ≡ map onDiagnostic (ruleErrors n cut rs)
+  unfolding ruleErrors
+  rules-natural n cut [] = refl
+  rules-natural n cut (r ∷ rs) = rules-case n cut r rs (verdict n (r .raw)) refl (λ k c. rules-natural k c rs)
+
+  else-natural : (o : Option (List (Located P (List ℕ)))) → orElse (mapOption (map (onLoc f)) o) [] ≡ map (onLoc f) (orElse o [])
+  unfolding orElse
+  else-natural none = refl
+  else-natural (some l) = refl
+
+  pub diagnostics-natural : (ls : List (Line P)) → diagnosticsOf (map (onLine f) ls) ≡ map onDiagnostic (diagnosticsOf ls)
+  unfolding diagnosticsOf statesIn finalsIn
+  diagnostics-natural ls =
+      let is = items ls in
+      let q = found (first (λ p. p .states) is) in
+      let l = orElse (found (first (λ p. p .finals) is)) [] in
+      ap₂ (λ x y. x ++ y) (errors-natural ls)
+      (ap₂ (λ x y. x ++ y) (ap (declarationErrors []) (items-natural ls) ∙ declarations-natural [] is)
+      (ap₂ (λ x y. x ++ y)
+      (ap (λ is. finalErrors (found (first (λ p. p .states) is)) [] (orElse (found (first (λ p. p .finals) is)) [])) (items-natural ls)
+      ∙ (ap₂ (λ q l. finalErrors q [] (orElse l [])) (found-natural (λ p. p .states) (λ p. p .states) (map (onLoc f)) (λ p. refl) is) (found-natural (λ p. p .finals) (λ p. p .finals) (map (onLoc f)) (λ p. refl) is)
+      ∙ (ap (finalErrors (mapOption (map (onLoc f)) q) []) (else-natural (found (first (λ p. p .finals) is))) ∙ finals-natural q [] l)))
+      (ap (λ b. ruleErrors 0 false (b .rules)) (body-natural ls) ∙ rules-natural 0 false (bodyOf ls .rules))))
+      ∙ sym (four-append onDiagnostic (lineErrors ls) (declarationErrors [] is) (finalErrors q [] l) (ruleErrors 0 false (bodyOf ls .rules)))

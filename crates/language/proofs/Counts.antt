@@ -1,19 +1,19 @@
 -- As many rules are appended, and as many words needed, as the products of the read sets say: each choice gives one rule, of one length.
-use Prim.Native.Nat.{ℕ, zero, suc, _+_, _*_}
+use Prim.Native.Nat.{ℕ, suc, _+_, _*_}
 use native.Mathlib.Omega.{arith}
-use mathlib.Core.Bool.{Bool, true, false, _&&_}
+use mathlib.Core.Bool.{Bool, _&&_}
 use mathlib.Core.List.{List, [], _∷_, _++_, map, append-assoc}
 use mathlib.Core.Option.{Option, none, some}
 use mathlib.Core.Path.{_≡_, refl, ap, ap₂, _∙_, sym}
 use borrow.Author.Tests.{eqb-true}
-use lib.Dec.{eqb, leb}
+use lib.Dec.{eqb}
 use lib.ListN.{length, length-append, length-map}
-use Rattle.lexer.specs.declared.Span.{Span}
+use Rattle.lexer.specs.Tokens.{Span}
 use Rattle.language.specs.Machine.{Located, Dir, Action, Rule, State, Symbol, Machine}
-use Rattle.language.specs.Lines.{RawSymbol, RawTransition, Line}
-use Rattle.language.specs.Assembly.{RuleLine, Body, combinations, Verdict, expands, wrongArity, tooMany, verdict, kept, eachFront, choices, actions, ruleOf, dressed, expand, expandAll}
+use Rattle.language.specs.Lines.{RawSymbol}
+use Rattle.language.specs.Assembly.{RuleLine, combinations, Verdict, expands, wrongArity, tooMany, verdict, kept, eachFront, choices, actions, ruleOf, dressed, expand, expandAll}
 use Rattle.language.specs.Layout.{placeWords, locatedWords, flat, stateWords, symbolWords, actionWords, ruleLength, ruleWords, sheetWords, ruleLengths, sheetLength}
-use Rattle.language.proofs.Every.{byTest, Every, Filled, every-append, every-any, every-map, every-impl, and-left, and-right}
+use Rattle.language.proofs.Every.{byTest, Every, Filled, every-append, every-any, every-map, and-left, and-right}
 
 -- ---- choices
 
@@ -175,7 +175,7 @@ section-three : (l : List (State Span)) → length (flat stateWords l) ≡ lengt
 unfolding stateWords
 section-three l = flat-length stateWords 3 l (every-any _ (λ s. refl) l)
 
-symbol-length : (s : Symbol Span) → length (symbolWords s) ≡ 3
+pub symbol-length : (s : Symbol Span) → length (symbolWords s) ≡ 3
 unfolding symbolWords
 symbol-length s = placed (s .declaredAt)
   where

@@ -1,97 +1,14 @@
 -- What holds of each token holds of what the parsers make of them: names, strings and symbols are taken from tokens, and read sets are not empty.
 use Prim.Native.Nat.{ℕ, zero, suc}
 use mathlib.Core.Bool.{Bool, true, false}
-use mathlib.Core.List.{List, [], _∷_, _++_, map}
+use mathlib.Core.List.{List, [], _∷_}
 use mathlib.Core.Option.{Option, none, some}
-use mathlib.Core.Path.{_≡_, refl, ap, _∙_, sym}
+use mathlib.Core.Path.{sym}
 use lib.ListN.{length}
-use Rattle.lexer.specs.Tokens.{TokenKind, word, number, quoted, str, sign, comment, newline, unterminatedString, unterminatedQuote, Token}
-use Rattle.language.specs.Machine.{Located, Kind, BitOrder, Dir}
+use Rattle.lexer.specs.Tokens.{TokenKind, comment, Token}
+use Rattle.language.specs.Machine.{Located}
 use Rattle.language.specs.Parser.{Result, ok, fail, Parser, then, _>>=_, give, unexpected, isSign, goesOn, taken, branch, goOn, one, expect, opened, atMost, entries, single, tuple, set}
-use Rattle.language.specs.Lines.{
-  RawSymbol,
-  RawDecoder,
-  rawWord,
-  rawUnary,
-  rawBinary,
-  RawTransition,
-  Text,
-  Item,
-  machineItem,
-  inputItem,
-  kindItem,
-  outputItem,
-  tapesItem,
-  statesItem,
-  finalItem,
-  inputAlphabetItem,
-  tapeAlphabetItem,
-  blankItem,
-  startItem,
-  transitionItem,
-  Line,
-  blankLine,
-  commentLine,
-  itemLine,
-  errorLine,
-  stateIn,
-  symbolIn,
-  writeIn,
-  directionIn,
-  notDirection,
-  stringIn,
-  numberIn,
-  Spelled,
-  wordIn,
-  Keyword,
-  machineWord,
-  kindWord,
-  inputWord,
-  outputWord,
-  tapesWord,
-  statesWord,
-  sigmaWord,
-  gammaWord,
-  blankWord,
-  startWord,
-  finalWord,
-  deltaWord,
-  keywords,
-  kinds,
-  OutputWord,
-  wordOutput,
-  unaryOutput,
-  binaryOutput,
-  outputs,
-  orders,
-  stringTaken,
-  string,
-  numeral,
-  choice,
-  state,
-  symbol,
-  direction,
-  readEntry,
-  writeEntry,
-  transition,
-  output,
-  itemOf,
-  item,
-  Row,
-  Ending,
-  lineFeed,
-  goesBy,
-  remark,
-  endingOf,
-  inFront,
-  rows,
-  lastPlace,
-  finished,
-  emptyLine,
-  lineFrom,
-  lineOf,
-  lines,
-}
+use Rattle.language.specs.Lines.{RawSymbol, RawDecoder, rawWord, rawUnary, rawBinary, RawTransition, Item, machineItem, inputItem, kindItem, outputItem, tapesItem, statesItem, finalItem, inputAlphabetItem, tapeAlphabetItem, blankItem, startItem, transitionItem, Line, blankLine, commentLine, itemLine, errorLine, stateIn, symbolIn, writeIn, directionIn, notDirection, stringIn, numberIn, Spelled, wordIn, Keyword, machineWord, kindWord, inputWord, outputWord, tapesWord, statesWord, sigmaWord, gammaWord, blankWord, startWord, finalWord, deltaWord, keywords, kinds, OutputWord, wordOutput, unaryOutput, binaryOutput, outputs, orders, stringTaken, string, choice, state, symbol, direction, readEntry, writeEntry, transition, output, itemOf, item, Row, Ending, lineFeed, goesBy, remark, endingOf, inFront, rows, lastPlace, finished, emptyLine, lineFrom, lineOf, lines}
 use Rattle.language.proofs.Every.{Every, Maybe, Filled, every-map}
 
 -- a value as it is taken from a token
@@ -124,12 +41,13 @@ pub record Goods (P : Type 0) : Type 1 where
   pub note : Located P (List ℕ) → Type 0
 
 module _ {P : Type 0} (S : Goods P) where
-  -- a rule's names and symbols are good, and each of its read sets has a member
+  -- a rule's names and symbols are good; it has a tape, and each of its read sets a member
   pub record GoodRaw (r : RawTransition P) : Type 0 where
     pub from-good : S .name (r .from)
     pub to-good : S .name (r .to)
     pub read-good : Some (Some (λ s. S .sym (s .value))) (r .read)
-    pub write-good : Every (λ w. Maybe (S .sym) (w .value)) (r .write)
+    pub write-good : Some (λ w. Maybe (S .sym) (w .value)) (r .write)
+    pub dir-good : Filled (r .dir)
 
   abbrev pub GoodDecoder : RawDecoder → Type 0
   GoodDecoder rawWord = Unit {0}
@@ -308,8 +226,8 @@ module _ {P : Type 0} (G : Token P → Type 0) where
           bind-gives _ (expect-gives stop 0x28) (λ _ _. bind-gives _ state-gives (λ from f. bind-gives _ (expect-gives stop 0x2C) (λ _ _.
           bind-gives _ (tuple-gives stop read-gives) (λ read r. bind-gives _ (expect-gives stop 0x29) (λ _ _. bind-gives _ (expect-gives stop 0x3D) (λ _ _.
           bind-gives _ (expect-gives stop 0x28) (λ _ _. bind-gives _ state-gives (λ to t. bind-gives _ (expect-gives stop 0x2C) (λ _ _.
-          bind-gives _ (tuple-gives stop write-gives) (λ write w. bind-gives _ (expect-gives stop 0x2C) (λ _ _. bind-gives _ (tuple-gives stop direction-gives) (λ dir _.
-          bind-gives _ (expect-gives stop 0x29) (λ _ _. give-gives (record { from-good = f; to-good = t; read-good = r; write-good = w .1 }))))))))))))))
+          bind-gives _ (tuple-gives stop write-gives) (λ write w. bind-gives _ (expect-gives stop 0x2C) (λ _ _. bind-gives _ (tuple-gives stop direction-gives) (λ dir d.
+          bind-gives _ (expect-gives stop 0x29) (λ _ _. give-gives (record { from-good = f; to-good = t; read-good = r; write-good = w; dir-good = d .0 }))))))))))))))
 
       output-gives : (w : OutputWord) → Gives (GoodDecoder S) (output stop w)
       unfolding output

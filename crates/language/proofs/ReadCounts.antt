@@ -1,24 +1,21 @@
 -- Counts for every text: no rule set is empty, no more rules than the limit, and the sheet has the words that the counts say.
-use Prim.Native.Nat.{ℕ, zero, suc, _+_, _*_, _≤_, _<_}
+use Prim.Native.Nat.{ℕ, _+_, _≤_, _<_}
 use native.Mathlib.Omega.{arith}
-use mathlib.Core.Bool.{Bool, true, false, _&&_}
-use mathlib.Core.List.{List, [], _∷_, _++_, map}
-use mathlib.Core.Option.{Option, none, some}
-use mathlib.Core.Path.{_≡_, refl, ap, _∙_, sym}
+use mathlib.Core.Bool.{Bool, _&&_}
+use mathlib.Core.List.{List, [], _∷_}
+use mathlib.Core.Path.{_≡_, refl, sym}
 use borrow.Author.Tests.{leb-true}
 use lib.Dec.{eqb, leb}
 use lib.ListN.{length}
-use Rattle.lexer.specs.declared.Span.{Span}
-use Rattle.lexer.specs.Tokens.{Token, tokens}
-use Rattle.language.specs.Machine.{Machine}
-use Rattle.language.specs.Lines.{RawTransition, Line, stateIn, symbolIn, stringIn, Ending, lineFeed, goesBy, remark, endingOf, lines, covering, readLines}
-use Rattle.language.specs.Assembly.{items, blankOf, RuleLine, bodyOf, combinations, Verdict, expands, wrongArity, tooMany, verdict, kept, expandAll}
+use Rattle.lexer.specs.Tokens.{Token, Span, tokens}
+use Rattle.language.specs.Lines.{Line, stateIn, symbolIn, stringIn, Ending, lineFeed, goesBy, remark, endingOf, lines, covering, readLines}
+use Rattle.language.specs.Assembly.{items, blankOf, RuleLine, bodyOf, combinations, expands, wrongArity, tooMany, verdict, kept}
 use Rattle.language.specs.Infer.{machineOf}
 use Rattle.language.specs.Layout.{sheetWords, sheetLength}
 use Rattle.language.proofs.Every.{byTest, Every, Filled, every-any, every-impl}
-use Rattle.language.proofs.ParseHolds.{Any, any-maybe, Goods, GoodEnding, GoodLine, GoodRaw, Some, lines-good}
+use Rattle.language.proofs.ParseHolds.{Any, any-maybe, Goods, GoodEnding, Some, lines-good}
 use Rattle.language.proofs.AssemblyHolds.{GoodRuleLine, body-good}
-use Rattle.language.proofs.Counts.{Chosen, Fits, byVerdict, kept-every, kept-fits, ruleCount, rules-length, sheet-length}
+use Rattle.language.proofs.Counts.{Chosen, byVerdict, kept-every, kept-fits, ruleCount, rules-length, sheet-length}
 
 -- ---- read sets
 

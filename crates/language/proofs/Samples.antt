@@ -8,33 +8,25 @@ use Rattle.chars.specs.Utf8.{encode, decode}
 use Rattle.lexer.specs.Text.{codes}
 use Rattle.language.specs.Content.{Content, contentOf}
 use Rattle.language.specs.Lines.{readLines}
-use Rattle.language.specs.Assembly.{Diagnostic, diagnostics}
+use Rattle.language.specs.Assembly.{diagnostics}
 use Rattle.language.specs.Infer.{machineOf}
-use Rattle.language.specs.Layout.{Head, headOf, headWords, sheetWords}
-use Rattle.language.specs.Outcome.{Reply, machine, diagnosed, refused, replyNumber, replyValue, workNeeded, zeros, ReadOutcome, readOutcome, WriteReply, writeNumber, writeValue, WriteOutcome, writeOutcome}
-use Rattle.language.specs.Agreement.{Answer, contentOfAnswer}
+use Rattle.language.specs.Layout.{headOf, sheetWords}
+use Rattle.language.specs.Outcome.{replyWords, workNeeded, zeros, ReadOutcome, readOutcome, writeWords, WriteOutcome, writeOutcome, stateName}
+use Rattle.language.specs.Agreement.{contentOfAnswer}
 
 -- the word of which two say that there is no place
 abbrev pub ø : ℕ
 ø = 4294967295
 
--- an outcome with its reply and its head in numbers
+-- an outcome in words
 pub record Flat : Type 0 where
-  pub number : ℕ
-  pub value : ℕ
-  pub head : List ℕ
+  pub reply : List ℕ
   pub log : List ℕ
   pub sheet : List ℕ
 
-unfoldable pub headIn : Reply → List ℕ
-unfolding headWords
-headIn (machine h) = headWords h
-headIn (diagnosed n) = []
-headIn (refused r) = []
-
 unfoldable pub flatten : ReadOutcome → Flat
-unfolding headIn
-flatten o = record { number = replyNumber (o .reply); value = replyValue (o .reply); head = headIn (o .reply); log = o .log; sheet = o .sheet }
+unfolding replyWords
+flatten o = record { reply = replyWords (o .reply); log = o .log; sheet = o .sheet }
 
 -- buffers are lent with this in every word
 abbrev pub dirty : ℕ → List ℕ
@@ -56,8 +48,8 @@ outcome (reads s head sheet) = flatten (readOutcome (bytes s) (workNeeded (lengt
 outcome (faulty s log) = flatten (readOutcome (bytes s) (workNeeded (length (bytes s))) (dirty (length log + 2)) (dirty 3))
 
 unfoldable pub expected : Sample → Flat
-expected (reads s head sheet) = record { number = 0; value = 0; head = head; log = zeros 7; sheet = sheet ++ zeros 2 }
-expected (faulty s log) = record { number = 8; value = length log / 5; head = []; log = log ++ zeros 2; sheet = zeros 3 }
+expected (reads s head sheet) = record { reply = 0 ∷ 0 ∷ 0 ∷ head; log = zeros 7; sheet = sheet ++ zeros 2 }
+expected (faulty s log) = record { reply = ø ∷ length log / 5 ∷ 0 ∷ zeros 33; log = log ++ zeros 2; sheet = zeros 3 }
 
 -- heads: decoder, name and input, kind tapes blank, flags, start, the map, counts; sheets: a line for each section, rule and tape
 abbrev pub samples : List Sample
@@ -504,7 +496,7 @@ unfolding flatten readOutcome
 run c = flatten (readOutcome (c .text) (c .work) (dirty (c .log)) (dirty (c .sheet)))
 
 abbrev refusal : ℕ → ℕ → List ℕ → List ℕ → Flat
-refusal n v l s = record { number = n; value = v; head = []; log = l; sheet = s }
+refusal n v l s = record { reply = n ∷ v ∷ 0 ∷ zeros 33; log = l; sheet = s }
 
 table-refusals : map run (
     call (0x61 ∷ []) 11 2 2 ∷
@@ -525,14 +517,13 @@ table-refusals = refl
 -- ---- writing
 
 record FlatWrite : Type 0 where
-  number : ℕ
-  value : ℕ
+  reply : List ℕ
   log : List ℕ
   sheet : List ℕ
   output : List ℕ
 
 flattenWrite : WriteOutcome → FlatWrite
-flattenWrite o = record { number = writeNumber (o .reply); value = writeValue (o .reply); log = o .log; sheet = o .sheet; output = o .output }
+flattenWrite o = record { reply = writeWords (o .reply); log = o .log; sheet = o .sheet; output = o .output }
 
 -- a text, and the bytes of output lent for it
 record Writing : Type 0 where
@@ -547,13 +538,21 @@ unfolding writeOutcome bytes flattenWrite
 wrote w = flattenWrite (writeOutcome (bytes (w .given)) (workNeeded (length (bytes (w .given)))) (dirty 5) (dirty 4) (dirty (w .room)))
 
 abbrev answer : ℕ → ℕ → List ℕ → List ℕ → List ℕ → FlatWrite
-answer n v l s o = record { number = n; value = v; log = l; sheet = s; output = o }
+answer n v l s o = record { reply = n ∷ v ∷ 0 ∷ zeros 33; log = l; sheet = s; output = o }
 
 table-writes : map wrote (writing "" 68 ∷ writing "" 64 ∷ writing "?" 70 ∷ writing "tapes=1\ntapes=1" 70 ∷ []) ≡
     answer 0 65 (zeros 5) (9251 ∷ 0 ∷ 0 ∷ 0 ∷ []) (encode (codes "machine \"\"\nkind transducer\ninput \"\"\noutput word\ntapes = 1\nF = {}\n") ++ dirty 3) ∷
     answer 7 65 (zeros 5) (9251 ∷ 0 ∷ 0 ∷ 0 ∷ []) (dirty 64) ∷
-    answer 8 1 (1 ∷ 0 ∷ 1 ∷ ø ∷ ø ∷ []) (zeros 4) (dirty 70) ∷
-    answer 8 1 (11 ∷ 8 ∷ 15 ∷ 0 ∷ 7 ∷ []) (zeros 4) (dirty 70) ∷
+    answer ø 1 (1 ∷ 0 ∷ 1 ∷ ø ∷ ø ∷ []) (zeros 4) (dirty 70) ∷
+    answer ø 1 (11 ∷ 8 ∷ 15 ∷ 0 ∷ 7 ∷ []) (zeros 4) (dirty 70) ∷
     []
 unfolding wrote encode
 table-writes = refl
+
+-- ---- names of states
+
+-- the names in the sheet of P1's first text: of states 0 and 1; of what would be state 2, whose words are no place in the text; of state 19, past the sheet
+table-names : (let t = bytes "δ(a,{0,1})=(b,*,R)\n" in let s = readOutcome t 126 [] (zeros 57) .sheet in stateName s t 0 ∷ stateName s t 1 ∷ stateName s t 2 ∷ stateName s t 19 ∷ [])
+    ≡ codes "a" ∷ codes "b" ∷ [] ∷ [] ∷ []
+unfolding readOutcome bytes stateName
+table-names = refl

@@ -1,17 +1,16 @@
 -- Paper 01, "Plain form": what the answer of a reading call stands for, from its head, its sheet and the text, as a caller has them.
 use Prim.Native.Nat.{ℕ, zero, suc, _+_, _-_, _*_}
-use mathlib.Core.Bool.{Bool, true, false, _&&_}
-use mathlib.Core.List.{List, [], _∷_, _++_, map}
+use mathlib.Core.Bool.{true, false, _&&_}
+use mathlib.Core.List.{List, [], _∷_, map}
 use mathlib.Core.Option.{Option, none, some}
 use mathlib.Core.Path.{_≡_}
 use lib.Dec.{eqb}
 use lib.ListN.{getD, take, drop}
 use Rattle.chars.specs.Utf8.{decode}
-use Rattle.lexer.specs.declared.Span.{Span}
-use Rattle.lexer.specs.Tokens.{span, unescape}
+use Rattle.lexer.specs.Tokens.{Span, span, unescape}
 use Rattle.language.specs.Machine.{Dir, left, right, stay}
 use Rattle.language.specs.Content.{StateContent, ActionContent, RuleContent, Content}
-use Rattle.language.specs.Layout.{Counts, Head}
+use Rattle.language.specs.Layout.{Head}
 
 -- an answer: the head that was returned, the words of the sheet, and the bytes of the text
 pub record Answer : Type 0 where
@@ -37,6 +36,7 @@ at ws i = getD ws i 0
 abbrev pub placeAt : List ℕ → ℕ → Span
 placeAt ws i = span (at ws i) (at ws (suc i))
 
+-- the direction of a number
 abbrev pub dirOf : ℕ → Dir
 dirOf zero = left
 dirOf (suc zero) = right
@@ -63,14 +63,17 @@ module _ (text : List ℕ) where
   unfolding charactersAt
   commentAt p = elim (eqb (p .start) 4294967295 && eqb (p .end) 4294967295) [ true ↦ none | false ↦ some (charactersAt p) ]
 
+  -- a state from its words
   unfoldable pub stateIn : List ℕ → StateContent
   unfolding charactersAt
   stateIn ws = record { name = charactersAt (placeAt ws 0); final = eqb (at ws 2) 1 }
 
+  -- the text of a comment from the words of its place
   unfoldable pub textIn : List ℕ → List ℕ
   unfolding charactersAt
   textIn ws = charactersAt (placeAt ws 0)
 
+  -- a rule from its words
   unfoldable pub ruleIn : List ℕ → RuleContent
   unfolding charactersAt commentAt groups actionIn textIn
   ruleIn ws = record {

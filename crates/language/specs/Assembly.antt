@@ -6,37 +6,9 @@ use mathlib.Core.Option.{Option, none, some}
 use lib.Dec.{eqb, leb}
 use lib.ListN.{length}
 use Rattle.lexer.specs.Text.{same}
-use Rattle.lexer.specs.declared.Span.{Span}
-use Rattle.language.specs.Machine.{Located, Kind, Decoder, asWord, asUnary, asBinary, Dir, Action, Rule}
-use Rattle.language.specs.Lines.{
-  RawSymbol,
-  rawBlank,
-  glyph,
-  RawDecoder,
-  rawWord,
-  rawUnary,
-  rawBinary,
-  RawTransition,
-  Text,
-  Item,
-  machineItem,
-  inputItem,
-  kindItem,
-  outputItem,
-  tapesItem,
-  statesItem,
-  finalItem,
-  inputAlphabetItem,
-  tapeAlphabetItem,
-  blankItem,
-  startItem,
-  transitionItem,
-  Line,
-  blankLine,
-  commentLine,
-  itemLine,
-  errorLine,
-}
+use Rattle.lexer.specs.Tokens.{Span}
+use Rattle.language.specs.Machine.{Located, Kind, Dir, Action, Rule}
+use Rattle.language.specs.Lines.{RawSymbol, rawBlank, glyph, RawDecoder, RawTransition, Text, Item, machineItem, inputItem, kindItem, outputItem, tapesItem, statesItem, finalItem, inputAlphabetItem, tapeAlphabetItem, blankItem, startItem, transitionItem, Line, blankLine, commentLine, itemLine, errorLine}
 
 -- ---- declarations
 
@@ -55,11 +27,13 @@ pub record Parts (P : Type 0) : Type 0 where
   pub finals : Option (List (Located P (List ℕ)))
   pub rule : Option (RawTransition P)
 
+-- the columns, in their order
 abbrev pub columns : {P : Type 0} → Option (Text P) → Option Kind → Option (Text P) → Option RawDecoder → Option (Located P ℕ) → Option (List (Located P (List ℕ)))
     → Option (List (Located P RawSymbol)) → Option (List (Located P RawSymbol)) → Option RawSymbol → Option (Located P (List ℕ))
     → Option (List (Located P (List ℕ))) → Option (RawTransition P) → Parts P
 columns m k i o t q s g b st f r = record { machine = m; kind = k; input = i; output = o; tapes = t; states = q; sigma = s; gamma = g; blank = b; start = st; finals = f; rule = r }
 
+-- each item fills one column
 unfoldable pub parts : {P : Type 0} → Item P → Parts P
 parts (machineItem x) = columns (some x) none none none none none none none none none none none
 parts (kindItem x) = columns none (some x) none none none none none none none none none none
@@ -93,6 +67,7 @@ unfoldable pub found : {P A : Type 0} → Option (Located P A) → Option A
 found none = none
 found (some l) = some (l .value)
 
+-- what is there, or a where nothing is
 unfoldable pub orElse : {A : Type 0} → Option A → A → A
 orElse none a = a
 orElse (some b) a = b
@@ -107,11 +82,12 @@ unfoldable pub blankOf : {P : Type 0} → List (Located P (Item P)) → ℕ
 unfolding first found orElse resolve
 blankOf is = resolve 0x2423 (orElse (found (first (λ p. p .blank) is)) rawBlank)
 
--- the names that Q declares, and those that F lists
+-- the names that Q declares
 unfoldable pub statesIn : {P : Type 0} → List (Located P (Item P)) → Option (List (Located P (List ℕ)))
 unfolding first found
 statesIn is = found (first (λ p. p .states) is)
 
+-- those that F lists
 unfoldable pub finalsIn : {P : Type 0} → List (Located P (Item P)) → List (Located P (List ℕ))
 unfolding first found orElse
 finalsIn is = orElse (found (first (λ p. p .finals) is)) []
@@ -131,13 +107,16 @@ pub record Body (P : Type 0) : Type 0 where
   pub rules : List (RuleLine P)
   pub trailing : List (Located P (List ℕ))
 
+-- what is there, as a list
 unfoldable pub ofOption : {A : Type 0} → Option A → List A
 ofOption none = []
 ofOption (some a) = a ∷ []
 
+-- header comments before the rest
 unfoldable pub addHeader : {P : Type 0} → List (Located P (List ℕ)) → Body P → Body P
 addHeader h b = record { header = h ++ b .header; rules = b .rules; trailing = b .trailing }
 
+-- a rule before the rest
 unfoldable pub addRule : {P : Type 0} → RuleLine P → Body P → Body P
 addRule r b = record { header = b .header; rules = r ∷ b .rules; trailing = b .trailing }
 
@@ -171,6 +150,7 @@ attach seen old block (commentLine c ∷ ls) = attach seen old (block ++ c ∷ [
 attach seen old block (errorLine n p ∷ ls) = attach true [] [] ls
 attach seen old block (itemLine i p c ∷ ls) = attachItem (parts i .rule) seen old block p c (attach true [] [] ls)
 
+-- the rules and comments of a list of lines
 unfoldable pub bodyOf : {P : Type 0} → List (Line P) → Body P
 unfolding attach
 bodyOf ls = attach false [] [] ls
@@ -184,6 +164,7 @@ combinations (s ∷ ss) = length s * combinations ss
 pub data Verdict : Type 0 where
   expands wrongArity tooMany : Verdict
 
+-- a wrong number of entries comes first, then the limit of 262,144 rules
 unfoldable pub verdict : {P : Type 0} → ℕ → RawTransition P → Verdict
 unfolding combinations
 verdict n r =
@@ -203,6 +184,7 @@ unfoldable pub eachFront : {A : Type 0} → List A → List (List A) → List (L
 eachFront [] ls = []
 eachFront (a ∷ r) ls = map (λ l. a ∷ l) ls ++ eachFront r ls
 
+-- and from all lists
 unfoldable pub choices : {A : Type 0} → List (List A) → List (List A)
 unfolding eachFront
 choices [] = [] ∷ []
@@ -237,10 +219,12 @@ unfolding ruleOf
 dressed b l [] = []
 dressed b l (rs ∷ more) = ruleOf b l (l .comment) (l .leading) rs ∷ map (ruleOf b l none []) more
 
+-- the rules that a line stands for
 unfoldable pub expand : {P : Type 0} → ℕ → RuleLine P → List (Rule P)
 unfolding dressed choices
 expand b l = dressed b l (choices (l .raw .read))
 
+-- the rules of a list of lines
 unfoldable pub expandAll : {P : Type 0} → ℕ → List (RuleLine P) → List (Rule P)
 unfolding expand
 expandAll b [] = []
@@ -254,6 +238,7 @@ pub record Diagnostic (P : Type 0) : Type 0 where
   pub place : P
   pub related : Option P
 
+-- a diagnostic
 abbrev pub diagnostic : {P : Type 0} → ℕ → P → Option P → Diagnostic P
 diagnostic n p q = record { code = n; place = p; related = q }
 
@@ -280,6 +265,7 @@ declaration (startItem x) = some 9
 declaration (finalItem x) = some 10
 declaration (transitionItem x) = none
 
+-- the name n is declared
 abbrev pub isNumber : ℕ → Option ℕ → Bool
 isNumber n none = false
 isNumber n (some m) = eqb m n
@@ -307,6 +293,7 @@ unfolding parts declaration earlier tapesError
 declarationError before i =
     elim (earlier (declaration (i .value)) before) [ some p ↦ diagnostic 11 (i .place) (some p) ∷ [] | none ↦ tapesError (parts (i .value) .tapes) ]
 
+-- those of all declarations; `before` are those that came earlier
 unfoldable pub declarationErrors : {P : Type 0} → List (Located P (Item P)) → List (Located P (Item P)) → List (Diagnostic P)
 unfolding declarationError
 declarationErrors before [] = []
@@ -328,6 +315,7 @@ unfoldable pub finalError : {P : Type 0} → Option (List (Located P (List ℕ))
 unfolding listedAt unknownError
 finalError q before f = elim (listedAt (f .value) before) [ some p ↦ diagnostic 11 (f .place) (some p) ∷ [] | none ↦ unknownError q f ]
 
+-- those of all that F lists; `before` are those listed earlier
 unfoldable pub finalErrors : {P : Type 0} → Option (List (Located P (List ℕ))) → List (Located P (List ℕ)) → List (Located P (List ℕ)) → List (Diagnostic P)
 unfolding finalError
 finalErrors q before [] = []
@@ -350,11 +338,12 @@ diagnosticsOf ls =
     let is = items ls in
     lineErrors ls ++ (declarationErrors [] is ++ (finalErrors (statesIn is) [] (finalsIn is) ++ ruleErrors 0 false (bodyOf ls .rules)))
 
--- sorted stably by start
+-- a diagnostic before the first whose start is not smaller
 unfoldable pub insert : Diagnostic Span → List (Diagnostic Span) → List (Diagnostic Span)
 insert d [] = d ∷ []
 insert d (e ∷ l) = elim (leb (d .place .start) (e .place .start)) [ true ↦ d ∷ e ∷ l | false ↦ e ∷ insert d l ]
 
+-- sorted stably by start
 unfoldable pub sort : List (Diagnostic Span) → List (Diagnostic Span)
 unfolding insert
 sort [] = []

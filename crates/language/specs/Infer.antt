@@ -5,8 +5,8 @@ use mathlib.Core.List.{List, [], _∷_, _++_, map}
 use mathlib.Core.Option.{Option, none, some}
 use lib.Dec.{eqb, leb}
 use Rattle.lexer.specs.Text.{same}
-use Rattle.language.specs.Machine.{Located, Kind, transducer, Decoder, asWord, asUnary, asBinary, State, Action, Rule, Symbol, Declared, SourceMap, Machine}
-use Rattle.language.specs.Lines.{RawSymbol, RawDecoder, rawWord, rawUnary, rawBinary, Text, Item, Line}
+use Rattle.language.specs.Machine.{Located, transducer, Decoder, asWord, asUnary, asBinary, State, Rule, Symbol, Machine}
+use Rattle.language.specs.Lines.{RawSymbol, RawDecoder, rawWord, rawUnary, rawBinary, Text, Line}
 use Rattle.language.specs.Content.{valueOr}
 use Rattle.language.specs.Assembly.{items, first, found, orElse, resolve, blankOf, statesIn, finalsIn, ofOption, bodyOf, kept, expandAll}
 
@@ -34,6 +34,7 @@ unfoldable pub fresh : {A : Type 0} → (A → A → Bool) → (A → Bool) → 
 fresh is known [] = []
 fresh is known (x ∷ l) = elim (known x) [ true ↦ fresh is known l | false ↦ x ∷ fresh is (λ y. is x y || known y) l ]
 
+-- nothing is known
 abbrev pub nothing : {A : Type 0} → A → Bool
 nothing x = false
 
@@ -61,9 +62,11 @@ head (a ∷ l) = some a
 
 -- ---- symbols
 
+-- a symbol that is inferred
 unfoldable pub inferred : {P : Type 0} → ℕ → Symbol P
 inferred c = record { code = c; declaredAt = none }
 
+-- a symbol that a set lists
 unfoldable pub listed : {P : Type 0} → ℕ → Located P RawSymbol → Symbol P
 unfolding resolve
 listed b s = record { code = resolve b (s .value); declaredAt = some (s .place) }
@@ -84,6 +87,7 @@ unfoldable pub withBlank : {P : Type 0} → ℕ → List (Symbol P) → List (Sy
 unfolding member inferred
 withBlank b g = elim (member eqb (map (λ s. s .code) g) b) [ true ↦ g | false ↦ g ++ inferred b ∷ [] ]
 
+-- undeclared Γ: the blank, then the others at their first mention
 unfoldable pub inferGamma : {P : Type 0} → ℕ → Option (List (Located P RawSymbol)) → List ℕ → List (Symbol P)
 unfolding listed inferred withBlank fresh
 inferGamma b (some g) cs = withBlank b (map (listed b) g)
@@ -102,6 +106,7 @@ inferSigma b none gamma = map inferred (less b (map (λ s. s .code) gamma))
 
 -- ---- the machine
 
+-- an output once the blank is known
 unfoldable pub resolveDecoder : ℕ → RawDecoder → Decoder
 unfolding resolve
 resolveDecoder b rawWord = asWord

@@ -4,11 +4,9 @@ use mathlib.Core.Bool.{Bool, true, false}
 use mathlib.Core.List.{List, [], _∷_, _++_}
 use mathlib.Core.Option.{Option, none, some}
 use lib.ListN.{length}
-use Rattle.lexer.specs.declared.Span.{Span}
-use Rattle.lexer.specs.Tokens.{span}
-use Rattle.language.specs.Machine.{Located, Kind, acceptor, transducer, enumerator, beaver, BitOrder, lsb, msb, Decoder, asWord, asUnary, asBinary, Dir, left, right, stay, State, Action, Rule, Symbol, Declared, SourceMap, Machine}
-use Rattle.language.specs.Lines.{RawTransition, Line}
-use Rattle.language.specs.Assembly.{RuleLine, combinations, kept, bodyOf, Diagnostic}
+use Rattle.lexer.specs.Tokens.{Span, span}
+use Rattle.language.specs.Machine.{Located, Kind, acceptor, transducer, enumerator, beaver, lsb, msb, Decoder, asWord, asUnary, asBinary, Dir, left, right, stay, State, Action, Rule, Symbol, Declared, Machine}
+use Rattle.language.specs.Assembly.{RuleLine, combinations, Diagnostic}
 
 -- ---- places
 
@@ -16,6 +14,7 @@ use Rattle.language.specs.Assembly.{RuleLine, combinations, kept, bodyOf
 abbrev pub noPlace : Span
 noPlace = span 4294967295 4294967295
 
+-- a place, or that there is none
 unfoldable pub orNone : Option Span → Span
 orNone none = noPlace
 orNone (some p) = p
@@ -67,6 +66,7 @@ pub record Head : Type 0 where
   pub statesPlace : Span
   pub counts : Counts
 
+-- the head of a machine
 unfoldable pub headOf : Machine Span → Head
 unfolding orNone placeOrNone
 headOf m = record {
@@ -94,10 +94,12 @@ headOf m = record {
   };
 }
 
+-- 1 for true, 0 for false
 abbrev pub flag : Bool → ℕ
 flag true = 1
 flag false = 0
 
+-- the number of a kind
 abbrev pub kindNumber : Kind → ℕ
 kindNumber acceptor = 0
 kindNumber transducer = 1
@@ -111,9 +113,11 @@ decoderWords (asUnary c) = 1 ∷ c ∷ []
 decoderWords (asBinary lsb) = 2 ∷ 0 ∷ []
 decoderWords (asBinary msb) = 2 ∷ 1 ∷ []
 
+-- the five flags
 abbrev pub declaredWords : Declared → List ℕ
 declaredWords d = flag (d .states) ∷ flag (d .inputAlphabet) ∷ flag (d .tapeAlphabet) ∷ flag (d .start) ∷ flag (d .blank) ∷ []
 
+-- the seven counts
 abbrev pub countWords : Counts → List ℕ
 countWords n = n .states ∷ n .sigma ∷ n .gamma ∷ n .finals ∷ n .header ∷ n .trailing ∷ n .rules ∷ []
 
@@ -134,6 +138,7 @@ stateWords s = placeWords (s .name .place) ++ flag (s .final) ∷ []
 unfoldable pub symbolWords : Symbol Span → List ℕ
 symbolWords s = s .code ∷ elim (s .declaredAt) [ some p ↦ placeWords p | none ↦ 0 ∷ 0 ∷ [] ]
 
+-- the number of a direction
 abbrev pub dirNumber : Dir → ℕ
 dirNumber left = 0
 dirNumber right = 1
@@ -187,6 +192,7 @@ unfoldable pub diagnosticWords : Diagnostic Span → List ℕ
 unfolding orNone
 diagnosticWords d = d .code ∷ placeWords (d .place) ++ placeWords (orNone (d .related))
 
+-- the words of a list of diagnostics
 unfoldable pub logWords : List (Diagnostic Span) → List ℕ
 unfolding flat diagnosticWords
 logWords ds = flat diagnosticWords ds

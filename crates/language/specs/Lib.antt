@@ -8,3 +8,4 @@ pub mod Plain
 pub mod Layout
 pub mod Outcome
 pub mod Agreement
+pub mod Claim

@@ -6,8 +6,7 @@ use mathlib.Core.Option.{Option, none, some}
 use lib.Dec.{eqb}
 use Rattle.lexer.specs.Text.{codes, same}
 use Rattle.lexer.specs.Words.{value}
-use Rattle.lexer.specs.declared.Span.{Span}
-use Rattle.lexer.specs.Tokens.{TokenKind, word, number, quoted, str, sign, comment, newline, unterminatedString, unterminatedQuote, Token, span, tokens}
+use Rattle.lexer.specs.Tokens.{TokenKind, word, number, quoted, str, sign, comment, newline, unterminatedString, unterminatedQuote, Token, Span, span, tokens}
 use Rattle.language.specs.Machine.{Located, Kind, acceptor, transducer, enumerator, beaver, BitOrder, lsb, msb, Dir, left, right, stay}
 use Rattle.language.specs.Parser.{Result, ok, fail, Parser, _>>=_, give, when, unexpected, isSign, one, expect, opened, entries, single, tuple, set}
 
@@ -163,6 +162,7 @@ pub record Spelled (A : Type 0) : Type 0 where
   pub spelling : List ℕ
   pub meaning : A
 
+-- a row of a table
 abbrev pub means : {A : Type 0} → List ℕ → A → Spelled A
 means w a = record { spelling = w; meaning = a }
 
@@ -188,6 +188,7 @@ wordIn l unterminatedQuote = none
 pub data Keyword : Type 0 where
   machineWord kindWord inputWord outputWord tapesWord statesWord sigmaWord gammaWord blankWord startWord finalWord deltaWord : Keyword
 
+-- the words that a line begins with, in both spellings
 abbrev pub keywords : List (Spelled Keyword)
 keywords =
     means (codes "machine") machineWord ∷ means (codes "kind") kindWord ∷ means (codes "input") inputWord ∷ means (codes "output") outputWord ∷
@@ -195,6 +196,7 @@ keywords =
     means (codes "Γ") gammaWord ∷ means (codes "Gamma") gammaWord ∷ means (codes "blank") blankWord ∷ means (codes "start") startWord ∷
     means (codes "F") finalWord ∷ means (codes "δ") deltaWord ∷ means (codes "delta") deltaWord ∷ []
 
+-- the kinds of machine
 abbrev pub kinds : List (Spelled Kind)
 kinds = means (codes "acceptor") acceptor ∷ means (codes "transducer") transducer ∷ means (codes "enumerator") enumerator ∷ means (codes "beaver") beaver ∷ []
 
@@ -202,9 +204,11 @@ kinds = means (codes "acceptor") acceptor ∷ means (codes "transducer") transdu
 pub data OutputWord : Type 0 where
   wordOutput unaryOutput binaryOutput : OutputWord
 
+-- the outputs
 abbrev pub outputs : List (Spelled OutputWord)
 outputs = means (codes "word") wordOutput ∷ means (codes "unary") unaryOutput ∷ means (codes "binary") binaryOutput ∷ []
 
+-- the orders of bits
 abbrev pub orders : List (Spelled BitOrder)
 orders = means (codes "lsb") lsb ∷ means (codes "msb") msb ∷ []
 
@@ -218,27 +222,33 @@ stringTaken none t ts = fail (unexpected (t .kind)) (t .place)
 
 -- `stop` is the place of what ends the line's tokens: its comment or its line feed
 module _ {P : Type 0} (stop : P) where
+  -- a string in double quotes
   unfoldable pub string : Parser P (Text P)
   unfolding stringTaken stringIn
   string [] = fail 1 stop
   string (t ∷ ts) = stringTaken (stringIn (t .kind)) t ts
 
+  -- a number
   unfoldable pub numeral : Parser P (Located P ℕ)
   unfolding one numberIn unexpected
   numeral = one stop numberIn unexpected
 
+  -- a word of a table
   unfoldable pub choice : {A : Type 0} → List (Spelled A) → Parser P (Located P A)
   unfolding one wordIn unexpected
   choice l = one stop (wordIn l) unexpected
 
+  -- a state's name
   unfoldable pub state : Parser P (Located P (List ℕ))
   unfolding one stateIn unexpected
   state = one stop stateIn unexpected
 
+  -- a symbol
   unfoldable pub symbol : Parser P (Located P RawSymbol)
   unfolding one symbolIn unexpected
   symbol = one stop symbolIn unexpected
 
+  -- a direction
   unfoldable pub direction : Parser P (Located P Dir)
   unfolding one directionIn notDirection
   direction = one stop directionIn notDirection
@@ -295,6 +305,7 @@ module _ {P : Type 0} (stop : P) where
   itemOf finalWord = expect stop 0x3D >>= λ _. set stop state >>= λ q. give (finalItem q)
   itemOf deltaWord = transition >>= λ r. give (transitionItem r)
 
+  -- a keyword and what follows it
   unfoldable pub item : Parser P (Item P)
   unfolding _>>=_ choice itemOf
   item = choice keywords >>= λ k. itemOf (k .value)
@@ -312,6 +323,7 @@ pub data Ending : Type 0 where
   lineFeed goesBy : Ending
   remark : List ℕ → Ending
 
+-- how a token of a kind ends them
 unfoldable pub endingOf : TokenKind → Ending
 endingOf newline = lineFeed
 endingOf (comment s) = remark s
@@ -323,7 +335,7 @@ endingOf (sign c) = goesBy
 endingOf unterminatedString = goesBy
 endingOf unterminatedQuote = goesBy
 
--- a token in front of rows: it joins the first of them, opens a new one, or is its comment
+-- a token in front of rows: it joins the first of them, opens a new one, or is its comment, behind which no token stands
 unfoldable pub inFront : {P : Type 0} → Ending → Token P → List (Row P) → List (Row P)
 inFront lineFeed t rs = record { body = []; stop = t .place; comment = none } ∷ rs
 inFront goesBy t [] = []
@@ -356,11 +368,13 @@ emptyLine (some c) = commentLine c
 
 -- a row's line; `a ⋯ b` is the place from the start of a to the end of b
 module _ {P : Type 0} (_⋯_ : P → P → P) where
+  -- the line of a list of tokens, what ends them, and the comment
   unfoldable pub lineFrom : List (Token P) → P → Option (Located P (List ℕ)) → Line P
   unfolding emptyLine finished lastPlace item
   lineFrom [] stop c = emptyLine c
   lineFrom (t ∷ ts) stop c = finished (_⋯_ (t .place) (lastPlace (t .place) ts)) c (item stop (t ∷ ts))
 
+  -- the line of a row
   unfoldable pub lineOf : Row P → Line P
   unfolding lineFrom
   lineOf r = lineFrom (r .body) (r .stop) (r .comment)

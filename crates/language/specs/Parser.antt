@@ -13,6 +13,7 @@ pub data Result (P A : Type 0) : Type 0 where
   ok : A → List (Token P) → Result P A
   fail : ℕ → P → Result P A
 
+-- what reads tokens from the front of a list
 abbrev pub Parser : Type 0 → Type 0 → Type 0
 Parser P A = List (Token P) → Result P A
 
@@ -22,6 +23,7 @@ unfoldable pub then : {P A B : Type 0} → Result P A → (A → Parser P B) →
 then (ok a ts) f = f a ts
 then (fail n p) f = fail n p
 
+-- the same for a parser
 unfoldable pub _>>=_ : {P A B : Type 0} → Parser P A → (A → Parser P B) → Parser P B
 unfolding then
 _>>=_ p f = λ ts. then (p ts) f
@@ -113,7 +115,7 @@ module _ {P : Type 0} (stop : P) where
     more ← one (goesOn c) unexpected
     goOn (more .value) (atMost n p c) a
 
-  -- entries parted by commas, up to the sign c; each takes a token, so there are no more of them than tokens
+  -- entries parted by commas, up to the sign c; each takes a token, so there are no more of them than tokens (proofs/Entries.antt: the bound drops out)
   unfoldable pub entries : {A : Type 0} → Parser P A → ℕ → Parser P (List A)
   unfolding atMost
   entries p c ts = atMost (length ts) p c ts

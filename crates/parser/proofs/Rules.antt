@@ -1,11 +1,11 @@
 -- Laws of items and lines: a value ends behind where it began, in the row, and each part goes on where the one before it ended.
 use mathlib.Core.Path.{_≡_, refl, sym, ap, subst, _∙_}
-use Prim.Native.Nat.{ℕ, zero, suc, _+_, _-_, _*_, _≤_, _<_, _^_}
+use Prim.Native.Nat.{ℕ, suc, _+_, _-_, _≤_, _<_, _^_}
 use native.Mathlib.Omega.{arith}
 use native.Mathlib.Numerals.{add-one}
 use native.Mathlib.Decide.{decLt}
 use mathlib.Core.Bool.{Bool, true, false, cond}
-use mathlib.Core.List.{List, [], _∷_}
+use mathlib.Core.List.{List, []}
 use lib.ListN.{length, drop, drop-of-length-le, List·getD-eq-default}
 use lib.Seq.{drop-cons}
 use lib.Dec.{eqb}
@@ -15,9 +15,9 @@ use borrow.Author.Needs.{needs}
 use borrow.Author.Tests.{eq-eqb, ne-eqb}
 use Rattle.parser.specs.Row.{tokensIn, ended, peek}
 use Rattle.parser.specs.Views.{spanOf, isKind, isChoice, isState, isSymbol, isWrite, keywordOf, leadOf}
-use Rattle.parser.specs.Lines.{Parser, then, codeOf, unexpected, one, direction, entries, set, tuple, readEntry, output, side, equals, leftParts, noParts, on, onValue, left, right, transition, plain, value, spanning, newlineAt, finish, valueAt, lineOn, lineOf, itemFrom, itemOf, item, isComment, line, lineLength, lineEnd}
-use Rattle.parser.specs.declared.Token.{Token}
-use Rattle.parser.specs.declared.Span.{Span}
+use Rattle.parser.specs.Lines.{Parser, then, codeOf, one, direction, entries, set, tuple, readEntry, output, side, equals, leftParts, noParts, on, onValue, left, right, transition, plain, value, spanning, newlineAt, finish, valueAt, lineOn, lineOf, itemFrom, itemOf, item, isComment, line, lineLength, lineEnd}
+use Rattle.tokens.specs.declared.Token.{Token}
+use Rattle.lexer.specs.declared.Span.{Span}
 use Rattle.parser.specs.declared.Parsed.{Parsed}
 use Rattle.parser.specs.declared.Parsed.the-variants.{Done, Failed}
 use Rattle.parser.specs.declared.Parts.{Parts}
@@ -30,8 +30,8 @@ use Rattle.parser.specs.declared.Keyword.{Keyword}
 use Rattle.parser.specs.declared.Keyword.the-variants.{Starts, Other}
 use Rattle.parser.specs.declared.Line.{Line}
 use Rattle.parser.specs.declared.Line.the-variants.{Blank as Empty, Comment, Item as Read, Error}
-use Rattle.parser.proofs.Laws.{length-tokens, inside}
-use Rattle.parser.proofs.Single.{kind-ended, next-fits, sign-fits}
+use Rattle.parser.proofs.Laws.{inside}
+use Rattle.parser.proofs.Single.{kind-ended, next-fits}
 use Rattle.parser.proofs.Lists.{Within, Steps, on-test, then-steps, further, one-steps, state-steps, symbol-steps, read-steps, write-steps, direction-steps, entries-within, chain}
 
 -- ---- the parts of a rule
@@ -204,9 +204,9 @@ spanning-of ts i j a b s e f g p q = rw (p, q, f, g)
 
 -- ---- the line of an item
 module _ (k : ItemKind) (ts : List Token) (i v j : ℕ) (q : Parts) (n : ℕ) (t : Token) (e : n ≡ newlineAt ts j) (f : t ≡ peek ts n) where
-  pub finish-error : (c : ℕ) → (t .kind ≡ 13 → ⊥) → c ≡ codeOf t → Error c (spanOf t) ≡ finish k ts i v j q
+  pub finish-error : (c : ℕ) (s : Span) → (t .kind ≡ 13 → ⊥) → c ≡ codeOf t → s ≡ spanOf t → Error c s ≡ finish k ts i v j q
   unfolding finish
-  finish-error c g h = rw (← e, ← f, ne-eqb (t .kind) 13 g, h)
+  finish-error c s g h a = rw (← e, ← f, ne-eqb (t .kind) 13 g, h, a)
 
   pub finish-item : (s x : Span) → t .kind ≡ 13 → s ≡ spanning ts i j → x ≡ spanning ts v j
       → Read (record { kind = k; value = v; end = j; newline = n; span = s; «value_span» = x; parts = q }) ≡ finish k ts i v j q
@@ -245,9 +245,9 @@ module _ (ts : List Token) (i : ℕ) (t : Token) (k : Keyword) (e : t ≡ peek t
   keyword-here : keywordOf (peek ts i) ≡ k
   keyword-here = ap keywordOf (sym e) ∙ sym f
 
-  pub item-other : (c : ℕ) → k ≡ Other → c ≡ codeOf t → Error c (spanOf t) ≡ item ts i
+  pub item-other : (c : ℕ) (s : Span) → k ≡ Other → c ≡ codeOf t → s ≡ spanOf t → Error c s ≡ item ts i
   unfolding item itemFrom
-  item-other c d g = let q : keywordOf (peek ts i) ≡ Other = keyword-here ∙ d in rw (q, ← e, g)
+  item-other c s d g h = let q : keywordOf (peek ts i) ≡ Other = keyword-here ∙ d in rw (q, ← e, g, h)
 
   module _ (x : ItemKind) (d : k ≡ Starts x) where
     pub item-starts : (v : Line) → v ≡ itemOf x ts i → v ≡ item ts i

@@ -1,19 +1,19 @@
 -- Laws of the parsers of one token.
 use mathlib.Core.Path.{_≡_, refl, sym, ap, _∙_}
-use Prim.Native.Nat.{ℕ, suc, _+_, _*_, _≤_, _<_, _^_}
+use Prim.Native.Nat.{ℕ, _+_, _<_, _^_}
 use native.Mathlib.Omega.{arith}
-use mathlib.Core.Bool.{Bool, true, false, cond}
-use mathlib.Core.List.{List, [], _∷_}
+use mathlib.Core.Bool.{Bool, true, false}
+use mathlib.Core.List.{List, []}
 use lib.ListN.{length}
-use lib.Dec.{eqb, ltb, leb}
 use mir.Syntax.{w64}
 use mir.Val.{Fits}
 use borrow.Author.Needs.{needs}
-use borrow.Author.Tests.{eq-eqb, ne-eqb, eqb-true}
+use borrow.Author.Tests.{eq-eqb, ne-eqb}
 use Rattle.parser.specs.Row.{tokensIn, ended, peek}
 use Rattle.parser.specs.Views.{spanOf, isKind, isChoice, isState, isSymbol, isWrite, isDirection, isText}
 use Rattle.parser.specs.Lines.{unexpected, one, direction, separator}
-use Rattle.parser.specs.declared.Token.{Token}
+use Rattle.tokens.specs.declared.Token.{Token}
+use Rattle.lexer.specs.declared.Span.{Span}
 use Rattle.parser.specs.declared.Parsed.{Parsed}
 use Rattle.parser.specs.declared.Parsed.the-variants.{Done, Failed}
 use Rattle.parser.proofs.Laws.{length-tokens, inside}
@@ -74,9 +74,9 @@ module _ (w : List ℕ) (i : ℕ) (t : Token) (at : t ≡ peek (tokensIn w) i) w
     direction-yes y = rw (← at, ← test, y)
 
     module _ (no : b ≡ false) (d : Bool) (text : d ≡ isText t) where
-      pub direction-text : d ≡ true → Failed 8 (spanOf t) ≡ direction (tokensIn w) i
+      pub direction-text : (s : Span) → d ≡ true → s ≡ spanOf t → Failed 8 s ≡ direction (tokensIn w) i
       unfolding direction
-      direction-text y = rw (← at, ← test, no, ← text, y)
+      direction-text s y e = rw (← at, ← test, no, ← text, y, e)
 
       pub direction-no : (r : Parsed) → d ≡ false → r ≡ unexpected t → r ≡ direction (tokensIn w) i
       unfolding direction

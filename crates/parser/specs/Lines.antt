@@ -1,13 +1,13 @@
 -- Paper 01, "parser.rs, lines", over the tokens that stand in a row: `p ts i` reads from the index i on.
 use Prim.Native.Nat.{ℕ, zero, suc, _+_, _-_}
-use mathlib.Core.Bool.{Bool, true, false, cond, _&&_}
+use mathlib.Core.Bool.{Bool, true, false, cond}
 use mathlib.Core.List.{List, [], _∷_}
 use lib.Dec.{eqb}
 use lib.ListN.{length, drop}
 use Rattle.parser.specs.Row.{peek}
 use Rattle.parser.specs.Views.{spanOf, isKind, isChoice, isState, isSymbol, isWrite, isDirection, isText, keywordOf, leadOf}
-use Rattle.parser.specs.declared.Token.{Token}
-use Rattle.parser.specs.declared.Span.{Span}
+use Rattle.tokens.specs.declared.Token.{Token}
+use Rattle.lexer.specs.declared.Span.{Span}
 use Rattle.parser.specs.declared.Parsed.{Parsed}
 use Rattle.parser.specs.declared.Parsed.the-variants.{Done, Failed}
 use Rattle.parser.specs.declared.Parts.{Parts}
@@ -19,10 +19,10 @@ use Rattle.parser.specs.declared.Keyword.{Keyword}
 use Rattle.parser.specs.declared.Keyword.the-variants.{Starts, Other}
 use Rattle.parser.specs.declared.Lead.{Lead}
 use Rattle.parser.specs.declared.Lead.the-variants.{Equals, Nothing, Whole}
-use Rattle.parser.specs.declared.Item.{Item}
 use Rattle.parser.specs.declared.Line.{Line}
 use Rattle.parser.specs.declared.Line.the-variants.{Blank as Empty, Comment, Item as Read, Error}
 
+-- a parser: from an index on, the index behind what it reads and a count, or a failure
 abbrev pub Parser : Type 0
 Parser = List Token → ℕ → Parsed
 
@@ -35,6 +35,7 @@ then (Failed c s) f = Failed c s
 unfoldable pub codeOf : Token → ℕ
 codeOf t = cond (eqb (t .kind) 14) 2 1
 
+-- the failure at such a token
 unfoldable pub unexpected : Token → Parsed
 unfolding codeOf
 unexpected t = Failed (codeOf t) (spanOf t)
@@ -66,6 +67,7 @@ entriesFrom p close ts (suc k) i n =
     then (p ts i) λ j _.
     then (separator close ts j) λ next more. elim (eqb more 0) [ true ↦ Done next (n + 1) | false ↦ entriesFrom p close ts k next (n + 1) ]
 
+-- all entries: each takes a token, so there are no more of them than tokens
 unfoldable pub entries : Parser → ℕ → List Token → ℕ → ℕ → Parsed
 unfolding entriesFrom
 entries p close ts i n = entriesFrom p close ts (suc (length ts)) i n
@@ -119,6 +121,7 @@ unfoldable pub on : Parsed → (ℕ → ℕ → Value) → Value
 on (Done i n) f = f i n
 on (Failed c s) f = Broken c s
 
+-- go on behind a value, or keep its failure
 unfoldable pub onValue : Value → (ℕ → Parts → Value) → Value
 onValue (Ended i q) f = f i q
 onValue (Broken c s) f = Broken c s
@@ -199,6 +202,7 @@ unfoldable pub lineOn : Parsed → (ℕ → ℕ → Line) → Line
 lineOn (Done i n) f = f i n
 lineOn (Failed c s) f = Error c s
 
+-- the line of a value, or its failure
 unfoldable pub lineOf : Value → (ℕ → Parts → Line) → Line
 lineOf (Ended i q) f = f i q
 lineOf (Broken c s) f = Error c s

@@ -5,14 +5,14 @@ ghost use Rattle.parser.specs.Row.{tokensIn, peek};
 ghost use Rattle.parser.specs.Views.{isKind, isChoice, isState, isSymbol, isWrite};
 ghost use Rattle.parser.specs.Lines.{codeOf, unexpected, one, direction, separator, entries, set, tuple, readEntry, output};
 use crate::Parsed;
-use crate::Span;
-use crate::Token;
-use crate::kind;
 use crate::row::token_at;
 use crate::view;
+use lexer::kind;
+use tokens::Token;
+use tokens::span_of;
 
 // E002 for an unterminated string, E001 for any other token that is not what is due.
-pub fn code_of(t: Token) -> u32
+pub(crate) fn code_of(t: Token) -> u32
     ensures { λ r. ⌜ r ≡ codeOf t ⌝ }
 {
     if t.kind == kind::UNTERMINATED_STRING {
@@ -21,21 +21,15 @@ pub fn code_of(t: Token) -> u32
     1
 }
 
-pub fn unexpected(t: Token) -> Parsed
+// The failure at a token that is not what is due.
+pub(crate) fn unexpected(t: Token) -> Parsed
     ensures { λ r. ⌜ r ≡ unexpected t ⌝ }
 {
-    let code = code_of(t);
-    Parsed::Failed(
-        code,
-        Span {
-            start: t.start,
-            end: t.end,
-        },
-    )
+    Parsed::Failed(code_of(t), span_of(t))
 }
 
 // A sign of a kind.
-pub fn expect(work: &[u32], at: usize, kind: u32) -> Parsed
+pub(crate) fn expect(work: &[u32], at: usize, kind: u32) -> Parsed
     requires { ⌜ kind < 13 ⌝ }
     ensures { λ r. ⌜ r ≡ one (isKind kind) (tokensIn (now (work .entry))) at ⌝ }
 {
@@ -47,7 +41,7 @@ pub fn expect(work: &[u32], at: usize, kind: u32) -> Parsed
 }
 
 // A keyword among those of some values.
-pub fn choice(work: &[u32], at: usize, first: u32, last: u32) -> Parsed
+pub(crate) fn choice(work: &[u32], at: usize, first: u32, last: u32) -> Parsed
     ensures { λ r. ⌜ r ≡ one (isChoice first last) (tokensIn (now (work .entry))) at ⌝ }
 {
     let t = token_at(work, at);
@@ -57,7 +51,8 @@ pub fn choice(work: &[u32], at: usize, first: u32, last: u32) -> Parsed
     unexpected(t)
 }
 
-pub fn state(work: &[u32], at: usize) -> Parsed
+// A state's name.
+pub(crate) fn state(work: &[u32], at: usize) -> Parsed
     ensures { λ r. ⌜ r ≡ one isState (tokensIn (now (work .entry))) at ⌝ }
 {
     let t = token_at(work, at);
@@ -67,7 +62,8 @@ pub fn state(work: &[u32], at: usize) -> Parsed
     unexpected(t)
 }
 
-pub fn symbol(work: &[u32], at: usize) -> Parsed
+// A symbol.
+pub(crate) fn symbol(work: &[u32], at: usize) -> Parsed
     ensures { λ r. ⌜ r ≡ one isSymbol (tokensIn (now (work .entry))) at ⌝ }
 {
     let t = token_at(work, at);
@@ -78,7 +74,7 @@ pub fn symbol(work: &[u32], at: usize) -> Parsed
 }
 
 // A symbol, or `*` for the symbol read.
-pub fn write_entry(work: &[u32], at: usize) -> Parsed
+pub(crate) fn write_entry(work: &[u32], at: usize) -> Parsed
     ensures { λ r. ⌜ r ≡ one isWrite (tokensIn (now (work .entry))) at ⌝ }
 {
     let t = token_at(work, at);
@@ -88,7 +84,8 @@ pub fn write_entry(work: &[u32], at: usize) -> Parsed
     unexpected(t)
 }
 
-pub fn direction(work: &[u32], at: usize) -> Parsed
+// A direction; what may look like one is E008.
+pub(crate) fn direction(work: &[u32], at: usize) -> Parsed
     ensures { λ r. ⌜ r ≡ direction (tokensIn (now (work .entry))) at ⌝ }
 {
     let t = token_at(work, at);
@@ -96,17 +93,13 @@ pub fn direction(work: &[u32], at: usize) -> Parsed
         return Parsed::Done(at + 1, 1);
     }
     if view::is_text(t) {
-        let span = Span {
-            start: t.start,
-            end: t.end,
-        };
-        return Parsed::Failed(8, span);
+        return Parsed::Failed(8, span_of(t));
     }
     unexpected(t)
 }
 
 // Behind an entry: a comma, and 1 for more to come; or the closing sign, and 0.
-pub fn separator(work: &[u32], at: usize, close: u32) -> Parsed
+pub(crate) fn separator(work: &[u32], at: usize, close: u32) -> Parsed
     requires { ⌜ close < 13 ⌝ }
     ensures { λ r. ⌜ r ≡ separator close (tokensIn (now (work .entry))) at ⌝ }
 {
@@ -121,7 +114,7 @@ pub fn separator(work: &[u32], at: usize, close: u32) -> Parsed
 }
 
 // States parted by commas, up to `}`.
-pub fn state_entries(work: &[u32], at: usize) -> Parsed
+pub(crate) fn state_entries(work: &[u32], at: usize) -> Parsed
     ensures { λ r. ⌜ r ≡ entries (one isState) 7 (tokensIn (now (work .entry))) at 0 ⌝ }
 {
     let mut i = at;
@@ -144,7 +137,7 @@ pub fn state_entries(work: &[u32], at: usize) -> Parsed
 }
 
 // Symbols parted by commas, up to `}`.
-pub fn symbol_entries(work: &[u32], at: usize) -> Parsed
+pub(crate) fn symbol_entries(work: &[u32], at: usize) -> Parsed
     ensures { λ r. ⌜ r ≡ entries (one isSymbol) 7 (tokensIn (now (work .entry))) at 0 ⌝ }
 {
     let mut i = at;
@@ -167,7 +160,7 @@ pub fn symbol_entries(work: &[u32], at: usize) -> Parsed
 }
 
 // Write entries parted by commas, up to `)`.
-pub fn write_entries(work: &[u32], at: usize) -> Parsed
+pub(crate) fn write_entries(work: &[u32], at: usize) -> Parsed
     ensures { λ r. ⌜ r ≡ entries (one isWrite) 5 (tokensIn (now (work .entry))) at 0 ⌝ }
 {
     let mut i = at;
@@ -190,7 +183,7 @@ pub fn write_entries(work: &[u32], at: usize) -> Parsed
 }
 
 // Directions parted by commas, up to `)`.
-pub fn direction_entries(work: &[u32], at: usize) -> Parsed
+pub(crate) fn direction_entries(work: &[u32], at: usize) -> Parsed
     ensures { λ r. ⌜ r ≡ entries direction 5 (tokensIn (now (work .entry))) at 0 ⌝ }
 {
     let mut i = at;
@@ -213,7 +206,7 @@ pub fn direction_entries(work: &[u32], at: usize) -> Parsed
 }
 
 // What a rule reads on one tape: a symbol, or a set that is not empty.
-pub fn read_entry(work: &[u32], at: usize) -> Parsed
+pub(crate) fn read_entry(work: &[u32], at: usize) -> Parsed
     ensures { λ r. ⌜ r ≡ readEntry (tokensIn (now (work .entry))) at ⌝ }
 {
     let t = token_at(work, at);
@@ -228,7 +221,7 @@ pub fn read_entry(work: &[u32], at: usize) -> Parsed
 }
 
 // Read entries parted by commas, up to `)`.
-pub fn read_entries(work: &[u32], at: usize) -> Parsed
+pub(crate) fn read_entries(work: &[u32], at: usize) -> Parsed
     ensures { λ r. ⌜ r ≡ entries readEntry 5 (tokensIn (now (work .entry))) at 0 ⌝ }
 {
     let mut i = at;
@@ -251,7 +244,7 @@ pub fn read_entries(work: &[u32], at: usize) -> Parsed
 }
 
 // A set of states, which may be empty.
-pub fn state_set(work: &[u32], at: usize) -> Parsed
+pub(crate) fn state_set(work: &[u32], at: usize) -> Parsed
     ensures { λ r. ⌜ r ≡ set (one isState) (tokensIn (now (work .entry))) at ⌝ }
 {
     let p = expect(work, at, kind::L_BRACE);
@@ -266,7 +259,7 @@ pub fn state_set(work: &[u32], at: usize) -> Parsed
 }
 
 // A set of symbols, which may be empty.
-pub fn symbol_set(work: &[u32], at: usize) -> Parsed
+pub(crate) fn symbol_set(work: &[u32], at: usize) -> Parsed
     ensures { λ r. ⌜ r ≡ set (one isSymbol) (tokensIn (now (work .entry))) at ⌝ }
 {
     let p = expect(work, at, kind::L_BRACE);
@@ -281,7 +274,7 @@ pub fn symbol_set(work: &[u32], at: usize) -> Parsed
 }
 
 // What a rule reads: one entry, or one for each tape in parentheses.
-pub fn reads(work: &[u32], at: usize) -> Parsed
+pub(crate) fn reads(work: &[u32], at: usize) -> Parsed
     ensures { λ r. ⌜ r ≡ tuple readEntry (tokensIn (now (work .entry))) at ⌝ }
 {
     let t = token_at(work, at);
@@ -292,7 +285,7 @@ pub fn reads(work: &[u32], at: usize) -> Parsed
 }
 
 // What it writes, in the same form.
-pub fn writes(work: &[u32], at: usize) -> Parsed
+pub(crate) fn writes(work: &[u32], at: usize) -> Parsed
     ensures { λ r. ⌜ r ≡ tuple (one isWrite) (tokensIn (now (work .entry))) at ⌝ }
 {
     let t = token_at(work, at);
@@ -303,7 +296,7 @@ pub fn writes(work: &[u32], at: usize) -> Parsed
 }
 
 // Its directions, in the same form.
-pub fn directions(work: &[u32], at: usize) -> Parsed
+pub(crate) fn directions(work: &[u32], at: usize) -> Parsed
     ensures { λ r. ⌜ r ≡ tuple direction (tokensIn (now (work .entry))) at ⌝ }
 {
     let t = token_at(work, at);
@@ -314,7 +307,7 @@ pub fn directions(work: &[u32], at: usize) -> Parsed
 }
 
 // How the output is read: `word`, `unary` and a symbol, or `binary` and `lsb` or `msb`.
-pub fn output(work: &[u32], at: usize) -> Parsed
+pub(crate) fn output(work: &[u32], at: usize) -> Parsed
     ensures { λ r. ⌜ r ≡ output (tokensIn (now (work .entry))) at ⌝ }
 {
     let t = token_at(work, at);

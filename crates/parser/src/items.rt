@@ -11,12 +11,13 @@ use crate::Lead;
 use crate::Line;
 use crate::Parsed;
 use crate::Parts;
-use crate::Span;
 use crate::Value;
 use crate::elements;
-use crate::kind;
 use crate::row::token_at;
 use crate::view;
+use lexer::Span;
+use lexer::kind;
+use tokens::span_of;
 
 // `(`, a state and a comma.
 fn side(work: &[u32], at: usize) -> Parsed
@@ -189,12 +190,7 @@ fn finish(work: &[u32], at: usize, kind: ItemKind, first: usize, end: usize, par
     let newline = newline_at(work, end);
     let t = token_at(work, newline);
     if t.kind != kind::NEWLINE {
-        let code = elements::code_of(t);
-        let place = Span {
-            start: t.start,
-            end: t.end,
-        };
-        return Line::Error(code, place);
+        return Line::Error(elements::code_of(t), span_of(t));
     }
     let span = spanning(work, at, end);
     let value_span = spanning(work, first, end);
@@ -247,16 +243,7 @@ fn item(work: &[u32], at: usize) -> Line
     let k = view::keyword(t);
     match k {
         Keyword::Starts(kind) => item_of(work, at, kind),
-        Keyword::Other => {
-            let code = elements::code_of(t);
-            Line::Error(
-                code,
-                Span {
-                    start: t.start,
-                    end: t.end,
-                },
-            )
-        }
+        Keyword::Other => Line::Error(elements::code_of(t), span_of(t)),
     }
 }
 

@@ -4,17 +4,18 @@ ghost use Rattle.parser.specs.Views.{isKind, isChoice, isState, isSymbol
 use crate::ItemKind;
 use crate::Keyword;
 use crate::Lead;
-use crate::Token;
-use crate::kind;
+use lexer::kind;
+use tokens::Token;
 
-pub fn is_kind(t: Token, kind: u32) -> bool
+// A token of a kind.
+pub(crate) fn is_kind(t: Token, kind: u32) -> bool
     ensures { λ r. ⌜ r ≡ isKind kind t ⌝ }
 {
     t.kind == kind
 }
 
 // A word among the keywords of some values.
-pub fn is_choice(t: Token, first: u32, last: u32) -> bool
+pub(crate) fn is_choice(t: Token, first: u32, last: u32) -> bool
     ensures { λ r. ⌜ r ≡ isChoice first last t ⌝ }
 {
     if t.kind == kind::WORD {
@@ -56,7 +57,7 @@ pub fn is_symbol(t: Token) -> bool
 }
 
 // A symbol, or `*` for the symbol read.
-pub fn is_write(t: Token) -> bool
+pub(crate) fn is_write(t: Token) -> bool
     ensures { λ r. ⌜ r ≡ isWrite t ⌝ }
 {
     if t.kind == kind::STAR {
@@ -66,7 +67,7 @@ pub fn is_write(t: Token) -> bool
 }
 
 // L, R or N.
-pub fn is_move(c: u32) -> bool
+pub(crate) fn is_move(c: u32) -> bool
     ensures { λ r. ⌜ r ≡ isMove c ⌝ }
 {
     if c == 0x4C {
@@ -79,20 +80,20 @@ pub fn is_move(c: u32) -> bool
 }
 
 // L, R or N, as a word or quoted.
-pub fn is_direction(t: Token) -> bool
+pub(crate) fn is_direction(t: Token) -> bool
     ensures { λ r. ⌜ r ≡ isDirection t ⌝ }
 {
     if t.kind == kind::WORD {
         return is_move(t.value);
     }
-    if t.kind == kind::QUOTED {
-        return is_move(t.value);
+    if t.kind != kind::QUOTED {
+        return false;
     }
-    false
+    is_move(t.value)
 }
 
 // What is E008 where a direction is due: a word, a number, a quoted character, `*` or another sign.
-pub fn is_text(t: Token) -> bool
+pub(crate) fn is_text(t: Token) -> bool
     ensures { λ r. ⌜ r ≡ isText t ⌝ }
 {
     if t.kind < kind::STR {
@@ -105,7 +106,7 @@ pub fn is_text(t: Token) -> bool
 }
 
 // The item that a word starts: by its code if it is one character, else by its number among the keywords.
-pub fn keyword(t: Token) -> Keyword
+pub(crate) fn keyword(t: Token) -> Keyword
     ensures { λ r. ⌜ r ≡ keywordOf t ⌝ }
 {
     if t.kind != kind::WORD {
@@ -132,7 +133,8 @@ pub fn keyword(t: Token) -> Keyword
     }
 }
 
-pub fn lead(kind: ItemKind) -> Lead
+// What leads an item's value.
+pub(crate) fn lead(kind: ItemKind) -> Lead
     ensures { λ r. ⌜ r ≡ leadOf kind ⌝ }
 {
     match kind {

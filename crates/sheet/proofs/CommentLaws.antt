@@ -2,15 +2,15 @@
 use mathlib.Core.Path.{_≡_, refl, sym, ap, subst, _∙_}
 use mathlib.Core.Bool.{Bool, true, false, cond}
 use mathlib.Core.List.{List, [], _∷_, _++_, append-assoc}
-use Prim.Native.Nat.{ℕ, zero, suc, _+_, _-_, _*_, _≤_, _<_, _^_, _%_}
+use Prim.Native.Nat.{ℕ, zero, suc, _+_, _-_, _*_, _≤_, _<_, _^_, _%_, _/_}
 use native.Mathlib.Omega.{arith}
 use native.Mathlib.Numerals.{add-one}
 use native.Mathlib.Decide.{decLt}
 use borrow.Author.Tests.{le-leb, lt-leb, lt-ltb, le-ltb, eq-eqb, ne-eqb}
 use lib.Dec.{eqb, leb, ltb}
-use lib.ListN.{length, getD, take, drop, length-append, drop-of-length-le, List·getD-eq-default}
+use lib.ListN.{length, getD, take, drop, length-append, length-take, length-drop, drop-of-length-le, List·getD-eq-default}
 use lib.Seq.{sets, drop-cons, take-nil}
-use Rattle.parser.specs.declared.Token.{Token}
+use Rattle.tokens.specs.declared.Token.{Token}
 use Rattle.parser.specs.Row.{ended, peek}
 use Rattle.diag.specs.declared.Span.{Span}
 use Rattle.language.specs.Layout.{flat}
@@ -19,7 +19,7 @@ use Rattle.assembler.specs.Rows.{rows}
 use Rattle.assembler.specs.Entries.{Entry, entryAt, behind, entriesFrom, entries}
 use Rattle.assembler.proofs.Rows.{length-rows, entriesAt, entries-step, entries-end}
 use Rattle.sheet.specs.declared.comments.Pending.{Pending}
-use Rattle.sheet.specs.Comments.{spanWords, textOf, textWords, commentsIn, between, next, nothing, passed, passedAll, headerOf, headerFrom, header, trailing}
+use Rattle.sheet.specs.Comments.{spanWords, textOf, textWords, commentsIn, between, next, nothing, passed, passedAll, leadFrom, headerOf, headerFrom, header, trailing}
 use Rattle.sheet.specs.Stored.{Stored}
 use Rattle.sheet.proofs.Writes.{stored-none, stored-as, stored-length, Writing, writing-start, writing-on, writing-room, written, written-last}
 
@@ -88,6 +88,37 @@ between-on ts i j h = go (decLt i (length ts))
         let past : peek ts i ≡ ended = List·getD-eq-default ts ended {n = i} (omega arith) in
         between-past ts i j (omega arith) ∙ sym (ap (λ (t : Token). commentsIn (t ∷ []) ++ between ts (i + 1) j) past ∙ between-past ts (i + 1) j (omega arith))
 
+-- no more than there are tokens
+comments-few : (l : List Token) → length (commentsIn l) ≤ length l
+unfolding commentsIn
+comments-few [] = omega arith
+comments-few (t ∷ ts) = go (eqb (t .kind) 12) (comments-few ts)
+  where
+    go : (b : Bool) → length (commentsIn ts) ≤ length ts → length {A = Token} (elim b [ true ↦ t ∷ commentsIn ts | false ↦ commentsIn ts ]) ≤ length (t ∷ ts)
+    go true h = omega arith
+    go false h = omega arith
+
+pub between-few : (ts : List Token) (i j : ℕ) → length (between ts i j) ≤ length ts - i
+unfolding between
+between-few ts i j = omega (arith, comments-few (take (j - i) (drop i ts)), length-take (j - i) (drop i ts), length-drop i ts)
+
+-- two words each
+pub length-texts : (cs : List Token) → length (flat textWords cs) ≡ 2 * length cs
+unfolding flat
+length-texts [] = refl
+length-texts (c ∷ cs) = omega (arith, length-texts cs)
+
+module _ (count : ℕ) (work : List ℕ) (i j : ℕ) (room : 4 * count ≤ length work) where
+  pub count-room : 2 * count < 2 ^ 64 → 0 + length (flat textWords (between (rows count work) i j)) < 2 ^ 64
+  count-room h =
+      let ts : List Token = rows count work in
+      omega (arith, length-texts (between ts i j), between-few ts i j, length-rows count work room)
+
+  pub count-half : (o o′ : List ℕ) (r : ℕ) → Stored (flat textWords (between (rows count work) i j)) o 0 o′ r → r / 2 ≡ length (between (rows count work) i j)
+  count-half o o′ r s =
+      let ts : List Token = rows count work in
+      omega (arith, length-texts (between ts i j), s .behind)
+
 -- the walk has come to the index i
 abbrev pub Gathering : ℕ → List ℕ → ℕ → ℕ → List ℕ → ℕ → List ℕ → ℕ → ℕ → Type 0
 Gathering count work from to o₀ at o n i =
@@ -131,6 +162,14 @@ module _ (p : Pending) (i : ℕ) (t : Token) (j : ℕ) (behind-it : j ≡ next i
   pub passed-blank : t .kind < 16 → (t .kind ≡ 12 → ⊥) → record { seen = p .seen; from = p .from; block = j } ≡ passed p i t
   unfolding passed
   passed-blank h g = rw (lt-leb 16 (t .kind) h, ne-eqb (t .kind) 12 g, behind-it)
+
+pub lead-all : (p : Pending) → p .seen ≡ true → p .from ≡ leadFrom p
+unfolding leadFrom
+lead-all p h = rw h
+
+pub lead-block : (p : Pending) → p .seen ≡ false → p .block ≡ leadFrom p
+unfolding leadFrom
+lead-block p h = rw h
 
 -- ---- the header comments of one line
 module _ (ts : List Token) (p : Pending) (t : Token) where
@@ -201,7 +240,7 @@ module _ (count : ℕ) (work : List ℕ) (room : 4 * count ≤ length work) wher
   row = rows count work
 
   -- a line, and those behind it
-  lines-on : (i j : ℕ) (t : Token) → i < count → t ≡ peek row i → j ≡ next i t
+  pub lines-on : (i j : ℕ) (t : Token) → i < count → t ≡ peek row i → j ≡ next i t
       → entriesAt row i ≡ record { at = i; first = t; rest = drop (suc i) row } ∷ entriesAt row j
   lines-on i j t h e f =
       let many : length row ≡ count = length-rows count work room in
@@ -209,7 +248,7 @@ module _ (count : ℕ) (work : List ℕ) (room : 4 * count ≤ length work) wher
       ∙ ap (λ (t : Token). record { at = i; first = t; rest = drop (suc i) row } ∷ entriesAt row (next i t)) (sym e)
       ∙ ap (λ (k : ℕ). record { at = i; first = t; rest = drop (suc i) row } ∷ entriesAt row k) (sym f)
 
-  lines-end : (i : ℕ) → count ≤ i → entriesAt row i ≡ []
+  pub lines-end : (i : ℕ) → count ≤ i → entriesAt row i ≡ []
   lines-end i h = entries-end row i (omega (arith, length-rows count work room))
 
   pub pending-on : (p p′ : Pending) (i j : ℕ) (t : Token) → passedAll p (entriesAt (rows count work) i) ≡ passedAll nothing (entries (rows count work)) → i < count

@@ -11,7 +11,7 @@ use mir.Val.{Fits}
 use lib.Dec.{eqb, leb, ltb}
 use lib.ListN.{length, getD, take, drop, set, length-append, length-drop, length-map, drop-of-length-le}
 use lib.Seq.{sets, drop-cons, getD-drop, getD-take, length-take-le}
-use Rattle.parser.specs.declared.Token.{Token}
+use Rattle.tokens.specs.declared.Token.{Token}
 use Rattle.parser.specs.Row.{ended, peek}
 use Rattle.diag.specs.declared.Span.{Span}
 use Rattle.language.specs.Layout.{flat, ruleLength}
@@ -21,7 +21,9 @@ use Rattle.sheet.specs.declared.rules.Rule.{Rule}
 use Rattle.sheet.specs.Stored.{Stored}
 use Rattle.sheet.specs.Comments.{spanWords, textOf, textWords, between}
 use Rattle.sheet.specs.Wheels.{part}
-use Rattle.sheet.specs.Rules.{noSpan, resolve, written, moveOf, firstEntry, ruleAt, ownPlace, tapeWords, tapeAt, tapesWords, placesWords, headWords, ruleWords}
+use Rattle.sheet.specs.Rules.{noSpan, resolve, written, moveOf, firstEntry, ruleAt, ownPlace, tapeWords, tapeAt, tapesWords, placesWords, headWords, ruleWords, Placed}
+use Rattle.assembler.proofs.Rows.{length-rows}
+use Rattle.sheet.proofs.CommentLaws.{between-few, length-texts}
 use Rattle.sheet.proofs.Writes.{stored-word, stored-none, stored-as, stored-append, Writing, writing-start, writing-on, writing-room, written as all-written}
 
 -- ---- what a token says
@@ -97,6 +99,14 @@ module _ (ts : List Token) (i : ℕ) (t : Token) (here : t ≡ peek ts i) where
       pub own-none : (c .kind ≡ 12 → ⊥) → noSpan ≡ ownPlace ts i
       unfolding ownPlace
       own-none g = rw (← here, ← end, ne-eqb n 0 h, ← last, ne-eqb (c .kind) 12 g)
+
+pub entry-small : (ts : List Token) (r i : ℕ) → r ≡ firstEntry ts i → i < 2 ^ 32 → r ≤ 2 ^ 32
+unfolding firstEntry
+entry-small ts r i e h = go (eqb (peek ts i .kind) 4) e
+  where
+    go : (b : Bool) → r ≡ cond b (i + 1) i → r ≤ 2 ^ 32
+    go true f = omega arith
+    go false f = omega arith
 
 pub rule-is : (ts : List Token) (i n : ℕ) (q : Token) (x y z y′ z′ : ℕ) → q ≡ peek ts (i + 3) → x ≡ q .start → y ≡ q .end → z ≡ q .value → y′ ≡ firstEntry ts y → z′ ≡ firstEntry ts z
     → record { line = i; to = x; write = y′; dir = z′; tapes = n } ≡ ruleAt ts i n
@@ -186,8 +196,12 @@ module _ (count : ℕ) (work : List ℕ) (b : ℕ) (r : Rule) (blank : ℕ) wher
       pub taping-room : at + 7 * r .tapes < 2 ^ 64 → i + 7 < 2 ^ 64
       unfolding tapeAt tapeWords
       taping-room u =
-          omega (arith, length-tapes blank ts (r .write) (r .dir) (reads count work b (r .tapes)), length-reads count work b (r .tapes) fits,
-          writing-room (sets o₀ at all) (at + length all) o i (left t) g one (left (t + 1)) left-on)
+          omega (
+            arith,
+            length-tapes blank ts (r .write) (r .dir) (reads count work b (r .tapes)),
+            length-reads count work b (r .tapes) fits,
+            writing-room (sets o₀ at all) (at + length all) o i (left t) g one (left (t + 1)) left-on,
+          )
 
       pub taping-on : (o′ : List ℕ) (i′ : ℕ) → Stored (tapeAt blank (rows count work) r t (getD work (b + t) 0)) o i o′ i′ → Taping count work b r blank o₀ at o′ i′ (t + 1)
       taping-on o′ i′ s = writing-on (sets o₀ at all) (at + length all) o i (left t) g one (left (t + 1)) o′ i′ left-on s
@@ -238,7 +252,74 @@ head-stored ts r c n k o o₁ o₂ o₃ o₄ at i a b d e =
     (stored-append (n ∷ []) (k ∷ []) o₂ o₃ o₄ i (i + 1) (i + 1 + 1) (stored-word o₂ o₃ i n d) (stored-word o₃ o₄ (i + 1) k e))))
 
 -- ---- a rule
-length-texts : (cs : List Token) → length (flat textWords cs) ≡ 2 * length cs
-unfolding flat
-length-texts [] = refl
-length-texts (c ∷ cs) = omega (arith, length-texts cs)
+
+length-head : (ts : List Token) (r : Rule) (c : Span) (n k : ℕ) → length (headWords ts r c n k) ≡ 11
+unfolding headWords placesWords
+length-head ts r c n k = refl
+
+pub length-rule : (b : ℕ) (ts : List Token) (r : Rule) (c : Span) (cs rs : List Token) → length (ruleWords b ts r c cs rs) ≡ ruleLength (length rs) (length cs)
+unfolding ruleWords
+length-rule b ts r c cs rs =
+    let tapes : List ℕ = tapesWords b ts (r .write) (r .dir) rs in
+    omega (
+      arith,
+      length-append (headWords ts r c (length rs) (length cs)) (tapes ++ flat textWords cs),
+      length-append tapes (flat textWords cs),
+      length-head ts r c (length rs) (length cs),
+      length-tapes b ts (r .write) (r .dir) rs,
+      length-texts cs,
+    )
+
+module _ (count : ℕ) (work : List ℕ) (b : ℕ) (r : Rule) (c : Span) (lead blank : ℕ) (p : Placed count (length work) b r) where
+  -- what leads it, what it reads, and its words
+  abbrev leading : List Token
+  leading = between (rows count work) lead (r .line)
+
+  abbrev symbols : List Token
+  symbols = reads count work b (r .tapes)
+
+  arity : length symbols ≡ r .tapes
+  arity = length-reads count work b (r .tapes) (p .cells)
+
+  few-leading : length leading ≤ count
+  few-leading = omega (arith, between-few (rows count work) lead (r .line), length-rows count work (p .tokens))
+
+  pub rule-size : (k : ℕ) → k ≡ length (between (rows count work) lead (r .line)) → 11 + 7 * r .tapes + 2 * k < 2 ^ 32
+  rule-size k e = omega (arith, few-leading, p .few, p .small)
+
+  module _ (at : ℕ) (room : at + length (ruleWords blank (rows count work) r c (between (rows count work) lead (r .line)) (reads count work b (r .tapes))) < 2 ^ 64) where
+    size-is : length (ruleWords blank (rows count work) r c leading symbols) ≡ 11 + 7 * r .tapes + 2 * length leading
+    size-is = omega (arith, length-rule blank (rows count work) r c leading symbols, arity)
+
+    pub head-room : at + 11 < 2 ^ 64
+    head-room = omega (arith, size-is)
+
+    module _ (k : ℕ) (o o₁ : List ℕ) (i : ℕ) (s₁ : Stored (headWords (rows count work) r c (r .tapes) k) o at o₁ i) where
+      pub tapes-room : i + 7 * r .tapes < 2 ^ 64
+      tapes-room = omega (arith, size-is, s₁ .behind, length-head (rows count work) r c (r .tapes) k)
+
+      module _ (o₂ : List ℕ) (j : ℕ) (s₂ : Stored (tapesWords blank (rows count work) (r .write) (r .dir) (reads count work b (r .tapes))) o₁ i o₂ j) where
+        pub leading-room : j + length (flat textWords (between (rows count work) lead (r .line))) < 2 ^ 64
+        leading-room =
+            omega (
+              arith,
+              size-is,
+              s₁ .behind,
+              s₂ .behind,
+              length-head (rows count work) r c (r .tapes) k,
+              length-tapes blank (rows count work) (r .write) (r .dir) symbols,
+              arity,
+              length-texts leading,
+            )
+
+        pub rule-stored : (o₃ : List ℕ) (l : ℕ) → k ≡ length (between (rows count work) lead (r .line)) → Stored (flat textWords (between (rows count work) lead (r .line))) o₂ j o₃ l
+            → Stored (ruleWords blank (rows count work) r c (between (rows count work) lead (r .line)) (reads count work b (r .tapes))) o at o₃ l
+        unfolding ruleWords
+        rule-stored o₃ l e s₃ =
+            let ts : List Token = rows count work in
+            let tapes : List ℕ = tapesWords blank ts (r .write) (r .dir) symbols in
+            let same : headWords ts r c (length symbols) (length leading) ≡ headWords ts r c (r .tapes) k =
+            ap (λ (n : ℕ). headWords ts r c n (length leading)) arity ∙ ap (headWords ts r c (r .tapes)) (sym e) in
+            stored-append (headWords ts r c (length symbols) (length leading)) (tapes ++ flat textWords leading) o o₁ o₃ at i l
+            (stored-as (headWords ts r c (length symbols) (length leading)) (headWords ts r c (r .tapes) k) o o₁ at i same s₁)
+            (stored-append tapes (flat textWords leading) o₁ o₂ o₃ i j l s₂ s₃)

@@ -1,4 +1,5 @@
 pub mod Stored
 pub mod Comments
+pub mod Turns
 pub mod Wheels
 pub mod Rules

@@ -1,10 +1,11 @@
 -- Rules: their expansion into words, and how many words they take, over the lines of a row with entries.
-use Prim.Native.Nat.{ℕ, zero, suc, _+_, _*_, _-_, _%_, _^_}
+use Prim.Native.Nat.{ℕ, zero, suc, _+_, _*_, _-_, _%_, _^_, _≤_, _<_}
+use mathlib.Core.Path.{_≡_}
 use mathlib.Core.Bool.{Bool, true, false, cond}
-use mathlib.Core.List.{List, [], _∷_, _++_}
+use mathlib.Core.List.{List, [], _∷_, _++_, map}
 use lib.Dec.{eqb, ltb}
-use lib.ListN.{length, drop}
-use Rattle.parser.specs.declared.Token.{Token}
+use lib.ListN.{length, take, drop}
+use Rattle.tokens.specs.declared.Token.{Token}
 use Rattle.parser.specs.Row.{peek}
 use Rattle.diag.specs.declared.Span.{Span}
 use Rattle.language.specs.Assembly.{choices}
@@ -15,7 +16,7 @@ use Rattle.assembler.specs.Rules.{combinations}
 use Rattle.sheet.specs.declared.comments.Pending.{Pending}
 use Rattle.sheet.specs.declared.rules.Rule.{Rule}
 use Rattle.sheet.specs.Comments.{spanWords, textOf, textWords, between, nothing, passed, leadFrom}
-use Rattle.sheet.specs.Wheels.{readSets}
+use Rattle.sheet.specs.Wheels.{readSets, firstMember, entriesOf, part, Wheels}
 
 -- the place that says that there is none
 abbrev pub noSpan : Span
@@ -95,6 +96,28 @@ unfoldable pub ruleWords : ℕ → List Token → Rule → Span → List Token �
 unfolding headWords tapesWords flat
 ruleWords b ts r c cs rs = headWords ts r c (length rs) (length cs) ++ (tapesWords b ts (r .write) (r .dir) rs ++ flat textWords cs)
 
+-- what writing a rule asks for: its line is in the row, its tapes are no more than the tokens, and the symbols read stand from the index b on
+pub record Placed (count size b : ℕ) (r : Rule) : Type 0 where
+  pub tokens : 4 * count ≤ size
+  pub cells : b + r .tapes ≤ size
+  pub line : r .line < count
+  pub few : r .tapes ≤ count
+  pub small : 9 * count + 11 < 2 ^ 32
+  pub write : r .write ≤ 2 ^ 32
+  pub dir : r .dir ≤ 2 ^ 32
+
+-- the indices of what the rule at the line reads
+unfoldable pub entriesRead : List Token → ℕ → List ℕ
+unfolding entriesOf firstEntry
+entriesRead ts i = entriesOf ts (peek ts (i + 1) .start) (firstEntry ts (i + 4))
+
+-- the wheels of the rule r at the line i stand at their first members: entries from the index a on, members from b on
+pub record Ready (count a b : ℕ) (ts : List Token) (i : ℕ) (r : Rule) (work : List ℕ) : Type 0 where
+  pub rule : r ≡ ruleAt ts i (length (entriesRead ts i))
+  pub wheels : Wheels count a (r .tapes) ts (entriesRead ts i) work
+  pub members : part work b (r .tapes) ≡ map (firstMember ts) (entriesRead ts i)
+  pub placed : Placed count (length work) b r
+
 -- the comments go to the first rule
 unfoldable pub dressed : ℕ → List Token → Rule → Span → List Token → List (List Token) → List ℕ
 unfolding ruleWords flat
@@ -106,10 +129,15 @@ unfoldable pub expanded : ℕ → List Token → ℕ → ℕ → List ℕ
 unfolding dressed ruleAt ownPlace between choices setsOf
 expanded b ts l i = dressed b ts (ruleAt ts i (length (setsOf ts i))) (ownPlace ts i) (between ts l i) (choices (setsOf ts i))
 
+-- the rules of the line at the index i, if it begins with a rule's entry
+unfoldable pub lineRules : ℕ → List Token → Pending → ℕ → Token → List ℕ
+unfolding expanded leadFrom
+lineRules b ts p i t = cond (eqb (t .kind) 27) (expanded b ts (leadFrom p) i) []
+
 unfoldable pub rulesFrom : ℕ → List Token → Pending → List Entry → List ℕ
-unfolding expanded passed leadFrom
+unfolding lineRules passed
 rulesFrom b ts p [] = []
-rulesFrom b ts p (e ∷ es) = cond (eqb (e .first .kind) 27) (expanded b ts (leadFrom p) (e .at)) [] ++ rulesFrom b ts (passed p (e .at) (e .first)) es
+rulesFrom b ts p (e ∷ es) = lineRules b ts p (e .at) (e .first) ++ rulesFrom b ts (passed p (e .at) (e .first)) es
 
 -- the rules of a row
 unfoldable pub rules : ℕ → List Token → List ℕ
@@ -118,15 +146,20 @@ rules b ts = rulesFrom b ts nothing (entries ts)
 
 -- ---- how many words they take, without expanding them
 
--- the comments go to the first rule of a line
-unfoldable pub lineLength : List Token → ℕ → ℕ → ℕ
-unfolding combinations between
-lineLength ts l i = combinations (drop (i + 1) ts) * ruleLength (peek ts (i + 1) .start) 0 + 2 * length (between ts l i)
+-- what the rule of the line at the index i reads: the tokens up to its next state
+unfoldable pub readTokens : List Token → ℕ → List Token
+readTokens ts i = take (peek ts (i + 3) .start - (i + 4)) (drop (i + 4) ts)
+
+-- a line's: the comments go to the first of its rules
+unfoldable pub lineLength : List Token → Pending → ℕ → Token → ℕ
+unfolding readTokens combinations between leadFrom
+lineLength ts p i t =
+    cond (eqb (t .kind) 27) (combinations (readTokens ts i) * ruleLength (peek ts (i + 1) .start) 0 + 2 * length (between ts (leadFrom p) i)) 0
 
 unfoldable pub lengthsFrom : List Token → Pending → List Entry → ℕ
-unfolding lineLength passed leadFrom
+unfolding lineLength passed
 lengthsFrom ts p [] = 0
-lengthsFrom ts p (e ∷ es) = cond (eqb (e .first .kind) 27) (lineLength ts (leadFrom p) (e .at)) 0 + lengthsFrom ts (passed p (e .at) (e .first)) es
+lengthsFrom ts p (e ∷ es) = lineLength ts p (e .at) (e .first) + lengthsFrom ts (passed p (e .at) (e .first)) es
 
 unfoldable pub ruleLengths : List Token → ℕ
 unfolding lengthsFrom entries

@@ -5,9 +5,10 @@ use mathlib.Core.Bool.{Bool, true, false, cond}
 use mathlib.Core.List.{List, [], _∷_}
 use lib.Dec.{eqb, ltb}
 use lib.ListN.{length, take, drop}
-use Rattle.parser.specs.declared.Token.{Token}
+use Rattle.tokens.specs.declared.Token.{Token}
 use Rattle.parser.specs.Row.{ended, peek}
 use Rattle.assembler.specs.Rows.{rows}
+use Rattle.sheet.specs.Turns.{Wheel, turned, later}
 
 -- the members of a set from one on: a comma goes on to the next
 unfoldable pub members : List Token → List Token
@@ -43,6 +44,23 @@ unfoldable pub entriesOf : List Token → ℕ → ℕ → List ℕ
 unfolding nextEntry
 entriesOf ts zero i = []
 entriesOf ts (suc n) i = elim (ltb i (length ts)) [ true ↦ i ∷ entriesOf ts n (nextEntry ts i) | false ↦ [] ]
+
+-- the entries as wheels: from an index on, a set's members, or the one symbol
+abbrev pub wheel : List Token → Wheel ℕ ℕ Token
+wheel ts = record {
+  noEntry = 0;
+  noPosition = 0;
+  first = firstMember ts;
+  goesOn = goesOn ts;
+  step = λ c. c + 2;
+  value = peek ts;
+  from = λ e c. cond (eqb (peek ts e .kind) 6) (members (drop c ts)) (peek ts c ∷ []);
+}
+
+-- the choices behind the one that stands
+unfoldable pub choicesBehind : List Token → List ℕ → List ℕ → List (List Token)
+unfolding later turned firstMember goesOn members
+choicesBehind ts es cs = later (wheel ts) es (turned (wheel ts) es cs (length es))
 
 -- n words of a row from an index on
 abbrev pub part : List ℕ → ℕ → ℕ → List ℕ

@@ -7,12 +7,12 @@ ghost use Rattle.assembler.specs.Rows.{rows};
 ghost use mathlib.Core.List.{[], _∷_};
 ghost use Rattle.assembler.specs.Entries.{entries};
 ghost use Rattle.sheet.specs.Stored.{Stored};
-ghost use Rattle.sheet.specs.Comments.{textOf, textWords, commentsIn, between, nothing, passed, passedAll, headerOf, header, trailing};
+ghost use Rattle.sheet.specs.Comments.{textOf, textWords, commentsIn, between, nothing, passed, passedAll, leadFrom, headerOf, header, trailing};
 use crate::put;
 use assembler::entry;
 use diag::Span;
-use parser::Token;
-use parser::kind;
+use tokens::Token;
+use lexer::kind;
 
 // The comments that wait for an item: whether an item or failed line came earlier, where they begin, and where the block that goes on begins.
 pub struct Pending {
@@ -73,6 +73,15 @@ pub fn comments(
     n
 }
 
+// How many comments stand from the index `from` to before `to`.
+pub fn count_between(work: &[u32], count: usize, from: usize, to: usize) -> usize
+    requires { ⌜ (4 * count ≤ length (now work)) × (2 * count < 2 ^ 64) ⌝ }
+    ensures { λ r. ⌜ r ≡ length (between (rows count (now (work .entry))) from to) ⌝ }
+{
+    let mut none = [0u32; 1];
+    comments(work, count, from, to, &mut none[..0], 0) / 2
+}
+
 // What is pending behind the line that begins with the token t at an index.
 pub fn passed(p: Pending, t: Token, at: usize) -> Pending
     requires { ⌜ at + 2 < 2 ^ 64 ⌝ }
@@ -96,15 +105,18 @@ pub fn passed(p: Pending, t: Token, at: usize) -> Pending
     }
 }
 
+// Where the comments that lead a rule begin.
+pub fn lead_from(p: Pending) -> usize
+    ensures { λ r. ⌜ r ≡ leadFrom p ⌝ }
+{
+    if p.seen {
+        return p.from;
+    }
+    p.block
+}
+
 // The header comments of the line that begins with the token t.
-fn header_of(
-    work: &[u32],
-    count: usize,
-    p: Pending,
-    t: Token,
-    out: &mut [u32],
-    at: usize,
-) -> usize
+fn header_of(work: &[u32], count: usize, p: Pending, t: Token, out: &mut [u32], at: usize) -> usize
     requires { ⌜ (4 * count ≤ length (now work)) × (at + length (flat textWords (headerOf (rows count (now work)) p t)) < 2 ^ 64) ⌝ }
     ensures { λ r. ⌜ Stored (flat textWords (headerOf (rows count (now (work .entry))) p t)) (now (out .entry)) at (now (out .exit)) r ⌝ }
 {

@@ -10,13 +10,13 @@ ghost use Rattle.assembler.specs.Rows.{rows, placeOf};
 ghost use Rattle.sheet.specs.Stored.{Stored};
 ghost use Rattle.sheet.specs.Comments.{spanWords, textWords, between};
 ghost use Rattle.sheet.specs.Wheels.{part};
-ghost use Rattle.sheet.specs.Rules.{resolve, written, moveOf, firstEntry, ruleAt, ownPlace, tapeWords, tapeAt, tapesWords, placesWords, headWords, ruleWords};
+ghost use Rattle.sheet.specs.Rules.{resolve, written, moveOf, firstEntry, ruleAt, ownPlace, tapeWords, tapeAt, tapesWords, placesWords, headWords, ruleWords, Placed};
 use crate::comments;
 use crate::put;
 use assembler::entry;
 use diag::Span;
-use parser::Token;
-use parser::kind;
+use tokens::Token;
+use lexer::kind;
 
 // Where the parts of a rule stand: its line's first token, the next state, the first write, the first move; and how many tapes it has.
 pub struct Rule {
@@ -72,7 +72,7 @@ fn move_of(t: Token) -> u32
 }
 
 // Where a list of entries, or the one entry, begins.
-fn first_entry(work: &[u32], count: usize, at: usize) -> usize
+pub fn first_entry(work: &[u32], count: usize, at: usize) -> usize
     requires { ⌜ (4 * count ≤ length (now work)) × (at + 1 < 2 ^ 64) ⌝ }
     ensures { λ r. ⌜ r ≡ firstEntry (rows count (now (work .entry))) at ⌝ }
 {
@@ -84,9 +84,9 @@ fn first_entry(work: &[u32], count: usize, at: usize) -> usize
 }
 
 // The parts of a rule.
-fn rule_at(work: &[u32], count: usize, line: usize, tapes: usize) -> Rule
+pub fn rule_at(work: &[u32], count: usize, line: usize, tapes: usize) -> Rule
     requires { ⌜ (4 * count ≤ length (now work)) × (line < count) ⌝ }
-    ensures { λ r. ⌜ r ≡ ruleAt (rows count (now (work .entry))) line tapes ⌝ }
+    ensures { λ r. ⌜ (r ≡ ruleAt (rows count (now (work .entry))) line tapes) × (r .write ≤ 2 ^ 32) × (r .dir ≤ 2 ^ 32) ⌝ }
 {
     let q = entry::token_at(work, count, line + 3);
     Rule {
@@ -99,7 +99,7 @@ fn rule_at(work: &[u32], count: usize, line: usize, tapes: usize) -> Rule
 }
 
 // A rule's own comment, or none.
-fn own_place(work: &[u32], count: usize, line: usize) -> Span
+pub fn own_place(work: &[u32], count: usize, line: usize) -> Span
     requires { ⌜ 4 * count ≤ length (now work) ⌝ }
     ensures { λ r. ⌜ r ≡ ownPlace (rows count (now (work .entry))) line ⌝ }
 {
@@ -190,15 +190,7 @@ fn places(work: &[u32], count: usize, r: Rule, c: Span, out: &mut [u32], at: usi
 }
 
 // A rule up to its tapes; k comments lead it.
-fn head(
-    work: &[u32],
-    count: usize,
-    r: Rule,
-    c: Span,
-    k: usize,
-    out: &mut [u32],
-    at: usize,
-) -> usize
+fn head(work: &[u32], count: usize, r: Rule, c: Span, k: usize, out: &mut [u32], at: usize) -> usize
     requires { ⌜ (4 * count ≤ length (now work)) × (r .line < count) × (11 + 7 * r .tapes + 2 * k < 2 ^ 32) × (at + 11 < 2 ^ 64) ⌝ }
     ensures { λ x. ⌜ Stored (headWords (rows count (now (work .entry))) r c (r .tapes) k) (now (out .entry)) at (now (out .exit)) x ⌝ }
 {
@@ -208,4 +200,25 @@ fn head(
     put::word(out, i, r.tapes as u32);
     put::word(out, i + 1, k as u32);
     i + 2
+}
+
+// The rule of a choice, with its own comment c, led by the comments from the index `lead` to its line.
+pub fn write_rule(
+    work: &[u32],
+    count: usize,
+    b: usize,
+    r: Rule,
+    c: Span,
+    lead: usize,
+    blank: u32,
+    out: &mut [u32],
+    at: usize,
+) -> usize
+    requires { ⌜ (Placed count (length (now work)) b r) × (at + length (ruleWords blank (rows count (now work)) r c (between (rows count (now work)) lead (r .line)) (map (peek (rows count (now work))) (part (now work) b (r .tapes)))) < 2 ^ 64) ⌝ }
+    ensures { λ x. ⌜ Stored (ruleWords blank (rows count (now (work .entry))) r c (between (rows count (now (work .entry))) lead (r .line)) (map (peek (rows count (now (work .entry)))) (part (now (work .entry)) b (r .tapes)))) (now (out .entry)) at (now (out .exit)) x ⌝ }
+{
+    let k = comments::count_between(work, count, lead, r.line);
+    let i = head(work, count, r, c, k, out, at);
+    let j = tapes(work, count, b, r, blank, out, i);
+    comments::comments(work, count, lead, r.line, out, j)
 }

@@ -13,6 +13,7 @@ direction-spec =
     (λ c. search single)
     (λ c. search single)
     (λ c κs. search needs)
+    (λ c κs. search needs)
     (λ c. search single)
     (λ c κs. search needs)
     (λ c. search single))

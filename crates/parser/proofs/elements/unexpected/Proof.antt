@@ -10,4 +10,5 @@ unexpected-spec =
     tie.close
     (tie.spec
     (λ c κs. search needs)
+    (λ c κs. search needs)
     (λ c. search (needs)))

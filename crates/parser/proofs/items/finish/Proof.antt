@@ -11,6 +11,7 @@ finish-spec =
     (λ c κs. search needs)
     (λ c κs. search needs)
     (λ c κs. search needs)
+    (λ c κs. search needs)
     (λ c. search items)
     (λ c κs. search needs)
     (λ c κs. search needs)

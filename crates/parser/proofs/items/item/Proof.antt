@@ -14,5 +14,6 @@ item-spec =
     (λ c κs. search items)
     (λ c. search needs)
     (λ c κs. search needs)
+    (λ c κs. search needs)
     (λ c. search items)
     (λ c. search items))

@@ -12,6 +12,6 @@ is-direction-spec =
     (tie.spec
     (λ c κs. search needs)
     (λ c. search tests)
-    (λ c κs. search needs)
     (λ c. search tests)
+    (λ c κs. search needs)
     (λ c. search tests))
