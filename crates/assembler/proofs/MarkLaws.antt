@@ -28,14 +28,14 @@ use Rattle.assembler.proofs.Rows.{length-rows}
 use Rattle.assembler.proofs.RowWords.{part-tokens}
 
 -- ---- equal names have equal parts of the text
-abbrev partOf : List ℕ → Token → List ℕ
+abbrev pub partOf : List ℕ → Token → List ℕ
 partOf text t = part text (t .start) (t .end)
 
-name-part : (text : List ℕ) (a b : Token) → sameName text a b ≡ true → partOf text a ≡ partOf text b
+pub name-part : (text : List ℕ) (a b : Token) → sameName text a b ≡ true → partOf text a ≡ partOf text b
 unfolding sameName
 name-part text a b e = same-true (partOf text a) (partOf text b) e
 
-part-name : (text : List ℕ) (a b : Token) → partOf text a ≡ partOf text b → sameName text a b ≡ true
+pub part-name : (text : List ℕ) (a b : Token) → partOf text a ≡ partOf text b → sameName text a b ≡ true
 unfolding sameName
 part-name text a b e = ap (same (partOf text a)) (sym e) ∙ same-refl (partOf text a)
 
@@ -82,7 +82,7 @@ module _ (text : List ℕ) (ts : List Token) where
     pub first-low : firstOf x < length ts
     first-low = omega (arith, first-found .is, first-found .low)
 
-    first-part : partOf text (peek ts (firstOf x)) ≡ partOf text (peek ts x)
+    pub first-part : partOf text (peek ts (firstOf x)) ≡ partOf text (peek ts x)
     first-part =
         let z : 0 + first-found .at ≡ first-found .at = omega arith in
         ap (λ (k : ℕ). partOf text (peek ts k)) (first-found .is ∙ z) ∙ word-part text (peek ts x) (peek ts (first-found .at)) (first-found .equal)
@@ -92,7 +92,7 @@ word-same : (text : List ℕ) (t v u : Token) → partOf text t ≡ partOf text 
 unfolding sameWord sameName
 word-same text t v u e = ap (λ (p : List ℕ). cond (isWord u) (same (partOf text u) p) false) e
 
-first-same : (text : List ℕ) (t v : Token) (i : ℕ) (us : List Token) → partOf text t ≡ partOf text v → firstEqual text t i us ≡ firstEqual text v i us
+pub first-same : (text : List ℕ) (t v : Token) (i : ℕ) (us : List Token) → partOf text t ≡ partOf text v → firstEqual text t i us ≡ firstEqual text v i us
 unfolding firstEqual
 first-same text t v i [] e = refl
 first-same text t v i (u ∷ us) e =

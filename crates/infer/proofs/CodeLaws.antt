@@ -1,0 +1,112 @@
+-- Laws of characters noted in a row of words.
+use mathlib.Core.Path.{_≡_, refl, sym, ap, subst, _∙_}
+use mathlib.Core.Bool.{Bool, true, false, cond, _||_}
+use mathlib.Core.List.{List, [], _∷_, _++_}
+use Prim.Native.Nat.{ℕ, zero, suc, _+_, _-_, _*_, _≤_, _<_}
+use native.Mathlib.Omega.{arith}
+use native.Mathlib.Numerals.{add-one}
+use borrow.Author.Tests.{eq-eqb, ne-eqb}
+use lib.Dec.{eqb}
+use lib.ListN.{length, getD, take, drop, set, length-set, length-append, length-take, length-drop, drop-of-length-le}
+use lib.Seq.{length-take-le, getD-take, getD-drop, drop-cons, drop-set-add, take-suc-set}
+use Rattle.tokens.specs.declared.Token.{Token}
+use Rattle.assembler.specs.Rows.{rows}
+use Rattle.language.specs.Infer.{member}
+use Rattle.infer.specs.Page.{Kept}
+use Rattle.infer.specs.Codes.{noted, notedAll, held, Codes}
+use Rattle.infer.proofs.Pages.{kept-refl, kept-on, kept-set, kept-rows}
+
+-- ---- the codes in a row
+pub held-length : (b n : ℕ) (w : List ℕ) → b + n ≤ length w → length (held b n w) ≡ n
+held-length b n w h = length-take-le n (drop b w) (omega (arith, length-drop b w))
+
+pub held-at : (b n i : ℕ) (w : List ℕ) → i < n → getD (held b n w) i 0 ≡ getD w (b + i) 0
+held-at b n i w h = getD-take n (drop b w) i 0 h ∙ getD-drop b w i 0
+
+-- ---- the search: c is among all codes if it is among those from the index i on
+module _ (b n c : ℕ) (w : List ℕ) (i : ℕ) (inv : member eqb (drop i (held b n w)) c ≡ member eqb (held b n w) c) (room : b + n ≤ length w) where
+  here : i < n → drop i (held b n w) ≡ getD w (b + i) 0 ∷ drop (suc i) (held b n w)
+  here h = drop-cons (held b n w) i 0 (omega (arith, held-length b n w room)) ∙ ap (λ (x : ℕ). x ∷ drop (suc i) (held b n w)) (held-at b n i w h)
+
+  pub contains-here : i < n → getD w (b + i) 0 ≡ c → true ≡ member eqb (held b n w) c
+  unfolding member
+  contains-here h e = sym (ap (λ (l : List ℕ). member eqb l c) (here h) ∙ rw (eq-eqb (getD w (b + i) 0) c e)) ∙ inv
+
+  pub contains-on : i < n → (getD w (b + i) 0 ≡ c → ⊥) → member eqb (drop (i + 1) (held b n w)) c ≡ member eqb (held b n w) c
+  unfolding member
+  contains-on h e = ap (λ (k : ℕ). member eqb (drop k (held b n w)) c) (add-one i) ∙ sym (ap (λ (l : List ℕ). member eqb l c) (here h) ∙ rw (ne-eqb (getD w (b + i) 0) c e)) ∙ inv
+
+  pub contains-none : n ≤ i → false ≡ member eqb (held b n w) c
+  unfolding member
+  contains-none h = sym (ap (λ (l : List ℕ). member eqb l c) (drop-of-length-le (held b n w) {i = i} (omega (arith, held-length b n w room)))) ∙ inv
+
+-- ---- one code more
+module _ (b n c : ℕ) (w : List ℕ) (t : Bool) (room : b + n < length w) (test : t ≡ member eqb (held b n w) c) where
+  pub note-there : t ≡ true → Codes b w (noted (held b n w) c) w n
+  unfolding noted
+  note-there e =
+      let q : held b n w ≡ noted (held b n w) c = rw (← test, e) in
+      record { kept = kept-refl b w; codes = q; count = sym (held-length b n w (omega arith)) ∙ ap length q }
+
+  pub note-new : t ≡ false → Codes b w (noted (held b n w) c) (set w (b + n) c) (n + 1)
+  unfolding noted
+  note-new e =
+      let more : held b (n + 1) (set w (b + n) c) ≡ held b n w ++ c ∷ [] = ap (λ (k : ℕ). take k (drop b (set w (b + n) c))) (add-one n) ∙ ap (take (suc n)) (drop-set-add b w n c) ∙ take-suc-set (drop b w) n c (omega (arith, length-drop b w)) in
+      let q : held b (n + 1) (set w (b + n) c) ≡ noted (held b n w) c = more ∙ rw (← test, e) in
+      record { kept = kept-set b w (b + n) c (omega arith); codes = q; count = omega (arith, ap length (sym q ∙ more), length-append (held b n w) (c ∷ []), held-length b n w (omega arith)) }
+
+-- ---- many codes
+noted-few : (cs : List ℕ) (c : ℕ) → length (noted cs c) ≤ length cs + 1
+unfolding noted
+noted-few cs c = go (member eqb cs c)
+  where
+    go : (t : Bool) → length (cond t cs (cs ++ c ∷ [])) ≤ length cs + 1
+    go true = omega arith
+    go false = omega (arith, length-append cs (c ∷ []))
+
+noted-all-few : (cs xs : List ℕ) → length (notedAll cs xs) ≤ length cs + length xs
+unfolding notedAll
+noted-all-few cs [] = omega arith
+noted-all-few cs (x ∷ xs) = omega (arith, noted-few cs x, noted-all-few (noted cs x) xs)
+
+noted-append : (cs xs ys : List ℕ) → notedAll cs (xs ++ ys) ≡ notedAll (notedAll cs xs) ys
+unfolding notedAll
+noted-append cs [] ys = refl
+noted-append cs (x ∷ xs) ys = noted-append (noted cs x) xs ys
+
+-- what is left to note, on top of the n codes that w holds, gives the target, and there is room for it
+pub record Noting (b : ℕ) (target : List ℕ) (w₀ w : List ℕ) (n : ℕ) (left : List ℕ) : Type 0 where
+  pub whole : notedAll (held b n w) left ≡ target
+  pub kept : Kept b w₀ w
+  pub room : b + n + length left ≤ length w₀
+
+pub noting-start : (b : ℕ) (w : List ℕ) (n : ℕ) (xs : List ℕ) → b + n + length xs ≤ length w → Noting b (notedAll (held b n w) xs) w w n xs
+noting-start b w n xs h = record { whole = refl; kept = kept-refl b w; room = h }
+
+module _ (b : ℕ) (target : List ℕ) (w₀ w : List ℕ) (n : ℕ) where
+  pub noting-room : (xs ys : List ℕ) → Noting b target w₀ w n (xs ++ ys) → b + n + length xs ≤ length w
+  noting-room xs ys g = omega (arith, g .room, g .kept .size, length-append xs ys)
+
+  pub noting-on : (xs ys w′ : List ℕ) (n′ : ℕ) → Noting b target w₀ w n (xs ++ ys) → Codes b w (notedAll (held b n w) xs) w′ n′ → Noting b target w₀ w′ n′ ys
+  noting-on xs ys w′ n′ g c = record {
+    whole = ap (λ (l : List ℕ). notedAll l ys) (c .codes) ∙ sym (noted-append (held b n w) xs ys) ∙ g .whole;
+    kept = kept-on b w₀ w w′ (g .kept) (c .kept);
+    room = omega (arith, g .room, c .count, length-append xs ys, noted-all-few (held b n w) xs, held-length b n w (omega (arith, g .room, g .kept .size)));
+  }
+
+  pub noting-end : Noting b target w₀ w n [] → Codes b w₀ target w n
+  unfolding notedAll
+  noting-end g = record { kept = g .kept; codes = g .whole; count = sym (held-length b n w (omega (arith, g .room, g .kept .size))) ∙ ap length (g .whole) }
+
+-- the tokens below the row are as they were
+pub noting-rows : (b count : ℕ) (target w₀ w : List ℕ) (n : ℕ) (left : List ℕ) → Noting b target w₀ w n left → 4 * count ≤ b → rows count w ≡ rows count w₀
+noting-rows b count target w₀ w n left g h = kept-rows count b w₀ w (g .kept) h (omega (arith, g .room))
+
+-- a part of a list is noted where the list is
+pub noted-one : (b : ℕ) (w : List ℕ) (n : ℕ) (c : ℕ) (v : List ℕ) (m : ℕ) → Codes b w (noted (held b n w) c) v m → Codes b w (notedAll (held b n w) (c ∷ [])) v m
+unfolding notedAll
+noted-one b w n c v m h = h
+
+pub noted-none : (b : ℕ) (w : List ℕ) (n : ℕ) → b + n ≤ length w → Codes b w (notedAll (held b n w) []) w n
+unfolding notedAll
+noted-none b w n h = record { kept = kept-refl b w; codes = refl; count = sym (held-length b n w h) }

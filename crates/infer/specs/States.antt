@@ -1,0 +1,88 @@
+-- The states of a row with entries. Of the scratch rows, `size` words each, the first holds at a word's index that of the first word with the same
+-- characters, the second a mark for each of these: 1 if F lists the name, and 2 more once it was met.
+use Prim.Native.Nat.{ℕ, _+_, _*_, _<_, _≤_}
+use mathlib.Core.Bool.{Bool, true, false, cond}
+use mathlib.Core.List.{List, [], _∷_, _++_}
+use lib.Dec.{eqb, ltb}
+use lib.ListN.{length, getD, take, drop, set, replicate}
+use lib.Seq.{sets}
+use Rattle.tokens.specs.declared.Token.{Token}
+use Rattle.parser.specs.Row.{peek}
+use Rattle.parser.specs.Views.{isState}
+use Rattle.assembler.specs.Entries.{Entry, entries}
+use Rattle.infer.specs.Page.{Page, page, indicesIn}
+
+-- the index of the mark of the name at x
+abbrev pub markAt : ℕ → List ℕ → ℕ → ℕ
+markAt size w x = 5 * size + getD w (4 * size + x) 0
+
+-- the two rows stand in the words w behind the tokens, and what the first holds are indices of the second
+pub record Scratch (size count : ℕ) (w : List ℕ) : Type 0 where
+  pub few : count ≤ size
+  pub room : 6 * size ≤ length w
+  pub low : (x : ℕ) → x < count → getD w (4 * size + x) 0 < size
+
+-- no name is marked
+unfoldable pub unmarked : ℕ → List ℕ → List ℕ
+unmarked size w = take (5 * size) w ++ (replicate size 0 ++ drop (6 * size) w)
+
+-- the name at x is listed in F
+unfoldable pub listFinal : ℕ → List Token → List ℕ → ℕ → List ℕ
+listFinal size ts w x = cond (isState (peek ts x)) (set w (markAt size w x) 1) w
+
+unfoldable pub listFinals : ℕ → List Token → List ℕ → List ℕ → List ℕ
+unfolding listFinal
+listFinals size ts w [] = w
+listFinals size ts w (x ∷ xs) = listFinals size ts (listFinal size ts w x) xs
+
+-- a state's words: its place, and 1 if it is final
+abbrev pub nameWords : Token → ℕ → List ℕ
+nameWords t m = t .start ∷ t .end ∷ m ∷ []
+
+-- the name of the state t at x: stored where it is met for the first time; again, but not final, where Q repeats it
+unfoldable pub stateNamed : ℕ → Token → Bool → Page → ℕ → Page
+stateNamed size t repeats p x =
+    let k = markAt size (p .work) x in
+    let m = getD (p .work) k 0 in
+    cond (ltb m 2) (page (set (p .work) k (m + 2)) (sets (p .out) (p .at) (nameWords t m)) (p .at + 3))
+    (cond repeats (page (p .work) (sets (p .out) (p .at) (nameWords t 0)) (p .at + 3)) p)
+
+-- the name at x, if a state stands there
+unfoldable pub named : ℕ → List Token → Bool → Page → ℕ → Page
+unfolding stateNamed
+named size ts repeats p x = cond (isState (peek ts x)) (stateNamed size (peek ts x) repeats p x) p
+
+unfoldable pub namedAll : ℕ → List Token → Bool → Page → List ℕ → Page
+unfolding named
+namedAll size ts repeats p [] = p
+namedAll size ts repeats p (x ∷ xs) = namedAll size ts repeats (named size ts repeats p x) xs
+
+-- the names that a rule mentions: from, and to, whose index its comma holds
+unfoldable pub mention : List Token → Entry → List ℕ
+mention ts e = cond (eqb (e .first .kind) 27) ((e .at + 2) ∷ peek ts (e .at + 3) .start ∷ []) []
+
+unfoldable pub mentions : List Token → List Entry → List ℕ
+unfolding mention
+mentions ts [] = []
+mentions ts (e ∷ es) = mention ts e ++ mentions ts es
+
+-- a declared start
+unfoldable pub startName : List Token → ℕ → List ℕ
+startName ts s = cond (ltb s (length ts)) ((s + 2) ∷ []) []
+
+-- the states where Q is not declared: the start (s), from and to of each rule, then F (f)
+unfoldable pub inferred : ℕ → List Token → ℕ → ℕ → Page → Page
+unfolding namedAll startName mentions entries indicesIn
+inferred size ts s f p = namedAll size ts false p (startName ts s ++ (mentions ts (entries ts) ++ indicesIn ts f))
+
+-- the states, from the first declarations: those of a declared Q (5), each time; or inferred, start 9 and F 10
+unfoldable pub states : ℕ → List Token → List ℕ → Page → Page
+unfolding namedAll indicesIn inferred
+states size ts first p =
+    cond (ltb (getD first 5 0) (length ts)) (namedAll size ts true p (indicesIn ts (getD first 5 0)))
+    (inferred size ts (getD first 9 0) (getD first 10 0) p)
+
+-- before that, the names that F lists are marked
+unfoldable pub finals : ℕ → List Token → List ℕ → List ℕ → List ℕ
+unfolding unmarked listFinals indicesIn
+finals size ts first w = listFinals size ts (unmarked size w) (indicesIn ts (getD first 10 0))
