@@ -1,0 +1,60 @@
+-- The head by value, as the code has it, from the definition's.
+use Rattle.lexer.specs.Tokens as T
+use Rattle.language.specs.Machine as M
+use Rattle.language.specs.Layout as L
+use Rattle.machine.specs.declared.Span.{Span}
+use Rattle.machine.specs.declared.Kind.{Kind}
+use Rattle.machine.specs.declared.Kind.the-variants.{Acceptor, Transducer, Enumerator, Beaver}
+use Rattle.machine.specs.declared.BitOrder.{BitOrder}
+use Rattle.machine.specs.declared.BitOrder.the-variants.{Lsb, Msb}
+use Rattle.machine.specs.declared.Decoder.{Decoder}
+use Rattle.machine.specs.declared.Decoder.the-variants.{Word, Unary, Binary}
+use Rattle.machine.specs.declared.Declared.{Declared}
+use Rattle.machine.specs.declared.SourceMap.{SourceMap}
+use Rattle.machine.specs.declared.Counts.{Counts}
+use Rattle.machine.specs.declared.Head.{Head}
+
+-- a place
+abbrev pub spanOf : T.Span → Span
+spanOf p = record { start = p .start; end = p .end }
+
+-- the kind
+abbrev pub kindOf : M.Kind → Kind
+kindOf M.acceptor = Acceptor
+kindOf M.transducer = Transducer
+kindOf M.enumerator = Enumerator
+kindOf M.beaver = Beaver
+
+-- the order of bits
+abbrev pub orderOf : M.BitOrder → BitOrder
+orderOf M.lsb = Lsb
+orderOf M.msb = Msb
+
+-- the decoder
+abbrev pub decoderOf : M.Decoder → Decoder
+decoderOf M.asWord = Word
+decoderOf (M.asUnary c) = Unary c
+decoderOf (M.asBinary o) = Binary (orderOf o)
+
+-- the flags
+abbrev pub declaredOf : M.Declared → Declared
+declaredOf d = record { states = d .states; «input_alphabet» = d .inputAlphabet; «tape_alphabet» = d .tapeAlphabet; start = d .start; blank = d .blank }
+
+-- the section counts
+abbrev pub countsOf : L.Counts → Counts
+countsOf n = record { states = n .states; sigma = n .sigma; gamma = n .gamma; finals = n .finals; header = n .header; trailing = n .trailing; rules = n .rules }
+
+-- the head
+unfoldable pub headOf : L.Head → Head
+headOf h = record {
+  output = decoderOf (h .output);
+  name = spanOf (h .name);
+  input = spanOf (h .input);
+  kind = kindOf (h .kind);
+  tapes = h .tapes;
+  blank = h .blank;
+  declared = declaredOf (h .declared);
+  start = spanOf (h .start);
+  map = record { kind = spanOf (h .kindPlace); input = spanOf (h .inputPlace); tapes = spanOf (h .tapesPlace); start = spanOf (h .startPlace); states = spanOf (h .statesPlace) };
+  counts = countsOf (h .counts);
+}
