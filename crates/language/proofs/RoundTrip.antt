@@ -16,7 +16,7 @@ use Rattle.chars.specs.Class.{outsideFrom, firstOutside}
 use Rattle.chars.specs.declared.Outside.{Outside}
 use Rattle.chars.specs.declared.Outside.the-variants.{At, Nowhere}
 use Rattle.chars.proofs.Theorems.{decode-encode, encode-valid}
-use Rattle.lexer.specs.Tokens.{Span}
+use Rattle.lexer.specs.declared.Span.{Span}
 use Rattle.language.specs.Content.{Content, contentOf}
 use Rattle.language.specs.Lines.{Line, lines, readLines}
 use Rattle.language.specs.Assembly.{Diagnostic, diagnosticsOf, sort, diagnostics}

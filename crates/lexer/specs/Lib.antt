@@ -1,3 +1,4 @@
 pub mod Text
 pub mod Tokens
 pub mod Words
+pub mod Places

@@ -9,6 +9,8 @@ use Rattle.chars.specs.Utf8.{size, sizes}
 use Rattle.chars.specs.Class.{classOf}
 use Rattle.chars.specs.declared.Class.{Class}
 use Rattle.chars.specs.declared.Class.the-variants.{Letter, Digit, Space, Sign, Other}
+-- a half-open range of byte offsets (paper 01: place), the code's own type
+pub use Rattle.lexer.specs.declared.Span.{Span}
 
 -- what a token is; words, numbers and comments with their characters, strings with their escapes undone
 pub data TokenKind : Type 0 where
@@ -19,11 +21,6 @@ pub data TokenKind : Type 0 where
   sign : ℕ → TokenKind
   comment : List ℕ → TokenKind
   newline unterminatedString unterminatedQuote : TokenKind
-
--- a half-open range of byte offsets (paper 01: place)
-pub record Span : Type 0 where
-  pub start : ℕ
-  pub end : ℕ
 
 abbrev pub span : ℕ → ℕ → Span
 span a b = record { start = a; end = b }
@@ -190,15 +187,16 @@ quotedStep (x ∷ []) = tok unterminatedQuote 1 0 0 0
 quotedStep (x ∷ q ∷ r) =
     elim (not (eqb x 10) && eqb q 0x27) [ true ↦ tok (quoted x) (2 + size x) 0 0 2 | false ↦ tok unterminatedQuote 1 0 0 0 ]
 
--- behind a slash: a comment up to the line's end, trimmed; or the slash alone
-unfoldable pub slashStep : List ℕ → Step
+-- behind two slashes: a comment up to the line's end, trimmed
+unfoldable pub commentStep : List ℕ → Step
 unfolding line trimEnd sizes indent commentText
+commentStep r = let l = line r in let t = trimEnd l in tok (comment (commentText t)) (2 + sizes t) (2 + indent t) 0 (suc (length l))
+
+-- behind a slash: a comment, or the slash alone
+unfoldable pub slashStep : List ℕ → Step
+unfolding commentStep
 slashStep [] = tok (sign 0x2F) 1 0 0 0
-slashStep (d ∷ r) =
-    elim (eqb d 0x2F) [
-      | true ↦ (let l = line r in let t = trimEnd l in tok (comment (commentText t)) (2 + sizes t) (2 + indent t) 0 (suc (length l)))
-      | false ↦ tok (sign 0x2F) 1 0 0 0
-    ]
+slashStep (d ∷ r) = elim (eqb d 0x2F) [ true ↦ commentStep r | false ↦ tok (sign 0x2F) 1 0 0 0 ]
 
 -- a character of no class
 unfoldable pub otherStep : ℕ → List ℕ → Step
@@ -227,10 +225,14 @@ step c r =
       ]
     ]
 
+-- a token of w bytes at the place o, with a bytes before its text and b behind it
+abbrev pub tokenAt : ℕ → TokenKind → ℕ → ℕ → ℕ → Token Span
+tokenAt o t w a b = record { kind = t; place = span o (o + w); inner = span (o + a) (o + w - b) }
+
 -- the token at the place o, if a token stands there, before those that follow; `next n` goes on with n characters passed over
 unfoldable pub emit : ℕ → Step → (ℕ → List (Token Span)) → List (Token Span)
 emit o gap next = next 0
-emit o (tok t w a b n) next = record { kind = t; place = span o (o + w); inner = span (o + a) (o + w - b) } ∷ next n
+emit o (tok t w a b n) next = tokenAt o t w a b ∷ next n
 
 -- the tokens from the place o on, the first k characters of the list passed over; a line feed of no length ends them
 unfoldable pub tokensFrom : ℕ → ℕ → List ℕ → List (Token Span)

@@ -1,10 +1,12 @@
 -- The tokens as the words that the code keeps of them: four words each.
 use Prim.Native.Nat.{ℕ, zero, suc, _+_, _-_, _*_, min}
-use mathlib.Core.Bool.{Bool, true, false, cond}
-use mathlib.Core.List.{List, [], _∷_, _++_}
-use lib.Dec.{eqb}
+use mathlib.Core.Bool.{Bool, true, false, cond, _&&_}
+use mathlib.Core.List.{List, [], _∷_, _++_, map}
+use lib.Dec.{eqb, leb}
+use lib.ListN.{length, drop}
+use Rattle.chars.specs.Utf8.{decode, encode}
 use Rattle.lexer.specs.Text.{codes, same}
-use Rattle.lexer.specs.Tokens.{TokenKind, word, number, quoted, str, sign, comment, newline, unterminatedString, unterminatedQuote, Span, Token}
+use Rattle.lexer.specs.Tokens.{TokenKind, word, number, quoted, str, sign, comment, newline, unterminatedString, unterminatedQuote, Span, Token, tokens}
 
 -- the words with a meaning of their own, in the order of their numbers from 1
 abbrev pub keywords : List (List ℕ)
@@ -22,6 +24,11 @@ position n (k ∷ ks) w = elim (same k w) [ true ↦ n | false ↦ position (suc
 unfoldable pub keyword : List ℕ → ℕ
 unfolding position
 keyword w = position 1 keywords w
+
+-- the keywords as bytes
+unfoldable pub keywordBytes : List (List ℕ)
+unfolding encode
+keywordBytes = map encode keywords
 
 -- the value of a list of digits behind n
 unfoldable pub valueFrom : ℕ → List ℕ → ℕ
@@ -83,3 +90,16 @@ unfoldable pub flat : List (Token Span) → List ℕ
 unfolding tokenWords
 flat [] = []
 flat (t ∷ ts) = tokenWords t ++ flat ts
+
+-- words at the front of a row, the rest as it was
+unfoldable pub onto : List ℕ → List ℕ → List ℕ
+onto ws w = ws ++ drop (length ws) w
+
+-- the text is at most 4,194,304 bytes long, and work has 6 words for each byte and 6 more (paper 01: refusals 1 and 2)
+unfoldable pub roomy : List ℕ → List ℕ → Bool
+roomy t w = leb (length t) 0x400000 && leb (6 * length t + 6) (length w)
+
+-- the answer and work after a call of `pevzoncs_tokenize`: the number of tokens and their words at the front; or all ones, and nothing changed
+unfoldable pub tokenized : List ℕ → List ℕ → ℕ × List ℕ
+unfolding roomy onto flat tokens decode
+tokenized t w = cond (roomy t w) (length (tokens (decode t)), onto (flat (tokens (decode t))) w) (0xffff_ffff_ffff_ffff, w)

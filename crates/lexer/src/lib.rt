@@ -1,1 +1,103 @@
-// Tokens of the description language, as words in a lent row.
+// Tokens of the description language (the source's dsl/lexer.rs), as words in a lent row.
+ghost use mathlib.Core.Path.{_≡_};
+ghost use Prim.Native.Nat.{_+_, _*_, _≤_};
+ghost use mathlib.Core.List.{[], _∷_};
+ghost use lib.ListN.{length};
+ghost use lib.Seq.{sets};
+ghost use Rattle.chars.specs.Utf8.{decode};
+ghost use Rattle.lexer.specs.Tokens.{tokens};
+ghost use Rattle.lexer.specs.Words.{flat, onto, tokenized};
+
+pub mod kind;
+pub mod lex;
+pub mod names;
+pub mod scan;
+pub mod view;
+
+// A half-open range of byte offsets.
+pub struct Span {
+    pub start: u32,
+    pub end: u32,
+}
+
+// A token as its four words.
+pub struct Token {
+    pub kind: u32,
+    pub start: u32,
+    pub end: u32,
+    pub value: u32,
+}
+
+// What stands at a place of the text.
+pub enum Piece {
+    // A token: its kind, its end, its value, and the place to go on from.
+    Token(u32, usize, u32, usize),
+    // White space, and the place behind it.
+    Gap(usize),
+    // No character.
+    End,
+}
+
+// The rest of a line: its end, and its end without the white space before it.
+pub struct Line {
+    pub trimmed: usize,
+    pub end: usize,
+}
+
+// A string behind its quote: the place behind the closing quote, or none on the line.
+pub enum StringEnd {
+    Closed(usize),
+    Unclosed,
+}
+
+// Token number n, as four words of work.
+fn push(work: &mut [u32], n: usize, kind: u32, start: u32, end: u32, value: u32)
+    requires { ⌜ 4 * n + 4 ≤ length (now work) ⌝ }
+    ensures { λ _. ⌜ now (work .exit) ≡ sets (now (work .entry)) (4 * n) (kind ∷ start ∷ end ∷ value ∷ []) ⌝ }
+{
+    let o = 4 * n;
+    work[o] = kind;
+    work[o + 1] = start;
+    work[o + 2] = end;
+    work[o + 3] = value;
+}
+
+// The tokens of a text, at the front of work; answers their number. The rest of work stays as it was.
+pub fn tokenize(text: &[u8], work: &mut [u32]) -> usize
+    requires { ⌜ (length (now text) ≤ 0x400000) × (4 * length (now text) + 4 ≤ length (now work)) ⌝ }
+    ensures { λ r. ⌜ (r ≡ length (tokens (decode (now (text .entry))))) × (now (work .exit) ≡ onto (flat (tokens (decode (now (text .entry))))) (now (work .entry))) ⌝ }
+{
+    let mut at = 0;
+    let mut n = 0;
+    loop {
+        let p = lex::piece_at(text, at);
+        match p {
+            Piece::Token(kind, end, value, next) => {
+                push(work, n, kind, at as u32, end as u32, value);
+                n += 1;
+                at = next;
+            }
+            Piece::Gap(next) => {
+                at = next;
+            }
+            Piece::End => {
+                push(work, n, kind::NEWLINE, at as u32, at as u32, 0);
+                return n + 1;
+            }
+        }
+    }
+}
+
+// The same for callers in other languages; a text that is too long or work that is too short is left as it is, and the answer is all ones.
+#[no_mangle]
+pub extern "C" fn pevzoncs_tokenize(text: &[u8], work: &mut [u32]) -> usize
+    ensures { λ r. ⌜ (r, now (work .exit)) ≡ tokenized (now (text .entry)) (now (work .entry)) ⌝ }
+{
+    if 0x400000 < text.len() {
+        return 0xffff_ffff_ffff_ffff;
+    }
+    if work.len() < 6 * text.len() + 6 {
+        return 0xffff_ffff_ffff_ffff;
+    }
+    tokenize(text, work)
+}

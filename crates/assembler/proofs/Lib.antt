@@ -1,0 +1,11 @@
+pub mod Tests
+pub mod Rows
+pub mod RowWords
+pub mod Passes
+pub mod FailureLaws
+pub mod DeclarationLaws
+pub mod RuleLaws
+pub mod Inside
+pub mod LineLaws
+pub mod EnteredLaws
+pub mod NameLaws

@@ -1,0 +1,287 @@
+-- Laws of the pass over rules.
+use mathlib.Core.Path.{_≡_, refl, sym, ap, subst, _∙_}
+use mathlib.Core.Bool.{Bool, true, false, cond}
+use mathlib.Core.List.{List, [], _∷_, _++_}
+use Prim.Native.Nat.{ℕ, zero, suc, _+_, _-_, _*_, _≤_, _<_, _^_, min}
+use native.Mathlib.Omega.{arith}
+use native.Mathlib.Nat.{mul-le-mul, min-le-right, min-eq-left, min-eq-right}
+use native.Mathlib.Numerals.{add-one}
+use mir.Syntax.{w64}
+use mir.Val.{Fits}
+use borrow.Author.Tests.{le-leb, lt-leb, eq-eqb, ne-eqb, leb-true}
+use lib.Dec.{leb, eqb}
+use lib.ListN.{length, drop, drop-of-length-le}
+use lib.Seq.{getD-drop, drop-cons}
+use Rattle.diag.specs.declared.Span.{Span}
+use Rattle.diag.specs.declared.Diagnostic.{Diagnostic}
+use Rattle.diag.specs.Log.{error, Log, logged, appended, appendAll}
+use Rattle.parser.specs.declared.Token.{Token}
+use Rattle.assembler.specs.declared.rules.Sets.{Sets}
+use Rattle.assembler.specs.declared.rules.Tally.{Tally}
+use Rattle.assembler.specs.declared.rules.Verdict.{Verdict}
+use Rattle.assembler.specs.declared.rules.Verdict.the-variants.{Other, WrongArity, TooMany, Expands}
+use Rattle.parser.specs.Row.{peek, ended}
+use Rattle.assembler.specs.Rows.{rows, placeOf}
+use Rattle.assembler.specs.Entries.{Entry, entryAt, behind, entries}
+use Rattle.assembler.specs.Rules.{counted, combinationsFrom, combinations, sameArity, verdict, after, ruleError, ruleErrors, ruleCount, noRules}
+use Rattle.assembler.proofs.Rows.{length-rows, entriesAt, entries-step, entries-end}
+use Rattle.assembler.proofs.Passes.{at-most-one, Passing, passing-start, passing-step, passing-end}
+
+-- ---- one token of the read sets
+pub product-fits : (p s : ℕ) → p ≤ 262145 → s < 2 ^ 32 → Fits w64 (p * s)
+product-fits p s h g =
+    let le : s ≤ 2 ^ 32 = omega arith in
+    let b : p * s ≤ 262145 * 2 ^ 32 = mul-le-mul h le in
+    record { fits = omega arith }
+
+pub cut-low : (n : ℕ) → n ≤ 262144 → n ≡ min n 262145
+cut-low n h = sym (min-eq-left {n = n} {m = 262145} (omega arith))
+
+pub cut-high : (n : ℕ) → 262144 < n → 262145 ≡ min n 262145
+cut-high n h = sym (min-eq-right {n = 262145} {m = n} (omega arith))
+
+module _ (s : Sets) (t : Token) where
+  pub counted-opened : t .kind ≡ 6 → record { product = s .product; size = 0 } ≡ counted s t
+  unfolding counted
+  counted-opened h = rw (eq-eqb (t .kind) 6 h)
+
+  module _ (a : t .kind ≡ 6 → ⊥) where
+    pub counted-closed : t .kind ≡ 7 → s .product * s .size ≤ 262144 → record { product = s .product * s .size; size = s .size } ≡ counted s t
+    unfolding counted
+    counted-closed h g = rw (ne-eqb (t .kind) 6 a, eq-eqb (t .kind) 7 h, ← cut-low (s .product * s .size) g)
+
+    pub counted-cut : t .kind ≡ 7 → 262144 < s .product * s .size → record { product = 262145; size = s .size } ≡ counted s t
+    unfolding counted
+    counted-cut h g = rw (ne-eqb (t .kind) 6 a, eq-eqb (t .kind) 7 h, ← cut-high (s .product * s .size) g)
+
+    module _ (b : t .kind ≡ 7 → ⊥) where
+      pub counted-comma : t .kind ≡ 8 → s ≡ counted s t
+      unfolding counted
+      counted-comma h = rw (ne-eqb (t .kind) 6 a, ne-eqb (t .kind) 7 b, eq-eqb (t .kind) 8 h)
+
+      pub counted-member : (t .kind ≡ 8 → ⊥) → record { product = s .product; size = s .size + 1 } ≡ counted s t
+      unfolding counted
+      counted-member h = rw (ne-eqb (t .kind) 6 a, ne-eqb (t .kind) 7 b, ne-eqb (t .kind) 8 h)
+
+  counted-low : s .product ≤ 262145 → counted s t .product ≤ 262145
+  unfolding counted
+  counted-low h = go (eqb (t .kind) 6) (eqb (t .kind) 7) (eqb (t .kind) 8)
+    where
+      go : (x y z : Bool) → cond x (record { product = s .product; size = 0 }) (cond y (record { product = min (s .product * s .size) 262145; size = s .size }) (cond z s (record { product = s .product; size = s .size + 1 }))) .product ≤ 262145
+      go true y z = h
+      go false true z = min-le-right (s .product * s .size) 262145
+      go false false true = h
+      go false false false = h
+
+  counted-size : counted s t .size ≤ s .size + 1
+  unfolding counted
+  counted-size = go (eqb (t .kind) 6) (eqb (t .kind) 7) (eqb (t .kind) 8)
+    where
+      go : (x y z : Bool) → cond x (record { product = s .product; size = 0 }) (cond y (record { product = min (s .product * s .size) 262145; size = s .size }) (cond z s (record { product = s .product; size = s .size + 1 }))) .size ≤ s .size + 1
+      go true y z = omega arith
+      go false true z = omega arith
+      go false false true = omega arith
+      go false false false = omega arith
+
+-- ---- the product
+combinations-low-from : (s : Sets) (ts : List Token) → s .product ≤ 262145 → combinationsFrom s ts ≤ 262145
+unfolding combinationsFrom
+combinations-low-from s [] h = h
+combinations-low-from s (t ∷ ts) h = go (eqb (t .kind) 13) (combinations-low-from (counted s t) ts (counted-low s t h))
+  where
+    go : (b : Bool) → combinationsFrom (counted s t) ts ≤ 262145 → elim b [ true ↦ s .product | false ↦ combinationsFrom (counted s t) ts ] ≤ 262145
+    go true r = h
+    go false r = r
+
+pub combinations-low : (ts : List Token) → combinations ts ≤ 262145
+unfolding combinations
+combinations-low ts = combinations-low-from (record { product = 1; size = 0 }) ts (omega arith)
+
+-- the walk has come to the index i
+pub record Counting (count : ℕ) (work : List ℕ) (at : ℕ) (s : Sets) (i : ℕ) : Type 0 where
+  pub whole : combinationsFrom s (drop i (rows count work)) ≡ combinations (drop at (rows count work))
+  pub low : s .product ≤ 262145
+  pub size : s .size ≤ i
+
+pub counting-start : (count : ℕ) (work : List ℕ) (at : ℕ) → Counting count work at (record { product = 1; size = 0 }) at
+unfolding combinations
+counting-start count work at = record { whole = refl; low = omega arith; size = omega arith }
+
+module _ (count : ℕ) (work : List ℕ) (at : ℕ) (s : Sets) (i : ℕ) (c : Counting count work at s i) (room : 4 * count ≤ length work) where
+  here : i < count → drop i (rows count work) ≡ peek (rows count work) i ∷ drop (suc i) (rows count work)
+  here h = drop-cons (rows count work) i ended (omega (arith, length-rows count work room))
+
+  pub counting-stop : (t : Token) → i < count → t ≡ peek (rows count work) i → t .kind ≡ 13 → s .product ≡ combinations (drop at (rows count work))
+  unfolding combinationsFrom
+  counting-stop t h e k =
+      let ends : eqb (peek (rows count work) i .kind) 13 ≡ true = ap (λ (t : Token). eqb (t .kind) 13) (sym e) ∙ eq-eqb (t .kind) 13 k in
+      sym (ap (combinationsFrom s) (here h) ∙ rw (ends, combinationsFrom)) ∙ c .whole
+
+  pub counting-on : (t : Token) (s′ : Sets) → i < count → t ≡ peek (rows count work) i → (t .kind ≡ 13 → ⊥) → s′ ≡ counted s t → Counting count work at s′ (i + 1)
+  unfolding combinationsFrom
+  counting-on t s′ h e k q =
+      let ts : List Token = rows count work in
+      let goes : eqb (peek ts i .kind) 13 ≡ false = ap (λ (t : Token). eqb (t .kind) 13) (sym e) ∙ ne-eqb (t .kind) 13 k in
+      let one : combinationsFrom s (drop i ts) ≡ combinationsFrom (counted s (peek ts i)) (drop (suc i) ts) = ap (combinationsFrom s) (here h) ∙ rw (goes, combinationsFrom) in
+      let q′ : s′ ≡ counted s (peek ts i) = q ∙ ap (counted s) e in
+      record {
+        whole = ap (λ (k : ℕ). combinationsFrom s′ (drop k ts)) (add-one i) ∙ ap (λ (x : Sets). combinationsFrom x (drop (suc i) ts)) q′ ∙ sym one ∙ c .whole;
+        low = subst (λ (x : Sets). x .product ≤ 262145) (sym q) (counted-low s t (c .low));
+        size = omega (arith, ap (λ (x : Sets). x .size) q, counted-size s t, c .size);
+      }
+
+  pub counting-end : count ≤ i → s .product ≡ combinations (drop at (rows count work))
+  unfolding combinationsFrom
+  counting-end h = sym (ap (combinationsFrom s) (drop-of-length-le (rows count work) {i = i} (omega (arith, length-rows count work room)))) ∙ c .whole
+
+-- ---- what becomes of a line
+pub arity-same : (p : Token) → p .end ≡ p .start → eqb (p .value) (p .start) ≡ sameArity p
+unfolding sameArity
+arity-same p h = rw (eq-eqb (p .end) (p .start) h)
+
+pub arity-other : (p : Token) → (p .end ≡ p .start → ⊥) → false ≡ sameArity p
+unfolding sameArity
+arity-other p h = rw (ne-eqb (p .end) (p .start) h)
+
+pub total-fits : (n m : ℕ) (ts : List Token) → n ≤ 262144 → m ≡ combinations ts → Fits w64 (n + m)
+total-fits n m ts h e = record { fits = omega (arith, combinations-low ts) }
+
+module _ (ts : List Token) (i n : ℕ) (t : Token) (at : t ≡ peek ts i) where
+  pub verdict-other : (t .kind ≡ 27 → ⊥) → Other ≡ verdict n (entryAt ts i)
+  unfolding verdict
+  verdict-other h = rw (← at, ne-eqb (t .kind) 27 h)
+
+  module _ (rule : t .kind ≡ 27) (p : Token) (first : p ≡ peek ts (i + 1)) (same : Bool) (arity : same ≡ sameArity p) where
+    opens : peek (drop (suc i) ts) 0 ≡ p
+    opens = let e : suc i + 0 ≡ i + 1 = omega arith in getD-drop (suc i) ts 0 ended ∙ ap (peek ts) e ∙ sym first
+
+    pub verdict-arity : same ≡ false → WrongArity ≡ verdict n (entryAt ts i)
+    unfolding verdict
+    verdict-arity h = rw (← at, eq-eqb (t .kind) 27 rule, opens, ← arity, h)
+
+    module _ (m : ℕ) (product : m ≡ combinations (drop (i + 1) ts)) where
+      product-is : combinations (drop (suc i) ts) ≡ m
+      product-is = sym (product ∙ ap (λ (k : ℕ). combinations (drop k ts)) (add-one i))
+
+      pub verdict-expands : same ≡ true → n + m ≤ 262144 → Expands (n + m) ≡ verdict n (entryAt ts i)
+      unfolding verdict
+      verdict-expands h g = rw (← at, eq-eqb (t .kind) 27 rule, opens, ← arity, h, product-is, le-leb (n + m) 262144 g)
+
+      pub verdict-many : same ≡ true → 262144 < n + m → TooMany ≡ verdict n (entryAt ts i)
+      unfolding verdict
+      verdict-many h g = rw (← at, eq-eqb (t .kind) 27 rule, opens, ← arity, h, product-is, lt-leb (n + m) 262144 g)
+
+-- ---- the rules so far
+module _ (s : Tally) (v : Verdict) where
+  pub after-other : v ≡ Other → s ≡ after s v
+  unfolding after
+  after-other e = rw e
+
+  pub after-arity : v ≡ WrongArity → s ≡ after s v
+  unfolding after
+  after-arity e = rw e
+
+  pub after-many : v ≡ TooMany → record { rules = s .rules; cut = true } ≡ after s v
+  unfolding after
+  after-many e = rw e
+
+  pub after-expands : (n : ℕ) → v ≡ Expands n → record { rules = n; cut = s .cut } ≡ after s v
+  unfolding after
+  after-expands n e = rw e
+
+-- ---- one line's diagnostic
+module _ (v : Verdict) (cut : Bool) (p : Span) (l : Log) where
+  pub rule-other : v ≡ Other → l ≡ appendAll l (ruleError v cut p)
+  unfolding ruleError appendAll
+  rule-other e = rw e
+
+  pub rule-expands : (n : ℕ) → v ≡ Expands n → l ≡ appendAll l (ruleError v cut p)
+  unfolding ruleError appendAll
+  rule-expands n e = rw e
+
+  pub rule-cut : v ≡ TooMany → cut ≡ true → l ≡ appendAll l (ruleError v cut p)
+  unfolding ruleError appendAll
+  rule-cut e h = rw (e, h)
+
+  module _ (l′ : Log) (d : Diagnostic) where
+    pub rule-arity : v ≡ WrongArity → d ≡ error 10 p → l′ ≡ appended l d → l′ ≡ appendAll l (ruleError v cut p)
+    unfolding ruleError appendAll
+    rule-arity e q r = rw e (r ∙ ap (appended l) q)
+
+    pub rule-many : v ≡ TooMany → cut ≡ false → d ≡ error 9 p → l′ ≡ appended l d → l′ ≡ appendAll l (ruleError v cut p)
+    unfolding ruleError appendAll
+    rule-many e h q r = rw (e, h) (r ∙ ap (appended l) q)
+
+one-rule : (v : Verdict) (cut : Bool) (p : Span) → length (ruleError v cut p) ≤ 1
+unfolding ruleError
+one-rule Other cut p = omega arith
+one-rule WrongArity cut p = omega arith
+one-rule TooMany cut p = at-most-one cut [] (error 9 p ∷ []) (omega arith) (omega arith)
+one-rule (Expands n) cut p = omega arith
+
+-- no more than the limit
+verdict-within : (n m : ℕ) (e : Entry) → verdict n e ≡ Expands m → m ≤ 262144
+unfolding verdict
+verdict-within n m e h = go (eqb (e .first .kind) 27) (sameArity (peek (e .rest) 0)) (leb (n + combinations (e .rest)) 262144) refl h
+  where
+    total : ℕ
+    total = n + combinations (e .rest)
+
+    go : (x y z : Bool) → leb total 262144 ≡ z → cond x (cond y (cond z (Expands total) TooMany) WrongArity) Other ≡ Expands m → m ≤ 262144
+    go true true true f h = let t : total ≡ m = cc in omega (arith, leb-true total 262144 f)
+    go true true false f h = let z : _≡_ {A = ℕ} 0 1 = cc in absurd (omega arith)
+    go true false z f h = let z : _≡_ {A = ℕ} 0 1 = cc in absurd (omega arith)
+    go false y z f h = let z : _≡_ {A = ℕ} 0 1 = cc in absurd (omega arith)
+
+after-within : (s : Tally) (v : Verdict) → s .rules ≤ 262144 → ((m : ℕ) → v ≡ Expands m → m ≤ 262144) → after s v .rules ≤ 262144
+unfolding after
+after-within s Other h g = h
+after-within s WrongArity h g = h
+after-within s TooMany h g = h
+after-within s (Expands n) h g = g n refl
+
+-- ---- all lines: the pass has come to the line at the index i
+pub record Tallying (count : ℕ) (work : List ℕ) (total : ℕ) (target : Log) (from : ℕ) (w₀ : List ℕ) (s : Tally) (w : List ℕ) (n i : ℕ) : Type 0 where
+  pub counts : ruleCount s (entriesAt (rows count work) i) ≡ total
+  pub passing : Passing (rows count work) (ruleErrors s) target from w₀ w n i
+  pub within : s .rules ≤ 262144
+
+pub tallying-start : (count : ℕ) (work w : List ℕ) (n : ℕ)
+    → Tallying count work (ruleCount noRules (entries (rows count work))) (appendAll (logged w n) (ruleErrors noRules (entries (rows count work)))) n w noRules w n 0
+unfolding entries
+tallying-start count work w n = record { counts = refl; passing = passing-start (rows count work) (ruleErrors noRules) w n; within = omega arith }
+
+module _ (count : ℕ) (work : List ℕ) (total : ℕ) (target : Log) (from : ℕ) (w₀ : List ℕ) (s : Tally) (w : List ℕ) (n i : ℕ)
+    (p : Tallying count work total target from w₀ s w n i) (room : 4 * count ≤ length work) where
+  pub tallying-on : (s′ : Tally) (w′ : List ℕ) (n′ j : ℕ) (t : Token) (v : Verdict) (q : Span) → i < count → t ≡ peek (rows count work) i
+      → v ≡ verdict (s .rules) (entryAt (rows count work) i) → q ≡ placeOf t → logged w′ n′ ≡ appendAll (logged w n) (ruleError v (s .cut) q) → s′ ≡ after s v
+      → j ≡ i + 1 + behind i t → Tallying count work total target from w₀ s′ w′ n′ j
+  unfolding ruleErrors ruleCount
+  tallying-on s′ w′ n′ j t v q h et ev eq ew es ej =
+      let ts : List Token = rows count work in
+      let many : length ts ≡ count = length-rows count work room in
+      let here : i < length ts = omega arith in
+      let e : Entry = entryAt ts i in
+      let next : i + 1 + behind i (peek ts i) ≡ j = ap (λ (t : Token). i + 1 + behind i t) (sym et) ∙ sym ej in
+      let v′ : Verdict = verdict (s .rules) e in
+      let ds : List Diagnostic = ruleError v′ (s .cut) (placeOf (peek ts i)) in
+      let eq′ : q ≡ placeOf (peek ts i) = eq ∙ ap placeOf et in
+      let ew′ : logged w′ n′ ≡ appendAll (logged w n) ds =
+      ew ∙ ap (λ (v : Verdict). appendAll (logged w n) (ruleError v (s .cut) q)) ev ∙ ap (λ (q : Span). appendAll (logged w n) (ruleError v′ (s .cut) q)) eq′ in
+      let es′ : after s v′ ≡ s′ = ap (after s) (sym ev) ∙ sym es in
+      let lines : entriesAt ts i ≡ e ∷ entriesAt ts j = entries-step ts i here ∙ ap (λ (j : ℕ). e ∷ entriesAt ts j) next in
+      record {
+        counts = ap (λ (s : Tally). ruleCount s (entriesAt ts j)) (sym es′) ∙ ap (ruleCount s) (sym lines) ∙ p .counts;
+        passing = subst (λ (x : Tally). Passing ts (ruleErrors x) target from w₀ w′ n′ j) es′
+            (subst (λ (j : ℕ). Passing ts (ruleErrors (after s v′)) target from w₀ w′ n′ j) next
+            (passing-step ts target from w₀ w n i (ruleErrors s) (ruleErrors (after s v′)) ds w′ n′ (p .passing) here (λ es. refl) (one-rule v′ (s .cut) (placeOf (peek ts i))) ew′));
+        within = subst (λ (x : Tally). x .rules ≤ 262144) es′ (after-within s v′ (p .within) (λ m h. verdict-within (s .rules) m e h));
+      }
+
+  pub counts-end : count ≤ i → s .rules ≡ total
+  unfolding ruleCount
+  counts-end h = sym (ap (ruleCount s) (entries-end (rows count work) i (omega (arith, length-rows count work room)))) ∙ p .counts
+
+  pub tallying-end : count ≤ i → logged w n ≡ target
+  unfolding ruleErrors
+  tallying-end h = passing-end (rows count work) target from w₀ w n i (ruleErrors s) (p .passing) (omega (arith, length-rows count work room)) refl

@@ -1,0 +1,26 @@
+-- `assembler::entry::token_at` meets its contract: token i is the words from 4 i on.
+use borrow.Author.Needs.{needs}
+use Rattle.assembler.proofs.Rows.{row-read, row-past}
+use Rattle.assembler.proofs.entry.token_at.Statement.{statement}
+use Rattle.assembler.proofs.entry.token_at.Tie as tie
+
+ruleset laws = (needs, row-read, row-past)
+
+pub token-at-spec : {M : Type 1} → statement M
+token-at-spec =
+    tie.close
+    (tie.spec
+    (λ c. search laws)
+    (λ c. search laws)
+    (λ c. search laws)
+    (λ c. search laws)
+    (λ c. search laws)
+    (λ c. search laws)
+    (λ c. search laws)
+    (λ c. search laws)
+    (λ c. search laws)
+    (λ c. search laws)
+    (λ c. search laws)
+    (λ c. search laws)
+    (λ c. search laws)
+    (λ c. search laws))

@@ -1,0 +1,72 @@
+// The tokens in a row of words, and the lines whose first tokens are entries.
+ghost use mathlib.Core.Path.{_≡_};
+ghost use Prim.Native.Nat.{_+_, _*_, _≤_, _<_, _^_};
+ghost use lib.ListN.{length};
+ghost use Rattle.parser.specs.Row.{peek};
+ghost use Rattle.assembler.specs.Rows.{rows, placeOf};
+ghost use Rattle.assembler.specs.Entries.{behind};
+use diag::Span;
+use parser::Token;
+use parser::kind;
+
+// The kind of an item's entry: this and its number.
+pub const ITEM: u32 = 16;
+// The kind of a failed line's entry: this and its code.
+pub const FAILED: u32 = 32;
+
+// A word as an index.
+pub fn wide(x: u32) -> usize
+    ensures { λ r. ⌜ r ≡ x ⌝ }
+{
+    x as usize
+}
+
+// The token at an index; past the last one, a line feed.
+pub fn token_at(work: &[u32], count: usize, at: usize) -> Token
+    requires { ⌜ 4 * count ≤ length (now work) ⌝ }
+    ensures { λ r. ⌜ r ≡ peek (rows count (now (work .entry))) at ⌝ }
+{
+    if at < count {
+        let i = 4 * at;
+        return Token {
+            kind: work[i],
+            start: work[i + 1],
+            end: work[i + 2],
+            value: work[i + 3],
+        };
+    }
+    Token {
+        kind: kind::NEWLINE,
+        start: 0,
+        end: 0,
+        value: 0,
+    }
+}
+
+// A token's place.
+pub fn place_of(t: Token) -> Span
+    ensures { λ r. ⌜ r ≡ placeOf t ⌝ }
+{
+    Span {
+        start: t.start,
+        end: t.end,
+    }
+}
+
+// The index behind the line that begins with the token t at an index.
+pub fn next_line(t: Token, at: usize) -> usize
+    requires { ⌜ at + 2 < 2 ^ 64 ⌝ }
+    ensures { λ r. ⌜ r ≡ at + 1 + behind at t ⌝ }
+{
+    if ITEM <= t.kind {
+        let end = t.value as usize;
+        if at < end {
+            return end + 1;
+        }
+        return at + 1;
+    }
+    if t.kind == kind::COMMENT {
+        return at + 2;
+    }
+    at + 1
+}

@@ -1,0 +1,197 @@
+// How many rules the lines stand for, and the diagnostics of rules.
+ghost use mathlib.Core.Path.{_≡_};
+ghost use Prim.Native.Nat.{_+_, _*_, _<_, _≤_, _^_};
+ghost use lib.ListN.{length, drop};
+ghost use Rattle.diag.specs.Log.{logged, appendAll};
+ghost use Rattle.diag.specs.declared.Span.{Span};
+ghost use Rattle.parser.specs.Row.{peek};
+ghost use Rattle.assembler.specs.Rows.{rows, placeOf};
+ghost use Rattle.assembler.specs.Entries.{entryAt, entries};
+ghost use Rattle.assembler.specs.Rules.{counted, combinations, sameArity, verdict, after, ruleError, ruleErrors, ruleCount, noRules};
+use crate::entry;
+use diag::Diagnostic;
+use diag::Span;
+use parser::Token;
+use parser::kind;
+
+// The number of a rule's item.
+const TRANSITION: u32 = 11;
+// More rules than this are too many.
+pub const MAX_TRANSITIONS: usize = 262_144;
+// The codes of diagnostics.
+const TOO_LARGE: u32 = 9;
+
+const WRONG_ARITY: u32 = 10;
+
+// The sets that were read: the product of their sizes, cut off above the limit, and the members since the last began.
+pub struct Sets {
+    pub product: usize,
+    pub size: usize,
+}
+
+// The rules so far, and whether one was dropped for the limit.
+pub struct Tally {
+    pub rules: usize,
+    pub cut: bool,
+}
+
+// What becomes of a line.
+pub enum Verdict {
+    // It is no rule.
+    Other,
+    // Its reads, writes and moves differ in number.
+    WrongArity,
+    // It would pass the limit.
+    TooMany,
+    // It expands, and so many rules there are then.
+    Expands(usize),
+}
+
+// The number of rules, and of diagnostics so far.
+pub struct RuleCount {
+    pub rules: usize,
+    pub errors: usize,
+}
+
+// One token more.
+fn counted(s: Sets, t: Token) -> Sets
+    requires { ⌜ (s .product ≤ 262145) × (s .size < 2 ^ 32) ⌝ }
+    ensures { λ r. ⌜ r ≡ counted s t ⌝ }
+{
+    if t.kind == kind::L_BRACE {
+        return Sets {
+            product: s.product,
+            size: 0,
+        };
+    }
+    if t.kind == kind::R_BRACE {
+        let n = s.product * s.size;
+        if n <= MAX_TRANSITIONS {
+            return Sets {
+                product: n,
+                size: s.size,
+            };
+        }
+        return Sets {
+            product: MAX_TRANSITIONS + 1,
+            size: s.size,
+        };
+    }
+    if t.kind == kind::COMMA {
+        return s;
+    }
+    Sets {
+        product: s.product,
+        size: s.size + 1,
+    }
+}
+
+// The product of the sizes of the sets from an index to the line's end, cut off above the limit.
+fn combinations(work: &[u32], count: usize, at: usize) -> usize
+    requires { ⌜ (4 * count ≤ length (now work)) × (count < 2 ^ 32) ⌝ }
+    ensures { λ r. ⌜ r ≡ combinations (drop at (rows count (now (work .entry)))) ⌝ }
+{
+    let mut s = Sets {
+        product: 1,
+        size: 0,
+    };
+    let mut i = at;
+    while i < count {
+        let t = entry::token_at(work, count, i);
+        if t.kind == kind::NEWLINE {
+            return s.product;
+        }
+        s = counted(s, t);
+        i += 1;
+    }
+    s.product
+}
+
+// Whether a rule's reads, writes and moves are equal in number.
+fn same_arity(p: Token) -> bool
+    ensures { λ r. ⌜ r ≡ sameArity p ⌝ }
+{
+    if p.end == p.start {
+        return p.value == p.start;
+    }
+    false
+}
+
+// What becomes of the line at an index when n rules came before it.
+fn verdict_at(work: &[u32], count: usize, at: usize, n: usize) -> Verdict
+    requires { ⌜ (4 * count ≤ length (now work)) × (count < 2 ^ 32) × (at < count) × (n ≤ 262144) ⌝ }
+    ensures { λ r. ⌜ r ≡ verdict n (entryAt (rows count (now (work .entry))) at) ⌝ }
+{
+    let t = entry::token_at(work, count, at);
+    if t.kind != entry::ITEM + TRANSITION {
+        return Verdict::Other;
+    }
+    if same_arity(entry::token_at(work, count, at + 1)) {
+        let total = n + combinations(work, count, at + 1);
+        if total <= MAX_TRANSITIONS {
+            return Verdict::Expands(total);
+        }
+        return Verdict::TooMany;
+    }
+    Verdict::WrongArity
+}
+
+// The rules so far with one line more.
+fn after(s: Tally, v: Verdict) -> Tally
+    ensures { λ r. ⌜ r ≡ after s v ⌝ }
+{
+    match v {
+        Verdict::Other => s,
+        Verdict::WrongArity => s,
+        Verdict::TooMany => Tally {
+            rules: s.rules,
+            cut: true,
+        },
+        Verdict::Expands(n) => Tally {
+            rules: n,
+            cut: s.cut,
+        },
+    }
+}
+
+// One line's diagnostic, if what becomes of it has one.
+fn rule_error(v: Verdict, cut: bool, place: Span, log: &mut [u32], errors: usize) -> usize
+    requires { ⌜ errors + 1 < 2 ^ 64 ⌝ }
+    ensures { λ r. ⌜ logged (now (log .exit)) r ≡ appendAll (logged (now (log .entry)) errors) (ruleError v cut place) ⌝ }
+{
+    match v {
+        Verdict::Other => errors,
+        Verdict::WrongArity => diag::append(log, errors, Diagnostic::error(WRONG_ARITY, place)),
+        Verdict::TooMany => {
+            if cut {
+                return errors;
+            }
+            diag::append(log, errors, Diagnostic::error(TOO_LARGE, place))
+        }
+        Verdict::Expands(_) => errors,
+    }
+}
+
+// Of all lines.
+pub fn rules(work: &[u32], count: usize, log: &mut [u32], errors: usize) -> RuleCount
+    requires { ⌜ (4 * count ≤ length (now work)) × (count < 2 ^ 32) × (errors + count < 2 ^ 64) ⌝ }
+    ensures { λ r. ⌜ (r .rules ≡ ruleCount noRules (entries (rows count (now (work .entry))))) × (logged (now (log .exit)) (r .errors) ≡ appendAll (logged (now (log .entry)) errors) (ruleErrors noRules (entries (rows count (now (work .entry)))))) ⌝ }
+{
+    let mut s = Tally {
+        rules: 0,
+        cut: false,
+    };
+    let mut n = errors;
+    let mut at = 0;
+    while at < count {
+        let t = entry::token_at(work, count, at);
+        let v = verdict_at(work, count, at, s.rules);
+        n = rule_error(v, s.cut, entry::place_of(t), log, n);
+        s = after(s, v);
+        at = entry::next_line(t, at);
+    }
+    RuleCount {
+        rules: s.rules,
+        errors: n,
+    }
+}

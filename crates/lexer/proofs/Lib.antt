@@ -1,0 +1,5 @@
+pub mod Scans
+pub mod Keywords
+pub mod Pieces
+pub mod Steps
+pub mod Writes

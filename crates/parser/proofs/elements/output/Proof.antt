@@ -1,0 +1,22 @@
+-- Each call gives its part of the definition, whose tests are those of the code. Assumes nothing.
+use borrow.Author.Needs.{needs}
+use Rattle.parser.proofs.Lists.{chain}
+use Rattle.parser.specs.Lines.{output}
+use Rattle.parser.proofs.elements.output.Statement.{statement}
+use Rattle.parser.proofs.elements.output.Tie as tie
+
+pub output-spec : {M : Type 1} → statement M
+unfolding output
+output-spec =
+    tie.close
+    (tie.spec
+    (λ c κs. search needs)
+    (λ c κs. search needs)
+    (λ c. search needs)
+    (λ c. search needs)
+    (λ c. search chain)
+    (λ c κs. search needs)
+    (λ c. search chain)
+    (λ c κs. search needs)
+    (λ c. search chain)
+    (λ c. search chain))
