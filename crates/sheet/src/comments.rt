@@ -1,0 +1,172 @@
+// Comments: header, trailing, and where those that lead a rule begin.
+ghost use mathlib.Core.Path.{_≡_};
+ghost use Prim.Native.Nat.{_+_, _*_, _≤_, _<_, _^_};
+ghost use lib.ListN.{length};
+ghost use Rattle.language.specs.Layout.{flat};
+ghost use Rattle.assembler.specs.Rows.{rows};
+ghost use mathlib.Core.List.{[], _∷_};
+ghost use Rattle.assembler.specs.Entries.{entries};
+ghost use Rattle.sheet.specs.Stored.{Stored};
+ghost use Rattle.sheet.specs.Comments.{textOf, textWords, commentsIn, between, nothing, passed, passedAll, headerOf, header, trailing};
+use crate::put;
+use assembler::entry;
+use diag::Span;
+use parser::Token;
+use parser::kind;
+
+// The comments that wait for an item: whether an item or failed line came earlier, where they begin, and where the block that goes on begins.
+pub struct Pending {
+    pub seen: bool,
+    pub from: usize,
+    pub block: usize,
+}
+
+// No comment is pending.
+pub const NOTHING: Pending = Pending {
+    seen: false,
+    from: 0,
+    block: 0,
+};
+// The number of a rule's item.
+pub const TRANSITION: u32 = 11;
+
+// The place of a comment's text.
+pub fn text_of(t: Token) -> Span
+    ensures { λ r. ⌜ r ≡ textOf t ⌝ }
+{
+    Span {
+        start: std::num::wrapping_add_u32(t.start, t.value),
+        end: t.end,
+    }
+}
+
+// A token's text, if it is a comment.
+fn comment(t: Token, out: &mut [u32], at: usize) -> usize
+    requires { ⌜ at + length (flat textWords (commentsIn (t ∷ []))) < 2 ^ 64 ⌝ }
+    ensures { λ r. ⌜ Stored (flat textWords (commentsIn (t ∷ []))) (now (out .entry)) at (now (out .exit)) r ⌝ }
+{
+    if t.kind == kind::COMMENT {
+        return put::place(out, at, text_of(t));
+    }
+    at
+}
+
+// The comments from the index `from` to before `to`: stored from the index `at` on where there is room, and the index behind them.
+pub fn comments(
+    work: &[u32],
+    count: usize,
+    from: usize,
+    to: usize,
+    out: &mut [u32],
+    at: usize,
+) -> usize
+    requires { ⌜ (4 * count ≤ length (now work)) × (at + length (flat textWords (between (rows count (now work)) from to)) < 2 ^ 64) ⌝ }
+    ensures { λ r. ⌜ Stored (flat textWords (between (rows count (now (work .entry))) from to)) (now (out .entry)) at (now (out .exit)) r ⌝ }
+{
+    let mut n = at;
+    let mut i = from;
+    while i < to {
+        let t = entry::token_at(work, count, i);
+        n = comment(t, out, n);
+        i += 1;
+    }
+    n
+}
+
+// What is pending behind the line that begins with the token t at an index.
+pub fn passed(p: Pending, t: Token, at: usize) -> Pending
+    requires { ⌜ at + 2 < 2 ^ 64 ⌝ }
+    ensures { λ r. ⌜ r ≡ passed p at t ⌝ }
+{
+    let next = entry::next_line(t, at);
+    if entry::ITEM <= t.kind {
+        return Pending {
+            seen: true,
+            from: next,
+            block: next,
+        };
+    }
+    if t.kind == kind::COMMENT {
+        return p;
+    }
+    Pending {
+        seen: p.seen,
+        from: p.from,
+        block: next,
+    }
+}
+
+// The header comments of the line that begins with the token t.
+fn header_of(
+    work: &[u32],
+    count: usize,
+    p: Pending,
+    t: Token,
+    out: &mut [u32],
+    at: usize,
+) -> usize
+    requires { ⌜ (4 * count ≤ length (now work)) × (at + length (flat textWords (headerOf (rows count (now work)) p t)) < 2 ^ 64) ⌝ }
+    ensures { λ r. ⌜ Stored (flat textWords (headerOf (rows count (now (work .entry))) p t)) (now (out .entry)) at (now (out .exit)) r ⌝ }
+{
+    if t.kind < entry::ITEM {
+        return at;
+    }
+    if t.kind < entry::ITEM + TRANSITION {
+        let end = entry::wide(t.value);
+        return comments(work, count, p.from, end, out, at);
+    }
+    if t.kind == entry::ITEM + TRANSITION {
+        if p.seen {
+            return at;
+        }
+        return comments(work, count, p.from, p.block, out, at);
+    }
+    at
+}
+
+// The header comments of a row.
+pub fn header(work: &[u32], count: usize, out: &mut [u32], at: usize) -> usize
+    requires { ⌜ (4 * count ≤ length (now work)) × (at + length (flat textWords (header (rows count (now work)))) < 2 ^ 64) ⌝ }
+    ensures { λ r. ⌜ Stored (flat textWords (header (rows count (now (work .entry))))) (now (out .entry)) at (now (out .exit)) r ⌝ }
+{
+    let mut p = NOTHING;
+    let mut n = at;
+    let mut i = 0;
+    while i < count {
+        let t = entry::token_at(work, count, i);
+        n = header_of(work, count, p, t, out, n);
+        p = passed(p, t, i);
+        i = entry::next_line(t, i);
+    }
+    if p.seen {
+        return n;
+    }
+    comments(work, count, p.from, count, out, n)
+}
+
+// What is pending behind all lines.
+fn left_pending(work: &[u32], count: usize) -> Pending
+    requires { ⌜ 4 * count ≤ length (now work) ⌝ }
+    ensures { λ r. ⌜ r ≡ passedAll nothing (entries (rows count (now (work .entry)))) ⌝ }
+{
+    let mut p = NOTHING;
+    let mut i = 0;
+    while i < count {
+        let t = entry::token_at(work, count, i);
+        p = passed(p, t, i);
+        i = entry::next_line(t, i);
+    }
+    p
+}
+
+// The trailing comments of a row.
+pub fn trailing(work: &[u32], count: usize, out: &mut [u32], at: usize) -> usize
+    requires { ⌜ (4 * count ≤ length (now work)) × (at + length (flat textWords (trailing (rows count (now work)))) < 2 ^ 64) ⌝ }
+    ensures { λ r. ⌜ Stored (flat textWords (trailing (rows count (now (work .entry))))) (now (out .entry)) at (now (out .exit)) r ⌝ }
+{
+    let p = left_pending(work, count);
+    if p.seen {
+        return comments(work, count, p.from, count, out, at);
+    }
+    at
+}
