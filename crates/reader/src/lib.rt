@@ -1,5 +1,6 @@
 // Reading a description: what a call answers, and the name of a state.
 pub mod admission;
+pub mod head;
 pub mod name;
 pub mod words;
 

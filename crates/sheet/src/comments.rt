@@ -97,14 +97,7 @@ pub fn passed(p: Pending, t: Token, at: usize) -> Pending
 }
 
 // The header comments of the line that begins with the token t.
-fn header_of(
-    work: &[u32],
-    count: usize,
-    p: Pending,
-    t: Token,
-    out: &mut [u32],
-    at: usize,
-) -> usize
+fn header_of(work: &[u32], count: usize, p: Pending, t: Token, out: &mut [u32], at: usize) -> usize
     requires { ⌜ (4 * count ≤ length (now work)) × (at + length (flat textWords (headerOf (rows count (now work)) p t)) < 2 ^ 64) ⌝ }
     ensures { λ r. ⌜ Stored (flat textWords (headerOf (rows count (now (work .entry))) p t)) (now (out .entry)) at (now (out .exit)) r ⌝ }
 {
