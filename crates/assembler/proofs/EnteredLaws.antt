@@ -11,7 +11,7 @@ use lib.ListN.{length, getD, take, drop, set, length-append, length-take, length
 use native.Mathlib.Nat.{add-zero}
 use lib.Seq.{getD-append-add, drop-set-lt, take-append-add, drop-append-add, length-take-le, drop-cons, take-all, drop-length}
 use Rattle.lexer.specs.Words.{onto}
-use Rattle.parser.specs.declared.Token.{Token}
+use Rattle.tokens.specs.declared.Token.{Token}
 use Rattle.parser.specs.declared.Parts.{Parts}
 use Rattle.parser.specs.declared.ItemKind.{ItemKind}
 use Rattle.parser.specs.declared.ItemKind.the-variants.{Machine, Kind, Input, Output, Tapes, States, InputAlphabet, TapeAlphabet, Blank, Start, Final, Transition}

@@ -9,3 +9,5 @@ pub mod Inside
 pub mod LineLaws
 pub mod EnteredLaws
 pub mod NameLaws
+pub mod MarkLaws
+pub mod FinalLaws

@@ -10,8 +10,8 @@ use mir.Val.{Fits}
 use lib.ListN.{length, take, drop, set, length-drop, length-set, take-append-drop}
 use lib.Seq.{sets, length-sets, drop-set-add, take-set-le}
 use Rattle.lexer.specs.Words.{onto}
-use Rattle.parser.specs.declared.Token.{Token}
-use Rattle.parser.specs.declared.Span.{Span}
+use Rattle.tokens.specs.declared.Token.{Token}
+use Rattle.lexer.specs.declared.Span.{Span}
 use Rattle.parser.specs.declared.Parts.{Parts}
 use Rattle.parser.specs.declared.ItemKind.{ItemKind}
 use Rattle.parser.specs.declared.ItemKind.the-variants.{Machine, Kind, Input, Output, Tapes, States, InputAlphabet, TapeAlphabet, Blank, Start, Final, Transition}

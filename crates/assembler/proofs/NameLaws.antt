@@ -15,7 +15,7 @@ use lib.Seq.{sets, drop-cons, take-set-le}
 use Rattle.lexer.specs.Text.{same}
 use Rattle.lexer.specs.Places.{part}
 use Rattle.lexer.specs.declared.Span.{Span}
-use Rattle.parser.specs.declared.Token.{Token}
+use Rattle.tokens.specs.declared.Token.{Token}
 use Rattle.parser.specs.Row.{tokensIn, peek, ended}
 use Rattle.assembler.specs.Rows.{rows}
 use Rattle.assembler.specs.Names.{sameName, isWord, sameWord, firstEqual, internOf, interned}

@@ -8,7 +8,7 @@ use lib.ListN.{length}
 use Rattle.diag.specs.declared.Diagnostic.{Diagnostic}
 use Rattle.diag.specs.Log.{Log, logged, appendAll}
 use Rattle.diag.proofs.Appended.{append-all-append, append-all-count, append-all-length}
-use Rattle.parser.specs.declared.Token.{Token}
+use Rattle.tokens.specs.declared.Token.{Token}
 use Rattle.parser.specs.Row.{peek}
 use Rattle.assembler.specs.Entries.{Entry, entryAt, behind, entriesFrom, entries}
 use Rattle.assembler.proofs.Rows.{entriesAt, entries-step, entries-end}

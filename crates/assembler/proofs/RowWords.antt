@@ -7,7 +7,7 @@ use native.Mathlib.Nat.{le-of-suc-le-suc}
 use lib.ListN.{length, getD, take, drop, set, length-append, length-take, length-drop, length-set, take-append-drop}
 use lib.Seq.{take-at, drop-at, take-length, length-take-le, sets, sets-eq, length-sets, set-split, split-at, drop-append-add, drop-drop}
 use Rattle.lexer.specs.Words.{onto}
-use Rattle.parser.specs.declared.Token.{Token}
+use Rattle.tokens.specs.declared.Token.{Token}
 use Rattle.parser.specs.Row.{tokensIn, ended, peek}
 use Rattle.assembler.specs.Rows.{rows}
 use Rattle.assembler.specs.Entered.{wordsOf, flat}

@@ -15,7 +15,7 @@ use lib.Seq.{getD-drop, drop-cons}
 use Rattle.diag.specs.declared.Span.{Span}
 use Rattle.diag.specs.declared.Diagnostic.{Diagnostic}
 use Rattle.diag.specs.Log.{error, Log, logged, appended, appendAll}
-use Rattle.parser.specs.declared.Token.{Token}
+use Rattle.tokens.specs.declared.Token.{Token}
 use Rattle.assembler.specs.declared.rules.Sets.{Sets}
 use Rattle.assembler.specs.declared.rules.Tally.{Tally}
 use Rattle.assembler.specs.declared.rules.Verdict.{Verdict}

@@ -1,12 +1,12 @@
 -- The names that Q declares and F lists, and the diagnostics of F.
-use Prim.Native.Nat.{ℕ, suc, _+_, _<_}
+use Prim.Native.Nat.{ℕ, suc, _+_, _*_, _≤_, _<_, _^_}
 use mathlib.Core.Path.{_≡_}
 use mathlib.Core.Bool.{Bool, true, false, cond}
 use mathlib.Core.List.{List, [], _∷_, _++_}
 use mathlib.Core.Option.{Option, none, some}
 use lib.Dec.{eqb, ltb}
-use lib.ListN.{length, getD, drop}
-use Rattle.parser.specs.declared.Token.{Token}
+use lib.ListN.{length, getD, take, drop}
+use Rattle.tokens.specs.declared.Token.{Token}
 use Rattle.parser.specs.Row.{peek}
 use Rattle.diag.specs.declared.Diagnostic.{Diagnostic}
 use Rattle.diag.specs.Log.{error, withRelated}
@@ -47,6 +47,11 @@ finalError text ts declared qs before f = elim (listed text ts f before) [
   | none ↦ unknownError text ts declared qs f
 ]
 
+-- the diagnostic of a token of F's line: of a word as a name, of another token none
+unfoldable pub finalErrorAt : List ℕ → List Token → Bool → List ℕ → List ℕ → ℕ → List Diagnostic
+unfolding finalError
+finalErrorAt text ts declared qs before i = cond (isWord (peek ts i)) (finalError text ts declared qs before i) []
+
 unfoldable pub finalErrors : List ℕ → List Token → Bool → List ℕ → List ℕ → List ℕ → List Diagnostic
 unfolding finalError
 finalErrors text ts declared qs before [] = []
@@ -61,9 +66,14 @@ finalsErrors text ts first =
 
 -- ---- marks: a word of scratch for each first equal word
 -- what a name is marked with: 2 and the index of its first listing in F, else 1 if Q has it, else 0
+unfoldable pub markBy : Option ℕ → Option ℕ → ℕ
+markBy (some j) q = j + 2
+markBy none (some k) = 1
+markBy none none = 0
+
 unfoldable pub markOf : List ℕ → List Token → List ℕ → List ℕ → ℕ → ℕ
-unfolding listed
-markOf text ts qs before x = elim (listed text ts x before) [ some j ↦ j + 2 | none ↦ elim (listed text ts x qs) [ some j ↦ 1 | none ↦ 0 ] ]
+unfolding listed markBy
+markOf text ts qs before x = markBy (listed text ts x before) (listed text ts x qs)
 
 -- the words w hold at a the row of first equal words, and at b the mark of each name
 pub record Marks (text : List ℕ) (ts : List Token) (a b : ℕ) (w : List ℕ) (qs before : List ℕ) : Type 0 where
@@ -71,3 +81,15 @@ pub record Marks (text : List ℕ) (ts : List Token) (a b : ℕ) (w : List ℕ) 
 
 pub record Interned (text : List ℕ) (ts : List Token) (a : ℕ) (w : List ℕ) : Type 0 where
   pub interned : (x : ℕ) → x < length ts → isWord (peek ts x) ≡ true → getD w (a + x) 0 ≡ firstEqual text (peek ts x) 0 ts
+
+-- where the rows stand: the tokens, then the row of first equal words at a, then the marks at b
+pub record Laid (count a b : ℕ) (w : List ℕ) : Type 0 where
+  pub tokens : 4 * count ≤ a
+  pub words : a + count ≤ b
+  pub marks : b + count ≤ length w
+  pub few : count < 2 ^ 31
+
+-- nothing but marks has changed
+pub record Kept (b : ℕ) (w₀ w : List ℕ) : Type 0 where
+  pub front : take b w ≡ take b w₀
+  pub size : length w ≡ length w₀

@@ -5,7 +5,7 @@ use mathlib.Core.List.{List, [], _∷_}
 use lib.Dec.{eqb}
 use Rattle.lexer.specs.Text.{same}
 use Rattle.lexer.specs.Places.{part}
-use Rattle.parser.specs.declared.Token.{Token}
+use Rattle.tokens.specs.declared.Token.{Token}
 
 -- the characters of two tokens are equal
 unfoldable pub sameName : List ℕ → Token → Token → Bool

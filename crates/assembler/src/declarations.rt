@@ -9,7 +9,7 @@ ghost use Rattle.assembler.specs.Entries.{entryAt, entries};
 ghost use Rattle.assembler.specs.Declarations.{declare, declarations, tapesError, declarationError, declarationErrors};
 use crate::entry;
 use diag::Diagnostic;
-use parser::Token;
+use tokens::Token;
 
 // The number of names.
 pub const NAMES: usize = 11;
@@ -41,7 +41,7 @@ fn tapes_error(work: &[u32], count: usize, at: usize, log: &mut [u32], errors: u
 }
 
 // A name that is declared again by the token t, related to its first declaration, f.
-fn duplicate(
+pub fn duplicate(
     work: &[u32],
     count: usize,
     f: usize,

@@ -6,8 +6,8 @@ ghost use Rattle.parser.specs.Row.{peek};
 ghost use Rattle.assembler.specs.Rows.{rows, placeOf};
 ghost use Rattle.assembler.specs.Entries.{behind};
 use diag::Span;
-use parser::Token;
-use parser::kind;
+use tokens::Token;
+use lexer::kind;
 
 // The kind of an item's entry: this and its number.
 pub const ITEM: u32 = 16;
@@ -16,7 +16,7 @@ pub const FAILED: u32 = 32;
 
 // A word as an index.
 pub fn wide(x: u32) -> usize
-    ensures { λ r. ⌜ r ≡ x ⌝ }
+    ensures { λ r. ⌜ (r ≡ x) × (r < 2 ^ 32) ⌝ }
 {
     x as usize
 }
@@ -27,13 +27,7 @@ pub fn token_at(work: &[u32], count: usize, at: usize) -> Token
     ensures { λ r. ⌜ r ≡ peek (rows count (now (work .entry))) at ⌝ }
 {
     if at < count {
-        let i = 4 * at;
-        return Token {
-            kind: work[i],
-            start: work[i + 1],
-            end: work[i + 2],
-            value: work[i + 3],
-        };
+        return tokens::token_at(work, at);
     }
     Token {
         kind: kind::NEWLINE,

@@ -9,7 +9,7 @@ ghost use Rattle.assembler.specs.Entries.{entryAt, entries};
 ghost use Rattle.assembler.specs.Failures.{lineError, lineErrors};
 use crate::entry;
 use diag::Diagnostic;
-use parser::Token;
+use tokens::Token;
 
 // One line's.
 fn line_error(t: Token, log: &mut [u32], errors: usize) -> usize

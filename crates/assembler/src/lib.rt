@@ -2,6 +2,7 @@
 pub mod declarations;
 pub mod entry;
 pub mod failures;
+pub mod finals;
 pub mod lines;
 pub mod names;
 pub mod rules;

@@ -12,10 +12,10 @@ use parser::Item;
 use parser::ItemKind;
 use parser::Line;
 use parser::Parts;
-use parser::Span;
-use parser::Token;
+use lexer::Span;
+use tokens::Token;
 use parser::items;
-use parser::kind;
+use lexer::kind;
 
 // The number of a rule's item.
 const TRANSITION: u32 = 11;

@@ -12,8 +12,7 @@ use lib.Seq.{take-at, drop-at, drop-append-add}
 use Rattle.chars.specs.Utf8.{scalars, sizes, encode, decode, validUpTo}
 use Rattle.lexer.specs.Text.{codes, same}
 use Rattle.chars.proofs.Theorems.{sizes-append, length-encode, decode-scalars, valid-whole}
-use Rattle.lexer.specs.declared.Span.{Span}
-use Rattle.lexer.specs.Tokens.{TokenKind, Token, unescape, tokens, word, number, quoted, str, sign, comment, newline, unterminatedString, unterminatedQuote}
+use Rattle.lexer.specs.Tokens.{TokenKind, Token, Span, unescape, tokens, word, number, quoted, str, sign, comment, newline, unterminatedString, unterminatedQuote}
 use Rattle.language.specs.Machine.{Located, Dir, left, right, stay, State, Action, Rule, Symbol, Machine}
 use Rattle.language.specs.Content.{StateContent, ActionContent, RuleContent, Content, valueOr, optional, values, ruleContent, contentOf}
 use Rattle.language.specs.Parser.{when}

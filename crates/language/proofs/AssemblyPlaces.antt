@@ -1,18 +1,18 @@
 -- Places do not steer assembly either: the facts and the codes of the diagnostics are those of the lines without places.
-use Prim.Native.Nat.{ℕ, zero, suc, _+_, _*_}
+use Prim.Native.Nat.{ℕ, _+_, _*_}
 use mathlib.Core.Bool.{Bool, true, false, _&&_}
 use mathlib.Core.List.{List, [], _∷_, _++_, map, map-map}
 use mathlib.Core.Option.{Option, none, some}
 use mathlib.Core.Path.{_≡_, refl, ap, ap₂, _∙_, sym}
 use lib.Dec.{eqb, leb}
-use lib.ListN.{length, length-map}
+use lib.ListN.{length-map}
 use Rattle.lexer.specs.Text.{same}
-use Rattle.language.specs.Machine.{Located, Kind, Dir, Action, Rule}
-use Rattle.language.specs.Content.{ActionContent, RuleContent, optional, values, ruleContent}
-use Rattle.language.specs.Lines.{RawSymbol, rawBlank, RawDecoder, RawTransition, Text, Item, machineItem, inputItem, kindItem, outputItem, tapesItem, statesItem, finalItem, inputAlphabetItem, tapeAlphabetItem, blankItem, startItem, transitionItem, Line, blankLine, commentLine, itemLine, errorLine}
+use Rattle.language.specs.Machine.{Located, Dir, Action}
+use Rattle.language.specs.Content.{ActionContent, optional, values, ruleContent}
+use Rattle.language.specs.Lines.{RawSymbol, rawBlank, RawTransition, Item, machineItem, inputItem, kindItem, outputItem, tapesItem, statesItem, finalItem, inputAlphabetItem, tapeAlphabetItem, blankItem, startItem, transitionItem, Line, blankLine, commentLine, itemLine, errorLine}
 use Rattle.language.specs.Assembly.{Parts, parts, items, first, found, orElse, resolve, blankOf, statesIn, finalsIn, RuleLine, Body, ofOption, addHeader, addRule, atEnd, leads, unled, attachItem, attach, bodyOf, combinations, Verdict, expands, wrongArity, tooMany, verdict, kept, eachFront, choices, written, actions, ruleOf, dressed, expand, expandAll, Diagnostic, diagnostic, lineErrors, declaration, isNumber, declaredAt, earlier, tapesError, declarationError, declarationErrors, listedAt, unknownError, finalError, finalErrors, ruleErrors, diagnosticsOf}
-use Rattle.language.proofs.Every.{byTest, map-ext}
-use Rattle.language.proofs.Facts.{Facts, mapOption, factsFrom, factsOf, map-append}
+use Rattle.language.proofs.Every.{byTest}
+use Rattle.language.proofs.Facts.{mapOption, factsFrom, factsOf, map-append}
 use Rattle.language.proofs.ParsePlaces.{onLoc, onText, onRaw, onItem, onLine}
 
 pub found-none : {P A : Type 0} (part : Parts P → Option A) (i : Located P (Item P)) (is : List (Located P (Item P))) → part (parts (i .value)) ≡ none → found (first part (i ∷ is)) ≡ found (first part is)
@@ -43,7 +43,7 @@ each-natural g (a ∷ s) ls =
     ap₂ (λ x y. x ++ y) (map-map (λ l. g a ∷ l) (map g) ls ∙ sym (map-map (map g) (λ l. a ∷ l) ls)) (each-natural g s ls)
     ∙ sym (map-append (map g) (map (λ l. a ∷ l) ls) (eachFront s ls))
 
-choices-natural : {A B : Type 0} (g : A → B) (ss : List (List A)) → choices (map (map g) ss) ≡ map (map g) (choices ss)
+pub choices-natural : {A B : Type 0} (g : A → B) (ss : List (List A)) → choices (map (map g) ss) ≡ map (map g) (choices ss)
 unfolding choices
 choices-natural g [] = refl
 choices-natural g (s ∷ ss) = ap (eachFront (map g s)) (choices-natural g ss) ∙ each-natural g s (choices ss)

@@ -15,7 +15,7 @@ use Rattle.chars.specs.Class.{firstOutside}
 use Rattle.chars.specs.declared.Outside.{Outside}
 use Rattle.chars.specs.declared.Outside.the-variants.{At, Nowhere}
 use Rattle.chars.proofs.Theorems.{valid-le}
-use Rattle.lexer.specs.declared.Span.{Span}
+use Rattle.lexer.specs.Tokens.{Span}
 use Rattle.language.specs.Lines.{Line, readLines}
 use Rattle.language.specs.Assembly.{diagnostics}
 use Rattle.language.specs.Infer.{machineOf}

@@ -1,26 +1,26 @@
 -- A machine that was read can be written: its plain form has tokens, lines and no diagnostic, and characters of the set.
-use Prim.Native.Nat.{ℕ, zero, suc, _+_, _/_, _%_, _≤_, _<_}
+use Prim.Native.Nat.{ℕ, _+_, _≤_, _<_}
 use Prim.Native.Char.{code}
 use Prim.Native.String as S
-use mathlib.Core.Bool.{Bool, true, false, _&&_, _||_, not, true≢false, false≢true}
+use mathlib.Core.Bool.{Bool, true, false, _&&_, _||_, false≢true}
 use mathlib.Core.List.{List, [], _∷_, _++_, map}
 use mathlib.Core.Option.{Option, none, some}
-use mathlib.Core.Path.{_≡_, refl, ap, _∙_, sym, subst}
+use mathlib.Core.Path.{_≡_, refl, sym, subst}
 use native.Mathlib.Omega.{arith}
 use borrow.Author.Tests.{leb-true}
 use lib.Dec.{eqb, leb}
 use lib.ListN.{length}
 use Rattle.lexer.specs.Text.{same, codes}
-use Rattle.language.specs.Machine.{Kind, acceptor, transducer, enumerator, beaver, BitOrder, lsb, msb, Decoder, asWord, asUnary, asBinary, Dir, left, right, stay}
-use Rattle.language.specs.Content.{StateContent, ActionContent, RuleContent, Content}
-use Rattle.language.specs.Lines.{RawSymbol, rawBlank, glyph, RawDecoder, rawWord, rawUnary, rawBinary}
+use Rattle.language.specs.Machine.{Kind, acceptor, transducer, enumerator, beaver, lsb, msb, Decoder, asWord, asUnary, asBinary, Dir, left, right, stay}
+use Rattle.language.specs.Content.{StateContent, RuleContent, Content}
+use Rattle.language.specs.Lines.{RawSymbol, RawDecoder, rawWord, rawUnary, rawBinary}
 use Rattle.language.specs.Assembly.{orElse, resolve, ofOption}
 use Rattle.language.specs.Infer.{isSome, member, fresh, nothing, resolveDecoder}
-use Rattle.language.specs.Plain.{Piece, _⨾_, say, verbatim, end, only, each, commas, symbol, dirCode, direction, escaped, inString, escapedText, string, decimal, comment, commentLine, ownComment, kindName, decoder, nameSet, symbolSet, finalNames, rule, ruleLines, pieces, plain}
-use Rattle.language.proofs.Every.{byTest, and-left, and-right, Every, All, Maybe, Filled, every-append, every-map, every-impl}
+use Rattle.language.specs.Plain.{Piece, _⨾_, say, verbatim, end, only, each, commas, symbol, direction, escaped, inString, escapedText, string, decimal, comment, commentLine, ownComment, kindName, decoder, nameSet, symbolSet, finalNames, rule, ruleLines, pieces, plain}
+use Rattle.language.proofs.Every.{byTest, and-left, and-right, Every, Maybe, every-append, every-map, every-impl}
 use Rattle.language.proofs.PlainLex.{IsWord, IsSymbol, IsComment}
 use Rattle.language.proofs.Decimal.{digits, decimal-digits, below, at-below}
-use Rattle.language.proofs.PlainRows.{IsDecoder, IsAction, IsRule, Written}
+use Rattle.language.proofs.PlainRows.{IsDecoder, IsAction, IsRule, Written, finals-every, names-every}
 use Rattle.language.proofs.PlainParse.{NotBlank, Parsed, Parsable}
 use Rattle.language.proofs.PlainAssembly.{Assembles}
 use Rattle.language.proofs.LexSound.{fine, Fine, AllFine}
@@ -350,13 +350,8 @@ fine-rules : (r : RuleContent) → GoodRule r → FinePiece (ruleLines r)
 unfolding ruleLines
 fine-rules r h = fine-each GoodComment commentLine fine-line (r .leading) (h .rule-leads) then fine-rule r h then fine-own (r .comment) (h .rule-own) then fine-end
 
-state-fine : (l : List StateContent) → Every (λ s. GoodName (s .name)) l → Every AllFine (map (λ s. s .name) l)
-state-fine l h = every-map (λ s. GoodName (s .name)) AllFine (λ s. s .name) (λ s g. g .name-fine) l h
-
-finals-fine : (l : List StateContent) → Every (λ s. GoodName (s .name)) l → Every AllFine (finalNames l)
-unfolding finalNames
-finals-fine [] h = tt
-finals-fine (s ∷ l) h = byTest (s .final) (λ e. rw (e, finalNames) (h .0 .name-fine, finals-fine l (h .1))) (λ e. rw (e, finalNames) (finals-fine l (h .1)))
+name-fines : (l : List StateContent) → Every (λ s. GoodName (s .name)) l → Every (λ s. AllFine (s .name)) l
+name-fines l h = every-impl (λ s. GoodName (s .name)) (λ s. AllFine (s .name)) (λ s g. g .name-fine) l h
 
 fine-pieces : (m : Content) → GoodContent m → FinePiece (pieces m)
 unfolding pieces allFine
@@ -367,12 +362,12 @@ fine-pieces m g =
     then fine-say "input " refl then fine-string (m .input) (g .c-input) then fine-end
     then fine-say "output " refl then fine-decoder (m .output) (g .c-output) then fine-end
     then fine-say "tapes = " refl then fine-decimal (m .tapes) (g .c-tapes) then fine-end
-    then fine-only (m .declared .states) _ (λ e. fine-say "Q = " refl then fine-names (map (λ s. s .name) (m .states)) (state-fine (m .states) (g .c-states)) then fine-end)
+    then fine-only (m .declared .states) _ (λ e. fine-say "Q = " refl then fine-names (map (λ s. s .name) (m .states)) (names-every AllFine (m .states) (name-fines (m .states) (g .c-states))) then fine-end)
     then fine-only (m .declared .inputAlphabet) _ (λ e. fine-say "Σ = " refl then fine-symbols (m .sigma) (g .c-sigma e) then fine-end)
     then fine-only (m .declared .tapeAlphabet) _ (λ e. fine-say "Γ = " refl then fine-symbols (m .gamma) (g .c-gamma e) then fine-end)
     then fine-only (m .declared .blank) _ (λ e. fine-say "blank = " refl then fine-symbol (m .blank) (g .c-blank .1) then fine-end)
     then fine-only (m .declared .start) _ (λ e. fine-say "start = " refl then fine-verbatim (m .start) (g .c-start e .name-fine) then fine-end)
-    then fine-say "F = " refl then fine-names (finalNames (m .states)) (finals-fine (m .states) (g .c-states)) then fine-end
+    then fine-say "F = " refl then fine-names (finalNames (m .states)) (finals-every AllFine (m .states) (name-fines (m .states) (g .c-states))) then fine-end
     then fine-each GoodRule ruleLines fine-rules (m .rules) (g .c-rules)
     then fine-each GoodComment commentLine fine-line (m .trailing) (g .c-trailing)
 

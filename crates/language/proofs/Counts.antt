@@ -8,7 +8,7 @@ use mathlib.Core.Path.{_≡_, refl, ap, ap₂, _∙_, sym}
 use borrow.Author.Tests.{eqb-true}
 use lib.Dec.{eqb}
 use lib.ListN.{length, length-append, length-map}
-use Rattle.lexer.specs.declared.Span.{Span}
+use Rattle.lexer.specs.Tokens.{Span}
 use Rattle.language.specs.Machine.{Located, Dir, Action, Rule, State, Symbol, Machine}
 use Rattle.language.specs.Lines.{RawSymbol}
 use Rattle.language.specs.Assembly.{RuleLine, combinations, Verdict, expands, wrongArity, tooMany, verdict, kept, eachFront, choices, actions, ruleOf, dressed, expand, expandAll}

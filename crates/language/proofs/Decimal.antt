@@ -1,10 +1,10 @@
 -- The number of tapes in decimal: its digits are one number token. The facts about 0 to 255 are one computed test.
-use Prim.Native.Nat.{ℕ, zero, suc, _+_, _-_, _*_, _/_, _%_, _≤_, _<_}
-use mathlib.Core.Bool.{Bool, true, false, _&&_, false≢true}
+use Prim.Native.Nat.{ℕ, zero, suc, _+_, _-_, _/_, _%_, _<_}
+use mathlib.Core.Bool.{Bool, true, false, _&&_, not, false≢true}
 use mathlib.Core.List.{List, [], _∷_, _++_, append-assoc}
 use mathlib.Core.Path.{_≡_, refl, ap, _∙_, sym}
 use native.Mathlib.Omega.{arith}
-use borrow.Author.Tests.{eqb-true, eqb-false}
+use borrow.Author.Tests.{eqb-true, eqb-false, not-true}
 use lib.Dec.{ltb, eqb}
 use lib.ListN.{length}
 use lib.Seq.{drop-append-seam}
@@ -12,10 +12,10 @@ use Rattle.chars.specs.Utf8.{size, sizes}
 use Rattle.chars.specs.Class.{classOf}
 use Rattle.chars.specs.declared.Class.{Class}
 use Rattle.chars.specs.declared.Class.the-variants.{Letter, Digit, Space, Sign, Other}
-use Rattle.lexer.specs.Tokens.{TokenKind, number, tok, isDigit, isAsciiDigit, run, numberStep, step}
+use Rattle.lexer.specs.Tokens.{number, tok, isDigit, isAsciiDigit, numberStep, step}
 use Rattle.lexer.specs.Words.{value}
 use Rattle.language.specs.Plain.{decimalFrom, decimal}
-use Rattle.language.proofs.Every.{byTest, and-left, and-right, Every, All}
+use Rattle.language.proofs.Every.{byTest, and-left, and-right, All}
 use Rattle.language.proofs.TokenKinds.{kinds, front}
 use Rattle.language.proofs.PlainLex.{run-all}
 
@@ -84,10 +84,16 @@ unfolding allDigits
 someDigits [] = false
 someDigits (d ∷ l) = allDigits (d ∷ l)
 
--- n is written in digits, and they give n back
+-- a zero in front of another digit
+unfoldable pub needless : List ℕ → Bool
+needless [] = false
+needless (d ∷ []) = false
+needless (d ∷ e ∷ l) = eqb d 0x30
+
+-- n is written in digits, they give n back, and none is needless
 right : ℕ → Bool
-unfolding digits value someDigits
-right n = eqb (value (digits n)) n && someDigits (digits n)
+unfolding digits value someDigits needless
+right n = eqb (value (digits n)) n && (someDigits (digits n) && not (needless (digits n)))
 
 -- a test holds of each number below k
 unfoldable pub below : (ℕ → Bool) → ℕ → Bool
@@ -105,9 +111,15 @@ at-below p (suc k) e n h = byTest (eqb n k)
     (λ t. ap p (eqb-true n k t) ∙ and-left (p k) (below p k) e)
     (λ t. let ne : n ≡ k → ⊥ = eqb-false n k t in at-below p k (and-right (p k) (below p k) e) n (omega arith))
 
-pub value-digits : (n : ℕ) → n < 256 → value (digits n) ≡ n
+at-right : (n : ℕ) → n < 256 → (eqb (value (digits n)) n && (someDigits (digits n) && not (needless (digits n)))) ≡ true
 unfolding right
-value-digits n h = eqb-true (value (digits n)) n (and-left (eqb (value (digits n)) n) (someDigits (digits n)) (at-below right 256 all-right n h))
+at-right n h = at-below right 256 all-right n h
+
+pub value-digits : (n : ℕ) → n < 256 → value (digits n) ≡ n
+value-digits n h = eqb-true (value (digits n)) n (and-left (eqb (value (digits n)) n) _ (at-right n h))
+
+pub no-needless : (n : ℕ) → n < 256 → needless (digits n) ≡ false
+no-needless n h = not-true (needless (digits n)) (and-right (someDigits (digits n)) (not (needless (digits n))) (and-right (eqb (value (digits n)) n) _ (at-right n h)))
 
 all-of : (l : List ℕ) → allDigits l ≡ true → All isAsciiDigit l
 unfolding allDigits
@@ -120,5 +132,4 @@ some-of [] e = absurd (false≢true e)
 some-of (d ∷ l) e = all-of (d ∷ l) e
 
 pub digits-number : (n : ℕ) → n < 256 → IsNumber (digits n)
-unfolding right
-digits-number n h = some-of (digits n) (and-right (eqb (value (digits n)) n) (someDigits (digits n)) (at-below right 256 all-right n h))
+digits-number n h = some-of (digits n) (and-left (someDigits (digits n)) (not (needless (digits n))) (and-right (eqb (value (digits n)) n) _ (at-right n h)))

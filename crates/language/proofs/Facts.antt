@@ -6,12 +6,12 @@ use mathlib.Core.Option.{Option, none, some}
 use mathlib.Core.Path.{_≡_, refl, ap, ap₂, _∙_, sym}
 use lib.Dec.{eqb, leb}
 use Rattle.lexer.specs.Text.{same}
-use Rattle.language.specs.Machine.{Located, Kind, transducer, Decoder, State, Action, Rule, Symbol, Declared, Machine}
-use Rattle.language.specs.Content.{StateContent, ActionContent, RuleContent, Content, valueOr, optional, values, ruleContent, contentOf}
+use Rattle.language.specs.Machine.{Located, Kind, transducer, Action, Rule, Symbol}
+use Rattle.language.specs.Content.{StateContent, ActionContent, RuleContent, Content, valueOr, values, ruleContent, contentOf}
 use Rattle.language.specs.Lines.{RawSymbol, rawBlank, RawDecoder, rawWord, Item, Line}
 use Rattle.language.specs.Assembly.{Body, items, first, found, orElse, resolve, blankOf, statesIn, finalsIn, ofOption, bodyOf, kept, expandAll}
 use Rattle.language.specs.Infer.{isSome, sameName, member, fresh, nothing, mentions, inferStates, marked, head, inferred, listed, used, candidates, withBlank, inferGamma, less, inferSigma, resolveDecoder, tapesOf, between, machineOf}
-use Rattle.language.proofs.Every.{byTest, map-ext}
+use Rattle.language.proofs.Every.{byTest}
 
 abbrev pub mapOption : {A B : Type 0} → (A → B) → Option A → Option B
 mapOption g none = none

@@ -1,18 +1,18 @@
 -- Inferring again changes nothing: the content of what a plain form says is the content that was written.
-use Prim.Native.Nat.{ℕ, zero, suc}
-use mathlib.Core.Bool.{Bool, true, false, _&&_, _||_, not, true≢false, false≢true}
+use Prim.Native.Nat.{ℕ}
+use mathlib.Core.Bool.{Bool, true, false, _&&_, _||_, not, false≢true}
 use mathlib.Core.List.{List, [], _∷_, _++_, map}
 use mathlib.Core.Option.{Option, none, some}
-use mathlib.Core.Path.{_≡_, refl, ap, ap₂, _∙_, sym, subst, fun-ext}
+use mathlib.Core.Path.{_≡_, refl, ap, ap₂, _∙_, sym, fun-ext}
 use borrow.Author.Tests.{eqb-true, eq-eqb}
 use lib.Dec.{eqb, leb}
 use Rattle.lexer.specs.Text.{same}
-use Rattle.language.specs.Machine.{Decoder, asWord, asUnary, asBinary, Declared}
+use Rattle.language.specs.Machine.{Decoder, asWord, asUnary, asBinary}
 use Rattle.language.specs.Content.{StateContent, RuleContent, Content}
 use Rattle.language.specs.Parser.{when}
-use Rattle.language.specs.Lines.{RawSymbol, rawBlank, glyph, RawDecoder}
+use Rattle.language.specs.Lines.{RawSymbol, glyph}
 use Rattle.language.specs.Assembly.{orElse, resolve, ofOption}
-use Rattle.language.specs.Infer.{isSome, member, fresh, nothing, less, resolveDecoder}
+use Rattle.language.specs.Infer.{isSome, member, fresh, nothing, resolveDecoder}
 use Rattle.language.specs.Plain.{finalNames}
 use Rattle.language.proofs.Every.{byTest, or-left, or-right, Every, All, every-impl}
 use Rattle.language.proofs.PlainParse.{rawDecoder}

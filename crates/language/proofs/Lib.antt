@@ -24,3 +24,5 @@ pub mod TokenPlaces
 pub mod AnswerBack
 pub mod Entries
 pub mod Claim
+pub mod FirstUse
+pub mod LineUses

@@ -3,13 +3,12 @@ use Prim.Native.Nat.{ℕ, zero, suc}
 use mathlib.Core.Bool.{Bool, true, false}
 use mathlib.Core.List.{List, [], _∷_, map, map-map}
 use mathlib.Core.Option.{Option, none, some}
-use mathlib.Core.Path.{_≡_, refl, ap, ap₂, _∙_, sym}
+use mathlib.Core.Path.{_≡_, refl, ap, _∙_, sym}
 use lib.ListN.{length, length-map}
-use Rattle.lexer.specs.declared.Span.{Span}
 use Rattle.lexer.specs.Tokens.{TokenKind, Token, tokens}
-use Rattle.language.specs.Machine.{Located, Kind, Dir}
+use Rattle.language.specs.Machine.{Located}
 use Rattle.language.specs.Parser.{Result, ok, fail, Parser, then, _>>=_, give, unexpected, isSign, goesOn, taken, branch, goOn, one, expect, opened, atMost, entries, single, tuple, set}
-use Rattle.language.specs.Lines.{RawSymbol, RawDecoder, rawWord, rawUnary, rawBinary, RawTransition, Text, Item, machineItem, inputItem, kindItem, outputItem, tapesItem, statesItem, finalItem, inputAlphabetItem, tapeAlphabetItem, blankItem, startItem, transitionItem, Line, blankLine, commentLine, itemLine, errorLine, stateIn, symbolIn, writeIn, directionIn, notDirection, stringIn, numberIn, wordIn, Keyword, machineWord, kindWord, inputWord, outputWord, tapesWord, statesWord, sigmaWord, gammaWord, blankWord, startWord, finalWord, deltaWord, keywords, kinds, OutputWord, wordOutput, unaryOutput, binaryOutput, outputs, orders, stringTaken, string, numeral, choice, state, symbol, direction, readEntry, writeEntry, transition, output, itemOf, item, Row, Ending, lineFeed, goesBy, remark, endingOf, inFront, rows, lastPlace, finished, emptyLine, lineFrom, lineOf, lines, covering, readLines}
+use Rattle.language.specs.Lines.{RawTransition, Text, Item, machineItem, inputItem, kindItem, outputItem, tapesItem, statesItem, finalItem, inputAlphabetItem, tapeAlphabetItem, blankItem, startItem, transitionItem, Line, blankLine, commentLine, itemLine, errorLine, stateIn, symbolIn, writeIn, directionIn, notDirection, stringIn, numberIn, wordIn, Keyword, machineWord, kindWord, inputWord, outputWord, tapesWord, statesWord, sigmaWord, gammaWord, blankWord, startWord, finalWord, deltaWord, keywords, kinds, OutputWord, wordOutput, unaryOutput, binaryOutput, outputs, orders, stringTaken, string, numeral, choice, state, symbol, direction, readEntry, writeEntry, transition, output, itemOf, item, Row, Ending, lineFeed, goesBy, remark, endingOf, inFront, rows, finished, emptyLine, lineFrom, lineOf, lines, covering, readLines}
 use Rattle.language.proofs.Every.{map-ext}
 use Rattle.language.proofs.Facts.{mapOption}
 use Rattle.language.proofs.TokenKinds as TokenKinds

@@ -1,25 +1,24 @@
 -- The lines of a plain form say what was written, and give no diagnostic.
-use Prim.Native.Nat.{ℕ, zero, suc, _+_, _*_, _≤_, _<_}
-use mathlib.Core.Bool.{Bool, true, false, _&&_, _||_, not, false≢true}
+use Prim.Native.Nat.{ℕ, suc, _+_, _*_, _≤_, _<_}
+use mathlib.Core.Bool.{Bool, true, false, _||_, false≢true}
 use mathlib.Core.List.{List, [], _∷_, _++_, map, map-map, append-nil, append-assoc}
 use mathlib.Core.Option.{Option, none, some}
 use mathlib.Core.Path.{_≡_, refl, ap, ap₂, _∙_, sym, subst}
 use native.Mathlib.Omega.{arith}
-use borrow.Author.Tests.{eq-eqb, ne-eqb, le-leb, eqb-true}
-use lib.Dec.{eqb, leb}
+use borrow.Author.Tests.{eq-eqb, ne-eqb, le-leb}
 use lib.ListN.{length, length-map}
 use Rattle.lexer.specs.Text.{same}
-use Rattle.language.specs.Machine.{Located, Kind, Decoder, Dir, Action, Rule}
-use Rattle.language.specs.Content.{StateContent, ActionContent, RuleContent, Content, optional, values, ruleContent}
+use Rattle.language.specs.Machine.{Located}
+use Rattle.language.specs.Content.{ActionContent, RuleContent, Content, optional, values, ruleContent}
 use Rattle.language.specs.Parser.{when}
-use Rattle.language.specs.Lines.{RawSymbol, glyph, RawTransition, Item, machineItem, inputItem, kindItem, outputItem, tapesItem, statesItem, finalItem, inputAlphabetItem, tapeAlphabetItem, blankItem, startItem, transitionItem, Line, blankLine, commentLine, itemLine}
+use Rattle.language.specs.Lines.{glyph, RawTransition, Item, machineItem, inputItem, kindItem, outputItem, tapesItem, statesItem, finalItem, inputAlphabetItem, tapeAlphabetItem, blankItem, startItem, transitionItem, Line, blankLine}
 use Rattle.language.specs.Assembly as A
-use Rattle.language.specs.Assembly.{Parts, parts, items, first, found, orElse, resolve, blankOf, statesIn, finalsIn, RuleLine, Body, addHeader, addRule, atEnd, attachItem, attach, bodyOf, combinations, Verdict, expands, verdict, kept, eachFront, choices, actions, ruleOf, dressed, expand, expandAll, Diagnostic, lineErrors, isNumber, declaredAt, earlier, tapesError, declarationError, declarationErrors, listedAt, unknownError, finalError, finalErrors, ruleErrors, diagnosticsOf}
-use Rattle.language.specs.Infer.{isSome, member, fresh, nothing}
+use Rattle.language.specs.Assembly.{Parts, parts, items, first, found, orElse, blankOf, statesIn, finalsIn, RuleLine, Body, addHeader, addRule, attach, bodyOf, combinations, expands, verdict, kept, choices, actions, ruleOf, dressed, expand, expandAll, lineErrors, isNumber, declaredAt, tapesError, declarationError, declarationErrors, listedAt, unknownError, finalError, finalErrors, ruleErrors, diagnosticsOf}
+use Rattle.language.specs.Infer.{member, fresh, nothing}
 use Rattle.language.specs.Plain.{finalNames}
-use Rattle.language.proofs.Every.{byTest, or-left, or-right, and-both, Every, All, every-impl, every-append}
+use Rattle.language.proofs.Every.{byTest, or-left, or-right, and-both, Every, every-impl, every-append}
 use Rattle.language.proofs.PlainParse.{U, loc, maybeLoc, text, declaration, onlyLine, rawDecoder, rawOf, ruleLine, commentLines, ruleLines, plainLines}
-use Rattle.language.proofs.Facts.{Facts, mapOption, markedC, namesC, contentFrom, factsFrom, factsOf, map-append}
+use Rattle.language.proofs.Facts.{mapOption, markedC, factsFrom, factsOf, map-append}
 use Rattle.language.proofs.InferAgain.{plainFacts, keep, finals-keep, names-marked, same-refl, same-eq, member-self}
 
 -- ---- items

@@ -1,10 +1,9 @@
 -- The tokens of a plain form: each piece gives its tokens, followed by those of what follows it.
-use Prim.Native.Nat.{ℕ, zero, suc, _+_, _≤_, _<_}
-use mathlib.Core.Bool.{Bool, true, false, _&&_, _||_, not, false≢true}
-use mathlib.Core.List.{List, [], _∷_, _++_, map}
+use Prim.Native.Nat.{ℕ, zero, suc, _+_}
+use mathlib.Core.Bool.{Bool, true, false, not, false≢true}
+use mathlib.Core.List.{List, [], _∷_, _++_}
 use mathlib.Core.Option.{Option, none, some}
 use mathlib.Core.Path.{_≡_, refl, ap, ap₂, _∙_, sym, subst}
-use native.Mathlib.Omega.{arith}
 use borrow.Author.Tests.{eqb-true, not-true}
 use lib.Dec.{eqb}
 use lib.ListN.{length, take, drop}
@@ -13,13 +12,12 @@ use Rattle.chars.specs.Utf8.{size, sizes}
 use Rattle.chars.specs.Class.{classOf}
 use Rattle.chars.specs.declared.Class.{Class}
 use Rattle.chars.specs.declared.Class.the-variants.{Letter, Digit, Space, Sign, Other}
-use Rattle.lexer.specs.Text.{codes}
 use Rattle.lexer.specs.Tokens as T
-use Rattle.lexer.specs.Tokens.{TokenKind, word, number, quoted, str, sign, newline, Step, gap, tok, isLetter, isWordStart, isWordContinue, isAsciiDigit, isWhitespace, run, line, trimCons, trimEnd, commentText, indent, escape, Inner, ends, breaks, escapes, stands, innerOf, Inside, closed, unclosed, put, pass, inside, wordStep, numberStep, stringStep, quotedStep, slashStep, otherStep, step}
+use Rattle.lexer.specs.Tokens.{TokenKind, word, quoted, str, sign, newline, tok, isLetter, isWordStart, isWordContinue, run, line, trimCons, trimEnd, commentText, indent, escape, ends, stands, innerOf, closed, put, pass, inside, wordStep, stringStep, quotedStep, step}
 use Rattle.language.specs.Machine.{Dir, left, right, stay}
-use Rattle.language.specs.Plain.{Piece, say, verbatim, end, commas, symbol, dirCode, direction, escaped, inString, escapedText, string, comment, ownComment}
+use Rattle.language.specs.Plain.{Piece, say, verbatim, end, commas, symbol, dirCode, direction, escaped, escapedText, string, comment, ownComment}
 use Rattle.language.proofs.Every.{byTest, or-else, Every, All, Maybe}
-use Rattle.language.proofs.TokenKinds.{kinds, kindsFrom, emitKind, skip, front}
+use Rattle.language.proofs.TokenKinds.{kinds, front}
 
 -- ---- words
 

@@ -1,26 +1,26 @@
 -- Each row of a plain form parses to the line that it was written for, places left out.
 use Prim.Native.Nat.{ℕ, zero, suc, _+_, _≤_, _<_, min}
-use mathlib.Core.Bool.{Bool, true, false, not}
+use mathlib.Core.Bool.{Bool, true, false}
 use mathlib.Core.List.{List, [], _∷_, _++_, map}
 use mathlib.Core.Option.{Option, none, some}
-use mathlib.Core.Path.{_≡_, refl, ap, ap₂, _∙_, sym}
+use mathlib.Core.Path.{_≡_, refl, ap, ap₂, _∙_}
 use native.Mathlib.Omega.{arith}
 use native.Mathlib.Nat.{min-eq-left}
 use lib.ListN.{length, length-map}
 use Rattle.lexer.specs.Text.{codes, same}
 use Rattle.lexer.specs.Tokens as T
-use Rattle.lexer.specs.Tokens.{TokenKind, word, number, quoted, str, sign, newline, Token}
+use Rattle.lexer.specs.Tokens.{TokenKind, word, quoted, sign, newline, Token}
 use Rattle.lexer.specs.Words.{value}
-use Rattle.language.specs.Machine.{Located, Kind, acceptor, transducer, enumerator, beaver, BitOrder, lsb, msb, Decoder, asWord, asUnary, asBinary, Dir, left, right, stay}
-use Rattle.language.specs.Content.{StateContent, ActionContent, RuleContent, Content}
-use Rattle.language.specs.Parser.{Result, ok, fail, Parser, then, _>>=_, give, isSign, goesOn, branch, one, expect, opened, atMost, entries, tuple, set}
-use Rattle.language.specs.Lines.{RawSymbol, glyph, RawDecoder, rawWord, rawUnary, rawBinary, RawTransition, Item, machineItem, inputItem, kindItem, outputItem, tapesItem, statesItem, finalItem, inputAlphabetItem, tapeAlphabetItem, blankItem, startItem, transitionItem, Line, blankLine, commentLine, itemLine, stateIn, numberIn, string, numeral, state, symbol, direction, readEntry, writeEntry, transition, output, itemOf, item, Ending, lineFeed, goesBy, remark, endingOf, inFront, rows, finished, emptyLine, lineFrom, lineOf, lines}
+use Rattle.language.specs.Machine.{Located, Kind, acceptor, transducer, enumerator, beaver, lsb, msb, Decoder, asWord, asUnary, asBinary, Dir, left, right, stay}
+use Rattle.language.specs.Content.{RuleContent, Content}
+use Rattle.language.specs.Parser.{Result, ok, Parser, then, give, isSign, goesOn, branch, one, atMost, entries, tuple, set}
+use Rattle.language.specs.Lines.{glyph, RawDecoder, rawWord, rawUnary, rawBinary, RawTransition, Item, machineItem, inputItem, kindItem, outputItem, tapesItem, statesItem, finalItem, inputAlphabetItem, tapeAlphabetItem, blankItem, startItem, transitionItem, Line, blankLine, commentLine, itemLine, stateIn, state, symbol, direction, readEntry, writeEntry, transition, output, goesBy, endingOf, inFront, rows, finished, lineFrom, lineOf, lines}
 use Rattle.language.specs.Lines as L
-use Rattle.language.specs.Plain.{kindName, finalNames, plain}
-use Rattle.language.proofs.Every.{byTest, Every, All, Maybe, Filled, every-any}
+use Rattle.language.specs.Plain.{finalNames, plain}
+use Rattle.language.proofs.Every.{Every, Filled, every-any}
 use Rattle.language.proofs.PlainLex.{commasT, dirKind, ownT}
-use Rattle.language.proofs.Decimal.{digits, value-digits}
-use Rattle.language.proofs.PlainRows.{Row, row, commentRow, flatRows, onlyRow, commentRows, machineRow, kindRow, inputRow, outputRow, tapesRow, blankRow, startRow, setRow, actionRead, actionWrite, actionDir, ruleT, ruleRow, ruleRows, plainRows, Written, Lexes, plain-lexes}
+use Rattle.language.proofs.Decimal.{value-digits}
+use Rattle.language.proofs.PlainRows.{Row, row, commentRow, flatRows, onlyRow, commentRows, machineRow, kindRow, inputRow, outputRow, tapesRow, blankRow, startRow, setRow, actionRead, actionWrite, actionDir, ruleT, ruleRow, ruleRows, plainRows, Written, plain-lexes, finals-every, names-every}
 use Rattle.language.proofs.TokenKinds.{kinds}
 
 -- ---- without places
@@ -379,26 +379,17 @@ pub record Parsable (m : Content) : Type 0 where
   pub start-name : m .declared .start ≡ true → NotBlank (m .start)
   pub rules-parsed : Every Parsed (m .rules)
 
-all-names : (l : List StateContent) → Every (λ s. NotBlank (s .name)) l → Every NotBlank (map (λ s. s .name) l)
-all-names [] g = tt
-all-names (s ∷ l) g = (g .0, all-names l (g .1))
-
-all-finals : (l : List StateContent) → Every (λ s. NotBlank (s .name)) l → Every NotBlank (finalNames l)
-unfolding finalNames
-all-finals [] g = tt
-all-finals (s ∷ l) g = byTest (s .final) (λ e. rw (e, finalNames) (g .0, all-finals l (g .1))) (λ e. rw (e, finalNames) (all-finals l (g .1)))
-
 pub plain-parses : (m : Content) → Parsable m → Parses (plainRows m) (plainLines m)
 unfolding plainRows plainLines
 plain-parses m g =
     let end = comments-parses last (m .trailing) in
     let rules = rules-parses end (m .rules) (g .rules-parsed) in
-    let finals = finals-parses rules (finalNames (m .states)) (all-finals (m .states) (g .state-names)) in
+    let finals = finals-parses rules (finalNames (m .states)) (finals-every NotBlank (m .states) (g .state-names)) in
     let start = only-parses finals (m .declared .start) _ _ (λ e. start-parses finals (m .start) (g .start-name e)) in
     let blank = only-parses start (m .declared .blank) _ _ (λ e. blank-parses start (m .blank)) in
     let gamma = only-parses blank (m .declared .tapeAlphabet) _ _ (λ e. gamma-parses blank (m .gamma)) in
     let sigma = only-parses gamma (m .declared .inputAlphabet) _ _ (λ e. sigma-parses gamma (m .sigma)) in
-    let states = only-parses sigma (m .declared .states) _ _ (λ e. states-parses sigma (map (λ s. s .name) (m .states)) (all-names (m .states) (g .state-names))) in
+    let states = only-parses sigma (m .declared .states) _ _ (λ e. states-parses sigma (map (λ s. s .name) (m .states)) (names-every NotBlank (m .states) (g .state-names))) in
     comments-parses (machine-parses (kind-parses (input-parses (output-parses (tapes-parses states (m .tapes) (g .tapes-small)) (m .output)) (m .input)) (m .kind)) (m .name)) (m .header)
 
 -- reading a plain form gives its lines

@@ -1,18 +1,17 @@
 -- The tokens of a plain form are its rows, line by line: no piece runs into its neighbour.
-use Prim.Native.Nat.{ℕ, zero, suc, _+_, _≤_, _<_}
-use Prim.Native.String.{String}
-use mathlib.Core.Bool.{Bool, true, false, not}
+use Prim.Native.Nat.{ℕ, _+_, _<_}
+use mathlib.Core.Bool.{Bool, true, false}
 use mathlib.Core.List.{List, [], _∷_, _++_, map}
 use mathlib.Core.Option.{Option, none, some}
-use mathlib.Core.Path.{_≡_, refl, ap, _∙_, sym}
+use mathlib.Core.Path.{_≡_, refl, ap, _∙_}
 use Rattle.lexer.specs.Text.{codes}
 use Rattle.lexer.specs.Tokens as T
 use Rattle.lexer.specs.Tokens.{TokenKind, word, number, quoted, str, sign, newline, isWordContinue, isAsciiDigit}
-use Rattle.language.specs.Machine.{Kind, acceptor, transducer, enumerator, beaver, BitOrder, lsb, msb, Decoder, asWord, asUnary, asBinary, Dir, left, right, stay}
+use Rattle.language.specs.Machine.{Kind, acceptor, transducer, enumerator, beaver, lsb, msb, Decoder, asWord, asUnary, asBinary}
 use Rattle.language.specs.Content.{StateContent, ActionContent, RuleContent, Content}
-use Rattle.language.specs.Plain.{Piece, _⨾_, nothing, say, verbatim, end, only, each, commas, symbol, direction, string, decimal, comment, commentLine, ownComment, kindName, decoder, nameSet, symbolSet, finalNames, rule, ruleLines, pieces, plain}
-use Rattle.language.proofs.Every.{byTest, Every, All, Maybe, Filled, every-any}
-use Rattle.language.proofs.TokenKinds.{kinds, kindsFrom}
+use Rattle.language.specs.Plain.{Piece, _⨾_, say, verbatim, end, only, each, commas, symbol, direction, string, decimal, comment, commentLine, ownComment, kindName, decoder, nameSet, symbolSet, finalNames, rule, ruleLines, pieces, plain}
+use Rattle.language.proofs.Every.{byTest, Every, Maybe, every-map}
+use Rattle.language.proofs.TokenKinds.{kinds}
 use Rattle.language.proofs.PlainLex.{IsWord, IsSymbol, IsComment, Prints, word-kinds, symbol-kinds, commasT, dirKind, commas-kinds, name-prints, symbol-prints, dir-prints, comment-kinds, ownT, own-kinds, string-kinds}
 use Rattle.language.proofs.Decimal.{digits, decimal-digits, number-kinds, digits-number}
 
@@ -278,14 +277,14 @@ pub record Written (m : Content) : Type 0 where
   pub start-word : m .declared .start ≡ true → IsWord (m .start)
   pub rules-written : Every IsRule (m .rules)
 
-names : (l : List StateContent) → Every (λ s. IsWord (s .name)) l → Every IsWord (map (λ s. s .name) l)
-names [] g = tt
-names (s ∷ l) g = (g .0, names l (g .1))
-
-finals : (l : List StateContent) → Every (λ s. IsWord (s .name)) l → Every IsWord (finalNames l)
+-- what holds of every state's name holds of the names of the final ones
+pub finals-every : (p : List ℕ → Type 0) (l : List StateContent) → Every (λ s. p (s .name)) l → Every p (finalNames l)
 unfolding finalNames
-finals [] g = tt
-finals (s ∷ l) g = byTest (s .final) (λ e. rw (e, finalNames) (g .0, finals l (g .1))) (λ e. rw (e, finalNames) (finals l (g .1)))
+finals-every p [] g = tt
+finals-every p (s ∷ l) g = byTest (s .final) (λ e. rw (e, finalNames) (g .0, finals-every p l (g .1))) (λ e. rw (e, finalNames) (finals-every p l (g .1)))
+
+pub names-every : (p : List ℕ → Type 0) (l : List StateContent) → Every (λ s. p (s .name)) l → Every p (map (λ s. s .name) l)
+names-every p l g = every-map (λ s. p (s .name)) p (λ s. s .name) (λ s h. h) l g
 
 nothing-lexes : Lexes [] []
 unfolding flatRows kinds
@@ -296,12 +295,12 @@ unfolding plain pieces plainRows
 plain-lexes m g =
     let end = comments-lexes nothing-lexes (m .trailing) (g .trailing-comments) in
     let rules = rules-lexes end (m .rules) (g .rules-written) in
-    let finals = finals-lexes rules (finalNames (m .states)) (finals (m .states) (g .state-words)) in
+    let finals = finals-lexes rules (finalNames (m .states)) (finals-every IsWord (m .states) (g .state-words)) in
     let start = only-lexes finals (m .declared .start) _ _ (λ e. start-lexes finals (m .start) (g .start-word e)) in
     let blank = only-lexes start (m .declared .blank) _ _ (λ e. blank-lexes start (m .blank) (g .blank-symbol)) in
     let gamma = only-lexes blank (m .declared .tapeAlphabet) _ _ (λ e. gamma-lexes blank (m .gamma) (g .gamma-symbols e)) in
     let sigma = only-lexes gamma (m .declared .inputAlphabet) _ _ (λ e. sigma-lexes gamma (m .sigma) (g .sigma-symbols e)) in
-    let states = only-lexes sigma (m .declared .states) _ _ (λ e. states-lexes sigma (map (λ s. s .name) (m .states)) (names (m .states) (g .state-words))) in
+    let states = only-lexes sigma (m .declared .states) _ _ (λ e. states-lexes sigma (map (λ s. s .name) (m .states)) (names-every IsWord (m .states) (g .state-words))) in
     comments-lexes
     (machine-lexes (kind-lexes (input-lexes (output-lexes (tapes-lexes states (m .tapes) (g .tapes-byte)) (m .output) (g .output-symbol)) (m .input)) (m .kind)) (m .name))
     (m .header)

@@ -7,8 +7,7 @@ use mathlib.Core.Path.{_≡_, refl, sym}
 use borrow.Author.Tests.{leb-true}
 use lib.Dec.{eqb, leb}
 use lib.ListN.{length}
-use Rattle.lexer.specs.declared.Span.{Span}
-use Rattle.lexer.specs.Tokens.{Token, tokens}
+use Rattle.lexer.specs.Tokens.{Token, Span, tokens}
 use Rattle.language.specs.Lines.{Line, stateIn, symbolIn, stringIn, Ending, lineFeed, goesBy, remark, endingOf, lines, covering, readLines}
 use Rattle.language.specs.Assembly.{items, blankOf, RuleLine, bodyOf, combinations, expands, wrongArity, tooMany, verdict, kept}
 use Rattle.language.specs.Infer.{machineOf}

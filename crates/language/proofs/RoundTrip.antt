@@ -1,6 +1,6 @@
 -- Demand 3 over the definitions: reading a plain form gives the machine that it was written for, so plain forms tell machines apart.
-use Prim.Native.Nat.{ℕ, zero, suc, _+_, _*_, _≤_, _<_}
-use mathlib.Core.Bool.{Bool, true, false, _&&_, _||_, true≢false, false≢true}
+use Prim.Native.Nat.{ℕ, _+_, _≤_, _<_}
+use mathlib.Core.Bool.{Bool, true, false, _&&_, false≢true}
 use mathlib.Core.List.{List, [], _∷_, map}
 use mathlib.Core.Logic.{_↔_}
 use mathlib.Core.Option.{Option, none, some}
@@ -10,24 +10,24 @@ use borrow.Author.Tests.{leb-true, le-ltb, lt-ltb}
 use lib.Dec.{ltb, leb}
 use lib.ListN.{length}
 use Rattle.chars.specs.Ranges.{within}
-use Rattle.chars.specs.Utf8.{scalar, scalars, size, decode, encode, validUpTo}
+use Rattle.chars.specs.Utf8.{scalars, size, decode, encode, validUpTo}
 use Rattle.chars.specs.Class as Class
 use Rattle.chars.specs.Class.{outsideFrom, firstOutside}
 use Rattle.chars.specs.declared.Outside.{Outside}
 use Rattle.chars.specs.declared.Outside.the-variants.{At, Nowhere}
 use Rattle.chars.proofs.Theorems.{decode-encode, encode-valid}
-use Rattle.lexer.specs.declared.Span.{Span}
+use Rattle.lexer.specs.Tokens.{Span}
 use Rattle.language.specs.Content.{Content, contentOf}
-use Rattle.language.specs.Lines.{Line, lines, readLines}
+use Rattle.language.specs.Lines.{lines, readLines}
 use Rattle.language.specs.Assembly.{Diagnostic, diagnosticsOf, sort, diagnostics}
 use Rattle.language.specs.Infer.{machineOf}
-use Rattle.language.specs.Outcome.{Refusal, textTooLong, workTooShort, invalidUtf8, outsideSet, maxBytes, workNeeded, refusalOf, admitted, formOf}
+use Rattle.language.specs.Outcome.{Refusal, textTooLong, workTooShort, invalidUtf8, outsideSet, maxBytes, workNeeded, admitted, formOf}
 use Rattle.language.specs.Plain.{plain}
-use Rattle.language.proofs.Every.{byTest, and-right, or-left, or-right, Every, All}
+use Rattle.language.proofs.Every.{byTest, and-right}
 use Rattle.language.proofs.TokenKinds.{kinds}
-use Rattle.language.proofs.PlainParse.{U, bare, nowhere, plainLines, plain-reads}
+use Rattle.language.proofs.PlainParse.{bare, nowhere, plainLines, plain-reads}
 use Rattle.language.proofs.Facts.{Facts, contentFrom, factsOf, content-facts}
-use Rattle.language.proofs.InferAgain.{plainFacts, infer-again}
+use Rattle.language.proofs.InferAgain.{infer-again}
 use Rattle.language.proofs.PlainAssembly.{facts-plain, quiet-plain}
 use Rattle.language.proofs.ParsePlaces.{bareLine, read-bare}
 use Rattle.language.proofs.AssemblyPlaces.{facts-natural, diagnostics-natural}

@@ -1,12 +1,10 @@
 -- Tokens without their places: the lexer gives the same kinds wherever a text stands, one token at a time.
 use Prim.Native.Nat.{ℕ, zero, suc, _+_}
-use mathlib.Core.Bool.{Bool, true, false}
-use mathlib.Core.List.{List, [], _∷_, _++_, map, map-map}
-use mathlib.Core.Path.{_≡_, refl, ap, _∙_, sym}
+use mathlib.Core.List.{List, [], _∷_, map}
+use mathlib.Core.Path.{_≡_, refl, ap, _∙_}
 use lib.ListN.{drop}
 use Rattle.chars.specs.Utf8.{size}
-use Rattle.lexer.specs.declared.Span.{Span}
-use Rattle.lexer.specs.Tokens.{TokenKind, newline, Token, Step, gap, tok, step, emit, tokensFrom, tokens}
+use Rattle.lexer.specs.Tokens.{TokenKind, newline, Span, Token, Step, gap, tok, step, emit, tokensFrom, tokens}
 
 -- the kind at the front, before those that follow
 unfoldable pub emitKind : Step → (ℕ → List TokenKind) → List TokenKind

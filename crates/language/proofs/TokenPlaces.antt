@@ -14,8 +14,7 @@ use Rattle.chars.specs.Class.{classOf}
 use Rattle.chars.specs.declared.Class.{Class}
 use Rattle.chars.specs.declared.Class.the-variants.{Letter, Digit, Space, Sign, Other}
 use Rattle.chars.proofs.Theorems.{encode-append, decode-encode, length-encode, sizes-append}
-use Rattle.lexer.specs.declared.Span.{Span}
-use Rattle.lexer.specs.Tokens.{TokenKind, word, number, quoted, str, sign, comment, newline, unterminatedString, unterminatedQuote, span, Token, run, line, trimCons, trimEnd, isWhitespace, indent, commentText, escape, Inner, ends, breaks, escapes, stands, innerOf, Inside, closed, unclosed, put, pass, inside, unescape, Step, gap, tok, wordStep, numberStep, stringStep, quotedStep, slashStep, otherStep, step, emit, tokensFrom, tokens, isWordContinue, isAsciiDigit}
+use Rattle.lexer.specs.Tokens.{TokenKind, word, number, quoted, str, sign, comment, newline, unterminatedString, unterminatedQuote, Span, span, Token, run, line, trimCons, trimEnd, isWhitespace, indent, commentText, escape, Inner, ends, breaks, escapes, stands, innerOf, Inside, closed, unclosed, put, pass, inside, unescape, Step, gap, tok, wordStep, numberStep, stringStep, quotedStep, slashStep, otherStep, step, emit, tokensFrom, tokens, isWordContinue, isAsciiDigit}
 use Rattle.language.specs.Agreement.{charactersAt}
 use Rattle.language.proofs.Every.{byTest, Every, and-left, and-right, and-both}
 

@@ -7,8 +7,7 @@ use mathlib.Core.Path.{_≡_}
 use lib.Dec.{eqb}
 use lib.ListN.{getD, take, drop}
 use Rattle.chars.specs.Utf8.{decode}
-use Rattle.lexer.specs.declared.Span.{Span}
-use Rattle.lexer.specs.Tokens.{span, unescape}
+use Rattle.lexer.specs.Tokens.{Span, span, unescape}
 use Rattle.language.specs.Machine.{Dir, left, right, stay}
 use Rattle.language.specs.Content.{StateContent, ActionContent, RuleContent, Content}
 use Rattle.language.specs.Layout.{Head}

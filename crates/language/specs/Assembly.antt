@@ -6,7 +6,7 @@ use mathlib.Core.Option.{Option, none, some}
 use lib.Dec.{eqb, leb}
 use lib.ListN.{length}
 use Rattle.lexer.specs.Text.{same}
-use Rattle.lexer.specs.declared.Span.{Span}
+use Rattle.lexer.specs.Tokens.{Span}
 use Rattle.language.specs.Machine.{Located, Kind, Dir, Action, Rule}
 use Rattle.language.specs.Lines.{RawSymbol, rawBlank, glyph, RawDecoder, RawTransition, Text, Item, machineItem, inputItem, kindItem, outputItem, tapesItem, statesItem, finalItem, inputAlphabetItem, tapeAlphabetItem, blankItem, startItem, transitionItem, Line, blankLine, commentLine, itemLine, errorLine}
 

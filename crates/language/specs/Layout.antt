@@ -4,8 +4,7 @@ use mathlib.Core.Bool.{Bool, true, false}
 use mathlib.Core.List.{List, [], _∷_, _++_}
 use mathlib.Core.Option.{Option, none, some}
 use lib.ListN.{length}
-use Rattle.lexer.specs.declared.Span.{Span}
-use Rattle.lexer.specs.Tokens.{span}
+use Rattle.lexer.specs.Tokens.{Span, span}
 use Rattle.language.specs.Machine.{Located, Kind, acceptor, transducer, enumerator, beaver, lsb, msb, Decoder, asWord, asUnary, asBinary, Dir, left, right, stay, State, Action, Rule, Symbol, Declared, Machine}
 use Rattle.language.specs.Assembly.{RuleLine, combinations, Diagnostic}
 

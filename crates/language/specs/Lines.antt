@@ -6,8 +6,7 @@ use mathlib.Core.Option.{Option, none, some}
 use lib.Dec.{eqb}
 use Rattle.lexer.specs.Text.{codes, same}
 use Rattle.lexer.specs.Words.{value}
-use Rattle.lexer.specs.declared.Span.{Span}
-use Rattle.lexer.specs.Tokens.{TokenKind, word, number, quoted, str, sign, comment, newline, unterminatedString, unterminatedQuote, Token, span, tokens}
+use Rattle.lexer.specs.Tokens.{TokenKind, word, number, quoted, str, sign, comment, newline, unterminatedString, unterminatedQuote, Token, Span, span, tokens}
 use Rattle.language.specs.Machine.{Located, Kind, acceptor, transducer, enumerator, beaver, BitOrder, lsb, msb, Dir, left, right, stay}
 use Rattle.language.specs.Parser.{Result, ok, fail, Parser, _>>=_, give, when, unexpected, isSign, one, expect, opened, entries, single, tuple, set}
 

@@ -8,7 +8,7 @@ use lib.ListN.{length, getD, take, drop, replicate}
 use Rattle.chars.specs.Utf8.{decode, encode, validUpTo}
 use Rattle.chars.specs.Class.{firstOutside}
 use Rattle.chars.specs.declared.Outside.the-variants.{At, Nowhere}
-use Rattle.lexer.specs.declared.Span.{Span}
+use Rattle.lexer.specs.Tokens.{Span}
 use Rattle.language.specs.Content.{contentOf}
 use Rattle.language.specs.Lines.{Line, readLines}
 use Rattle.language.specs.Assembly.{Diagnostic, diagnostics, bodyOf, kept}

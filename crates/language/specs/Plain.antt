@@ -6,8 +6,8 @@ use mathlib.Core.Bool.{Bool, true, false}
 use mathlib.Core.List.{List, [], _∷_, _++_, map}
 use mathlib.Core.Option.{Option, none, some}
 use lib.Dec.{eqb, ltb}
-use Rattle.language.specs.Machine.{Kind, acceptor, transducer, enumerator, beaver, BitOrder, lsb, msb, Decoder, asWord, asUnary, asBinary, Dir, left, right, stay}
-use Rattle.language.specs.Content.{StateContent, ActionContent, RuleContent, Content}
+use Rattle.language.specs.Machine.{Kind, acceptor, transducer, enumerator, beaver, lsb, msb, Decoder, asWord, asUnary, asBinary, Dir, left, right, stay}
+use Rattle.language.specs.Content.{StateContent, RuleContent, Content}
 
 -- a piece of text, as code points, put in front of what follows
 abbrev pub Piece : Type 0
@@ -55,12 +55,13 @@ commas show (a ∷ b ∷ bs) = λ rest. show a (say ", " (commas show (b ∷ bs)
 abbrev pub symbol : ℕ → Piece
 symbol c = say "'" ⨾ (λ rest. c ∷ rest) ⨾ say "'"
 
--- the move of a head
+-- the letter of a move
 abbrev pub dirCode : Dir → ℕ
 dirCode left = 0x4C
 dirCode right = 0x52
 dirCode stay = 0x4E
 
+-- a move: L, R or N
 abbrev pub direction : Dir → Piece
 direction d = λ rest. dirCode d ∷ rest
 
@@ -88,17 +89,17 @@ unfoldable pub string : List ℕ → Piece
 unfolding escapedText
 string s = say "\"" ⨾ escapedText s ⨾ say "\""
 
--- n in decimal without needless zeros, of at most k + 1 digits
+-- n in decimal without needless zeros, in at most k + 1 digits
 unfoldable pub decimalFrom : ℕ → ℕ → Piece
 decimalFrom zero n = λ rest. (0x30 + n % 10) ∷ rest
 decimalFrom (suc k) n = λ rest. elim (ltb n 10) [ true ↦ (0x30 + n) ∷ rest | false ↦ decimalFrom k (n / 10) ((0x30 + n % 10) ∷ rest) ]
 
--- the number of tapes has at most three digits
+-- a number below 1000, as the number of tapes is
 unfoldable pub decimal : ℕ → Piece
 unfolding decimalFrom
 decimal n = decimalFrom 2 n
 
--- a comment: a space parts the slashes from a text, and stands there for no other purpose
+-- a comment: `// TEXT`, or `//` if the text is empty
 abbrev pub comment : List ℕ → Piece
 comment [] = say "//"
 comment (c ∷ cs) = say "// " ⨾ verbatim (c ∷ cs)
@@ -112,23 +113,26 @@ abbrev pub ownComment : Option (List ℕ) → Piece
 ownComment none = nothing
 ownComment (some s) = say " " ⨾ comment s
 
+-- the word for a kind
 abbrev pub kindName : Kind → S.String
 kindName acceptor = "acceptor"
 kindName transducer = "transducer"
 kindName enumerator = "enumerator"
 kindName beaver = "beaver"
 
+-- how the output is read
 abbrev pub decoder : Decoder → Piece
 decoder asWord = say "word"
 decoder (asUnary c) = say "unary " ⨾ symbol c
 decoder (asBinary lsb) = say "binary lsb"
 decoder (asBinary msb) = say "binary msb"
 
--- names, and symbols, as a set
+-- a set of names
 unfoldable pub nameSet : List (List ℕ) → Piece
 unfolding commas
 nameSet l = say "{" ⨾ commas verbatim l ⨾ say "}"
 
+-- a set of symbols
 unfoldable pub symbolSet : List ℕ → Piece
 unfolding commas
 symbolSet l = say "{" ⨾ commas symbol l ⨾ say "}"
@@ -150,7 +154,7 @@ unfoldable pub ruleLines : RuleContent → Piece
 unfolding each rule
 ruleLines r = each commentLine (r .leading) ⨾ rule r ⨾ ownComment (r .comment) ⨾ end
 
--- everything, line by line
+-- the lines in paper 01's order; what is undeclared has no line, but F always has
 unfoldable pub pieces : Content → Piece
 unfolding each string decimal nameSet symbolSet finalNames ruleLines
 pieces m =

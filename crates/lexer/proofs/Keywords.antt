@@ -81,11 +81,11 @@ module _ (t : List ℕ) (a b : ℕ) where
   part-beyond h = rw (lt-leb b (length t) h) (byTest (leb a b) (λ e. rw e) (λ e. rw e))
 
 -- ---- the table of keywords
-abbrev allBelow : (ℕ → Bool) → ℕ → Bool
+abbrev pub allBelow : (ℕ → Bool) → ℕ → Bool
 allBelow f zero = true
 allBelow f (suc n) = f n && allBelow f n
 
-all-below : (f : ℕ → Bool) (n : ℕ) → allBelow f n ≡ true → (k : ℕ) → k < n → f k ≡ true
+pub all-below : (f : ℕ → Bool) (n : ℕ) → allBelow f n ≡ true → (k : ℕ) → k < n → f k ≡ true
 all-below f zero e k h = absurd (omega arith)
 all-below f (suc n) e k h =
     let w = and-both (f n) (allBelow f n) e in
@@ -141,11 +141,11 @@ module _ (k : ℕ) (h : k < 24) where
       (and-both (leb (getD starts (suc k) 0) (length table)) (same (take (getD starts (suc k) 0 - getD starts k 0) (drop (getD starts k 0) table)) (getD keywordBytes k []))
       (right .1) .1))
 
-position-true : (n : ℕ) (w : List ℕ) (ws : List (List ℕ)) (x : List ℕ) → same w x ≡ true → position n (w ∷ ws) x ≡ n
+pub position-true : (n : ℕ) (w : List ℕ) (ws : List (List ℕ)) (x : List ℕ) → same w x ≡ true → position n (w ∷ ws) x ≡ n
 unfolding position
 position-true n w ws x e = rw (e, position)
 
-position-false : (n : ℕ) (w : List ℕ) (ws : List (List ℕ)) (x : List ℕ) → same w x ≡ false → position n (w ∷ ws) x ≡ position (suc n) ws x
+pub position-false : (n : ℕ) (w : List ℕ) (ws : List (List ℕ)) (x : List ℕ) → same w x ≡ false → position n (w ∷ ws) x ≡ position (suc n) ws x
 unfolding position
 position-false n w ws x e = rw (e, position)
 

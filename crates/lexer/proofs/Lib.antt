@@ -3,3 +3,5 @@ pub mod Keywords
 pub mod Pieces
 pub mod Steps
 pub mod Writes
+pub mod Placed
+pub mod Examples

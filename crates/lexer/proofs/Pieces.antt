@@ -2,7 +2,7 @@
 use mathlib.Core.Path.{_≡_, refl, sym, ap, subst, _∙_}
 use Prim.Native.Nat.{ℕ, zero, suc, _+_, _-_, _*_, _≤_, _<_, min}
 use native.Mathlib.Omega.{arith}
-use mathlib.Core.Bool.{Bool, true, false, cond, _&&_, not}
+use mathlib.Core.Bool.{Bool, true, false, cond, _&&_, _||_, not}
 use mathlib.Core.List.{List, [], _∷_, _++_, map}
 use lib.Dec.{eqb}
 use lib.ListN.{length, take, drop, take-append-drop}
@@ -21,7 +21,7 @@ use Rattle.chars.proofs.Encoding.{size-range}
 use Rattle.chars.proofs.Laws.{char-next, char-decode, char-le, invalid-decode, end-decode, points-next, points-le}
 use Rattle.chars.proofs.Theorems.{part-bytes, part-scalars, encode-injective}
 use Rattle.lexer.specs.Text.{same}
-use Rattle.lexer.specs.Tokens.{TokenKind, word, number, quoted, str, sign, comment, newline, unterminatedString, unterminatedQuote, Span, Token, tokenAt, isDigit, isAsciiDigit, isWordContinue, isWhitespace, run, line, trimCons, trimEnd, indent, commentText, Inside, closed, unclosed, inside, Step, gap, tok, wordStep, numberStep, stringStep, quotedStep, commentStep, slashStep, otherStep, step}
+use Rattle.lexer.specs.Tokens.{TokenKind, word, number, quoted, str, sign, comment, newline, unterminatedString, unterminatedQuote, Span, Token, tokenAt, isLetter, isDigit, isWordStart, isAsciiDigit, isWordContinue, isWhitespace, run, line, trimCons, trimEnd, indent, commentText, Inside, closed, unclosed, inside, Step, gap, tok, wordStep, numberStep, stringStep, quotedStep, commentStep, slashStep, otherStep, step}
 use Rattle.lexer.specs.Words.{keywords, keywordBytes, keyword, position, value, signNumber, kindNumber, wordValue, tokenValue}
 use Rattle.lexer.specs.Places.{startsWith, part, lineAt, stringEnd, pieceOf, piece}
 use Rattle.lexer.specs.declared.Line.{Line}
@@ -430,6 +430,11 @@ sign-token : (at c next k : ℕ) (r : List ℕ) → next ≡ at + size c → k �
 unfolding kindNumber tokenValue sizes
 sign-token at c next k r m e = rw e (piece-tok at next r (sign c) (size c) 0 0 0 next c next m refl (no-bytes next))
 
+-- a character of no class starts a word where it is an underscore
+start-other : (c : ℕ) (b : Bool) → classOf c ≡ Other → b ≡ isWordStart c → {x : Bool} → b ≡ x → eqb c 0x5F ≡ x
+unfolding isWordStart
+start-other c b k q e = sym (ap (λ (y : Class). isLetter y || eqb c 0x5F) k) ∙ sym q ∙ e
+
 -- a character of one byte: the next stands one further on
 one-next : (at c n next : ℕ) → next ≡ at + size c → c ≡ n → size n ≡ 1 → at + 1 ≡ next
 one-next at c n next m e s = omega (arith, ap size e)
@@ -451,8 +456,8 @@ step-class c r f Sign e = rw (ne-eqb c 10 f, step) (rw e)
 step-class c r f Other e = rw (ne-eqb c 10 f, step) (rw e)
 
 module _ (t : List ℕ) (at c next : ℕ) (m : next ≡ at + size c) where
-  pub other-word : (x : Piece) → c ≡ 0x5F → x ≡ pieceOf at next (decode (drop next t)) (wordStep c (decode (drop next t))) → x ≡ pieceOf at next (decode (drop next t)) (otherStep c (decode (drop next t)))
-  other-word x e p = piece-of at next _ _ _ x (step-word c (decode (drop next t)) e) p
+  pub other-word : (x : Piece) (b : Bool) → classOf c ≡ Other → b ≡ isWordStart c → b ≡ true → x ≡ pieceOf at next (decode (drop next t)) (wordStep c (decode (drop next t))) → x ≡ pieceOf at next (decode (drop next t)) (otherStep c (decode (drop next t)))
+  other-word x b k q e p = piece-of at next _ _ _ x (step-word c (decode (drop next t)) (eqb-true c 0x5F (start-other c b k q e))) p
 
   -- the piece at the place behind a character of one byte
   moved : (x : Piece) (s : List ℕ → Step) → at + 1 ≡ next → otherStep c (decode (drop next t)) ≡ s (decode (drop next t))
@@ -474,9 +479,9 @@ module _ (t : List ℕ) (at c next : ℕ) (m : next ≡ at + size c) where
   unfolding size
   other-slash x e p = moved x slashStep (one-next at c 0x2F next m e refl) (step-slash c (decode (drop next t)) e) p
 
-  pub other-sign : (k : ℕ) → (c ≡ 0x5F → ⊥) → (c ≡ 0x22 → ⊥) → (c ≡ 0x27 → ⊥) → (c ≡ 0x2F → ⊥) → k ≡ signNumber c
+  pub other-sign : (k : ℕ) (b : Bool) → classOf c ≡ Other → b ≡ isWordStart c → b ≡ false → (c ≡ 0x22 → ⊥) → (c ≡ 0x27 → ⊥) → (c ≡ 0x2F → ⊥) → k ≡ signNumber c
       → Tok k next c next ≡ pieceOf at next (decode (drop next t)) (otherStep c (decode (drop next t)))
-  other-sign k f g h i e = piece-of at next _ _ _ _ (step-sign c (decode (drop next t)) f g h i) (sign-token at c next k (decode (drop next t)) m e)
+  other-sign k b o q f g h i e = piece-of at next _ _ _ _ (step-sign c (decode (drop next t)) (eqb-false c 0x5F (start-other c b o q f)) g h i) (sign-token at c next k (decode (drop next t)) m e)
 
   -- ---- by class
   pub from-feed : c ≡ 10 → Tok 13 next 0 next ≡ pieceOf at next (decode (drop next t)) (step c (decode (drop next t)))
@@ -513,6 +518,9 @@ module _ (t : List ℕ) (at c next : ℕ) (m : next ≡ at + size c) where
 pub digit-by : (c : ℕ) (k : Class) → k ≡ classOf c → k ≡ Digit → isAsciiDigit c ≡ true
 unfolding isAsciiDigit
 digit-by c k e p = ap isDigit (sym e ∙ p)
+
+pub class-by : (c : ℕ) (k x : Class) → k ≡ classOf c → k ≡ x → classOf c ≡ x
+class-by c k x e p = sym e ∙ p
 
 -- ---- the piece at a place
 module _ (t : List ℕ) (at : ℕ) (r : Decoded) (s : r ≡ decodedAt at (front (drop at t))) where

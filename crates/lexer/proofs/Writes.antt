@@ -10,10 +10,10 @@ use lib.Dec.{leb}
 use borrow.Author.Tests.{le-leb, lt-leb}
 use mir.Syntax.{w32}
 use mir.Val.{Fits}
-use Rattle.chars.specs.Utf8.{size, sizes, decode}
+use Rattle.chars.specs.Utf8.{size, sizes, decode, validUpTo}
 use Rattle.chars.proofs.Encoding.{size-range}
 use Rattle.chars.proofs.Laws.{points-next, points-le}
-use Rattle.chars.proofs.Theorems.{sizes-append}
+use Rattle.chars.proofs.Theorems.{valid-le}
 use Rattle.lexer.specs.Tokens.{TokenKind, newline, Span, span, Token, tokenAt, Step, gap, tok, step, emit, tokensFrom, tokens}
 use Rattle.lexer.specs.Words.{kindNumber, tokenValue, tokenWords, flat, onto, tokenized}
 use Rattle.lexer.specs.Places.{pieceOf, piece}
@@ -212,6 +212,29 @@ module _ (t w₀ w : List ℕ) (at n : ℕ) (r : Piece) (st : State t w₀ w at 
         let f : 0 + length (flat ts) ≤ length w₀ = omega (arith, length-flat ts, done-count, st .few, st .place) in
         q ∙ sym (ap (λ (l : List (Token Span)). sets w (4 * n) (flat l)) left) ∙ st .words ∙ sets-eq (flat ts) w₀ 0 f
         ∙ ap (λ (z : ℕ). flat ts ++ drop z w₀) (zero-add (length (flat ts)))
+
+-- ---- how many tokens there are
+emit-few : (s : Step) (o m : ℕ) (next : ℕ → List (Token Span)) → ((n : ℕ) → length (next n) ≤ m) → length (emit o s next) ≤ suc m
+unfolding emit
+emit-few gap o m next h = omega (arith, h 0)
+emit-few (tok t w a b n) o m next h = omega (arith, h n)
+
+pub tokens-few : (cs : List ℕ) (k o : ℕ) → length (tokensFrom k o cs) ≤ length cs + 1
+unfolding tokensFrom
+tokens-few [] k o = omega arith
+tokens-few (c ∷ r) (suc k) o = omega (arith, tokens-few r k (o + size c))
+tokens-few (c ∷ r) zero o =
+    omega (arith, emit-few (step c r) o (length r + 1) (λ (n : ℕ). tokensFrom n (o + size c) r) (λ (n : ℕ). tokens-few r n (o + size c)))
+
+sizes-length : (cs : List ℕ) → length cs ≤ sizes cs
+unfolding sizes
+sizes-length [] = omega arith
+sizes-length (c ∷ r) = omega (arith, size-range c, sizes-length r)
+
+-- at most one for each byte, and the line feed at the end
+pub tokens-of-bytes : (t : List ℕ) → length (tokens (decode t)) ≤ length t + 1
+unfolding tokens validUpTo
+tokens-of-bytes t = omega (arith, tokens-few (decode t) 0 0, sizes-length (decode t), valid-le t)
 
 -- ---- the whole call
 module _ (t w : List ℕ) where

@@ -2,11 +2,10 @@
 use Prim.Native.Nat.{ℕ, suc, _+_, _-_}
 use mathlib.Core.Bool.{Bool, true, false, cond, _&&_}
 use mathlib.Core.List.{List, [], _∷_}
-use mathlib.Core.Option.{Option, none, some}
 use lib.Dec.{eqb, leb}
 use lib.ListN.{length, take, drop}
 use Rattle.chars.specs.Utf8.{size, sizes, decode}
-use Rattle.lexer.specs.Tokens.{Span, TokenKind, Token, tokenAt, Step, gap, tok, step, line, trimEnd, escape, Inside, closed, unclosed, inside}
+use Rattle.lexer.specs.Tokens.{Span, TokenKind, Token, tokenAt, Step, gap, tok, step, line, trimEnd, Inside, closed, unclosed, inside}
 use Rattle.lexer.specs.Words.{kindNumber, tokenValue}
 use Rattle.lexer.specs.declared.Line.{Line}
 use Rattle.lexer.specs.declared.StringEnd.{StringEnd}
@@ -29,20 +28,8 @@ part t a b = cond (leb a b && leb b (length t)) (take (b - a) (drop a t)) []
 
 -- the characters at a place
 unfoldable pub charsAt : List ℕ → Span → List ℕ
-unfolding part decode
-charsAt t p = decode (part t (p .start) (p .end))
-
--- the text between a string's quotes with its escapes undone; `true`: a backslash stands before
-unfoldable pub unescapeFrom : Bool → List ℕ → List ℕ
-unfolding escape
-unescapeFrom false [] = []
-unescapeFrom true [] = 0x5C ∷ []
-unescapeFrom false (c ∷ r) = elim (eqb c 0x5C) [ true ↦ unescapeFrom true r | false ↦ c ∷ unescapeFrom false r ]
-unescapeFrom true (e ∷ r) = elim (escape e) [ some v ↦ v ∷ unescapeFrom false r | none ↦ 0x5C ∷ e ∷ unescapeFrom false r ]
-
-unfoldable pub unescape : List ℕ → List ℕ
-unfolding unescapeFrom
-unescape cs = unescapeFrom false cs
+unfolding decode
+charsAt t p = decode (take (p .end - p .start) (drop (p .start) t))
 
 -- the rest of a line that stands at a place
 unfoldable pub lineAt : ℕ → List ℕ → Line

@@ -9,8 +9,7 @@ use Rattle.chars.specs.Utf8.{size, sizes}
 use Rattle.chars.specs.Class.{classOf}
 use Rattle.chars.specs.declared.Class.{Class}
 use Rattle.chars.specs.declared.Class.the-variants.{Letter, Digit, Space, Sign, Other}
--- a half-open range of byte offsets (paper 01: place), the code's own type
-pub use Rattle.lexer.specs.declared.Span.{Span}
+use Rattle.lexer.specs.declared.Span as declared
 
 -- what a token is; words, numbers and comments with their characters, strings with their escapes undone
 pub data TokenKind : Type 0 where
@@ -21,6 +20,10 @@ pub data TokenKind : Type 0 where
   sign : ℕ → TokenKind
   comment : List ℕ → TokenKind
   newline unterminatedString unterminatedQuote : TokenKind
+
+-- a half-open range of byte offsets (paper 01: place): the code's own type, with the fields start and end
+abbrev pub Span : Type 0
+Span = declared.Span
 
 abbrev pub span : ℕ → ℕ → Span
 span a b = record { start = a; end = b }

@@ -5,6 +5,8 @@ ghost use mathlib.Core.Bool.{true};
 ghost use mathlib.Core.List.{_∷_};
 ghost use lib.ListN.{length};
 ghost use Rattle.chars.specs.Utf8.{size};
+ghost use Rattle.chars.specs.Class.{classOf};
+ghost use Rattle.chars.specs.declared.Class.the-variants.{Other};
 ghost use Rattle.lexer.specs.Tokens.{isAsciiDigit, step, wordStep, numberStep, stringStep, quotedStep, commentStep, slashStep, otherStep};
 ghost use Rattle.lexer.specs.Words.{signNumber};
 ghost use Rattle.lexer.specs.Places.{rest, pieceOf, piece};
@@ -17,7 +19,7 @@ use chars::Class;
 use chars::Decoded;
 
 // The number of a sign's kind.
-pub fn sign_number(c: u32) -> u32
+pub(crate) fn sign_number(c: u32) -> u32
     ensures { λ r. ⌜ r ≡ signNumber c ⌝ }
 {
     match c {
@@ -120,10 +122,10 @@ fn slash(text: &[u8], at: usize) -> Piece
 
 // A character of no class: the beginning of a word, a string, a quoted character or a comment; or a token of its own.
 fn other(text: &[u8], at: usize, c: u32, next: usize) -> Piece
-    requires { ⌜ (next ≡ at + size c) × (rest (now text) at ≡ c ∷ rest (now text) next) × (at < length (now text)) × (next ≤ length (now text)) ⌝ }
+    requires { ⌜ (next ≡ at + size c) × (rest (now text) at ≡ c ∷ rest (now text) next) × (at < length (now text)) × (next ≤ length (now text)) × (classOf c ≡ Other) ⌝ }
     ensures { λ r. ⌜ r ≡ pieceOf at next (rest (now (text .entry)) next) (otherStep c (rest (now (text .entry)) next)) ⌝ }
 {
-    if c == 0x5F {
+    if scan::is_word_start(c) {
         return word(text, at, c, next);
     }
     if c == 0x22 {
@@ -157,7 +159,7 @@ fn piece_from(text: &[u8], at: usize, c: u32, next: usize) -> Piece
 }
 
 // What stands at a place.
-pub fn piece_at(text: &[u8], at: usize) -> Piece
+pub(crate) fn piece_at(text: &[u8], at: usize) -> Piece
     ensures { λ r. ⌜ r ≡ piece at (rest (now (text .entry)) at) ⌝ }
 {
     let s = chars::char_at(text, at);

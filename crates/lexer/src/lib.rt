@@ -9,23 +9,14 @@ ghost use Rattle.lexer.specs.Tokens.{tokens};
 ghost use Rattle.lexer.specs.Words.{flat, onto, tokenized};
 
 pub mod kind;
-pub mod lex;
+mod lex;
 pub mod names;
-pub mod scan;
-pub mod view;
+mod scan;
 
 // A half-open range of byte offsets.
 pub struct Span {
     pub start: u32,
     pub end: u32,
-}
-
-// A token as its four words.
-pub struct Token {
-    pub kind: u32,
-    pub start: u32,
-    pub end: u32,
-    pub value: u32,
 }
 
 // What stands at a place of the text.

@@ -77,7 +77,7 @@ pub fn same_name(text: &[u8], a: Span, b: Span) -> bool
 }
 
 // A word's number among the keywords, or 0.
-pub fn keyword_of(name: &[u8]) -> u32
+pub(crate) fn keyword_of(name: &[u8]) -> u32
     ensures { λ r. ⌜ r ≡ position 1 keywordBytes (now (name .entry)) ⌝ }
 {
     let names = KEYWORDS;

@@ -12,7 +12,7 @@ use chars::Class;
 use chars::Decoded;
 
 // Whether c can start a word.
-pub fn is_word_start(c: u32) -> bool
+pub(crate) fn is_word_start(c: u32) -> bool
     ensures { λ r. ⌜ r ≡ isWordStart c ⌝ }
 {
     if c == 0x5F {
@@ -29,7 +29,7 @@ pub fn is_word_start(c: u32) -> bool
 }
 
 // Whether c can continue a word.
-pub fn is_word_continue(c: u32) -> bool
+pub(crate) fn is_word_continue(c: u32) -> bool
     ensures { λ r. ⌜ r ≡ isWordContinue c ⌝ }
 {
     if c == 0x5F {
@@ -49,7 +49,7 @@ pub fn is_word_continue(c: u32) -> bool
 }
 
 // Whether c is an ASCII digit.
-pub fn is_ascii_digit(c: u32) -> bool
+pub(crate) fn is_ascii_digit(c: u32) -> bool
     ensures { λ r. ⌜ r ≡ isAsciiDigit c ⌝ }
 {
     let k = chars::class_of(c);
@@ -63,7 +63,7 @@ pub fn is_ascii_digit(c: u32) -> bool
 }
 
 // Whether c is white space.
-pub fn is_whitespace(c: u32) -> bool
+pub(crate) fn is_whitespace(c: u32) -> bool
     ensures { λ r. ⌜ r ≡ isWhitespace c ⌝ }
 {
     let k = chars::class_of(c);
@@ -77,7 +77,7 @@ pub fn is_whitespace(c: u32) -> bool
 }
 
 // Whether the character at a place is c.
-pub fn starts_with(text: &[u8], at: usize, c: u32) -> bool
+pub(crate) fn starts_with(text: &[u8], at: usize, c: u32) -> bool
     ensures { λ r. ⌜ r ≡ startsWith c (rest (now (text .entry)) at) ⌝ }
 {
     let s = chars::char_at(text, at);
@@ -89,7 +89,7 @@ pub fn starts_with(text: &[u8], at: usize, c: u32) -> bool
 }
 
 // Where the characters that continue a word end.
-pub fn word_end(text: &[u8], at: usize) -> usize
+pub(crate) fn word_end(text: &[u8], at: usize) -> usize
     ensures { λ r. ⌜ r ≡ at + sizes (run isWordContinue (rest (now (text .entry)) at)) ⌝ }
 {
     let mut i = at;
@@ -110,7 +110,7 @@ pub fn word_end(text: &[u8], at: usize) -> usize
 }
 
 // Where the digits end.
-pub fn digits_end(text: &[u8], at: usize) -> usize
+pub(crate) fn digits_end(text: &[u8], at: usize) -> usize
     ensures { λ r. ⌜ r ≡ at + sizes (run isAsciiDigit (rest (now (text .entry)) at)) ⌝ }
 {
     let mut i = at;
@@ -140,7 +140,7 @@ fn with_digit(v: u32, c: u32) -> u32
 }
 
 // The value of the digits at a place, 256 for all above 255.
-pub fn number_value(text: &[u8], at: usize) -> u32
+pub(crate) fn number_value(text: &[u8], at: usize) -> u32
     ensures { λ r. ⌜ r ≡ min (value (run isAsciiDigit (rest (now (text .entry)) at))) 256 ⌝ }
 {
     let mut i = at;
@@ -163,7 +163,7 @@ pub fn number_value(text: &[u8], at: usize) -> u32
 }
 
 // Where the line ends, and where it ends without white space.
-pub fn line_end(text: &[u8], at: usize) -> Line
+pub(crate) fn line_end(text: &[u8], at: usize) -> Line
     ensures { λ r. ⌜ r ≡ lineAt at (rest (now (text .entry)) at) ⌝ }
 {
     let mut i = at;
@@ -196,7 +196,7 @@ pub fn line_end(text: &[u8], at: usize) -> Line
 }
 
 // Where a string ends, from behind its quote.
-pub fn string_end(text: &[u8], at: usize) -> StringEnd
+pub(crate) fn string_end(text: &[u8], at: usize) -> StringEnd
     ensures { λ r. ⌜ r ≡ stringEnd false at (rest (now (text .entry)) at) ⌝ }
 {
     let mut i = at;

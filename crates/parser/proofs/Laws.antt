@@ -9,12 +9,13 @@ use lib.ListN.{length, getD, List·getD-eq-default}
 use lib.Dec.{eqb, ltb, leb}
 use borrow.Author.Needs.{needs}
 use borrow.Author.Tests.{lt-ltb, le-ltb, le-leb, lt-leb, eq-eqb, ne-eqb}
+use Rattle.tokens.specs.View.{tokenIn}
 use Rattle.parser.specs.Row.{tokensIn, ended, peek}
 use Rattle.parser.specs.Views.{keywordOf, lookup, starts, leadOf}
 use Rattle.parser.specs.declared.ItemKind.{ItemKind}
 use Rattle.parser.specs.declared.Keyword.{Keyword}
 use Rattle.parser.specs.declared.Lead.{Lead}
-use Rattle.parser.specs.declared.Token.{Token}
+use Rattle.tokens.specs.declared.Token.{Token}
 
 -- what closes a `return` of a function whose definition goes by the same tests
 pub ruleset tests = (needs, lt-ltb, le-ltb, le-leb, lt-leb, eq-eqb, ne-eqb)
@@ -28,15 +29,11 @@ length-tokens (a ∷ b ∷ []) = (omega arith, omega arith)
 length-tokens (a ∷ b ∷ c ∷ []) = (omega arith, omega arith)
 length-tokens (k ∷ s ∷ e ∷ v ∷ r) = let ih = length-tokens r in (omega arith, omega arith)
 
--- the words of a token
-abbrev pub wordsAt : List ℕ → ℕ → Token
-wordsAt w i = record { kind = getD w i 0; start = getD w (i + 1) 0; end = getD w (i + 2) 0; value = getD w (i + 3) 0 }
-
-pub peek-words : (w : List ℕ) (i : ℕ) → i < length w / 4 → wordsAt w (4 * i) ≡ peek (tokensIn w) i
+peek-words : (w : List ℕ) (i : ℕ) → i < length w / 4 → tokenIn w i ≡ peek (tokensIn w) i
 unfolding tokensIn
 peek-words w i h = go w i (omega arith)
   where
-    go : (w : List ℕ) (i : ℕ) → 4 * i + 3 < length w → wordsAt w (4 * i) ≡ peek (tokensIn w) i
+    go : (w : List ℕ) (i : ℕ) → 4 * i + 3 < length w → tokenIn w i ≡ peek (tokensIn w) i
     go [] i h = absurd (omega arith)
     go (a ∷ []) i h = absurd (omega arith)
     go (a ∷ b ∷ []) i h = absurd (omega arith)
@@ -46,6 +43,9 @@ peek-words w i h = go w i (omega arith)
         let q : (n : ℕ) → 4 * suc i + n ≡ suc (suc (suc (suc (4 * i + n)))) = λ n. omega arith in
         let q₀ : 4 * suc i ≡ suc (suc (suc (suc (4 * i)))) = omega arith in
         rw (q 1, q 2, q 3, q₀) (go r i (omega arith))
+
+pub peek-read : (w : List ℕ) (i : ℕ) (t : Token) → t ≡ tokenIn w i → i < length w / 4 → t ≡ peek (tokensIn w) i
+peek-read w i t e h = e ∙ peek-words w i h
 
 pub peek-past : (w : List ℕ) (i : ℕ) → length w / 4 ≤ i → ended ≡ peek (tokensIn w) i
 peek-past w i h = sym (List·getD-eq-default (tokensIn w) ended (omega (arith, length-tokens w)))

@@ -2,3 +2,13 @@ pub mod Laws
 pub mod Single
 pub mod Lists
 pub mod Rules
+pub mod Tables
+pub mod Views
+pub mod Keywords
+pub mod Simulates
+pub mod Values
+pub mod Transitions
+pub mod Outputs
+pub mod ItemLines
+pub mod Lines
+pub mod Lexed

@@ -13,8 +13,8 @@ use borrow.Author.Tests.{eq-eqb, ne-eqb, eqb-true}
 use Rattle.parser.specs.Row.{tokensIn, ended, peek}
 use Rattle.parser.specs.Views.{isKind, isChoice, isState, isSymbol, isWrite, isDirection, isText}
 use Rattle.parser.specs.Lines.{Parser, then, unexpected, one, direction, separator, entriesFrom, entries, set, tuple, readEntry, output}
-use Rattle.parser.specs.declared.Token.{Token}
-use Rattle.parser.specs.declared.Span.{Span}
+use Rattle.tokens.specs.declared.Token.{Token}
+use Rattle.lexer.specs.declared.Span.{Span}
 use Rattle.parser.specs.declared.Parsed.{Parsed}
 use Rattle.parser.specs.declared.Parsed.the-variants.{Done, Failed}
 use Rattle.parser.proofs.Laws.{length-tokens, inside}
@@ -65,7 +65,7 @@ further ts i j (Failed c s) l w = tt
 -- ---- the entries of a list, one at a time
 module _ (p : Parser) (steps : Steps p) (close : ℕ) (low : close < 13) (ts : List Token) where
   -- the next entry, where `go` gives the rest
-  abbrev turn : (ℕ → ℕ → Parsed) → ℕ → ℕ → Parsed
+  abbrev pub turn : (ℕ → ℕ → Parsed) → ℕ → ℕ → Parsed
   turn go i n = then (p ts i) λ j _. then (separator close ts j) λ next more. elim (eqb more 0) [ true ↦ Done next (n + 1) | false ↦ go next (n + 1) ]
 
   turn-same : (go go′ : ℕ → ℕ → Parsed) (i n : ℕ) → ((next : ℕ) → i + 2 ≤ next → next ≤ length ts → go next (n + 1) ≡ go′ next (n + 1)) → turn go i n ≡ turn go′ i n

@@ -16,8 +16,8 @@ use borrow.Author.Tests.{eq-eqb, ne-eqb}
 use Rattle.parser.specs.Row.{tokensIn, ended, peek}
 use Rattle.parser.specs.Views.{spanOf, isKind, isChoice, isState, isSymbol, isWrite, keywordOf, leadOf}
 use Rattle.parser.specs.Lines.{Parser, then, codeOf, unexpected, one, direction, entries, set, tuple, readEntry, output, side, equals, leftParts, noParts, on, onValue, left, right, transition, plain, value, spanning, newlineAt, finish, valueAt, lineOn, lineOf, itemFrom, itemOf, item, isComment, line, lineLength, lineEnd}
-use Rattle.parser.specs.declared.Token.{Token}
-use Rattle.parser.specs.declared.Span.{Span}
+use Rattle.tokens.specs.declared.Token.{Token}
+use Rattle.lexer.specs.declared.Span.{Span}
 use Rattle.parser.specs.declared.Parsed.{Parsed}
 use Rattle.parser.specs.declared.Parsed.the-variants.{Done, Failed}
 use Rattle.parser.specs.declared.Parts.{Parts}

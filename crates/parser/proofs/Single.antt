@@ -13,7 +13,7 @@ use borrow.Author.Tests.{eq-eqb, ne-eqb, eqb-true}
 use Rattle.parser.specs.Row.{tokensIn, ended, peek}
 use Rattle.parser.specs.Views.{spanOf, isKind, isChoice, isState, isSymbol, isWrite, isDirection, isText}
 use Rattle.parser.specs.Lines.{unexpected, one, direction, separator}
-use Rattle.parser.specs.declared.Token.{Token}
+use Rattle.tokens.specs.declared.Token.{Token}
 use Rattle.parser.specs.declared.Parsed.{Parsed}
 use Rattle.parser.specs.declared.Parsed.the-variants.{Done, Failed}
 use Rattle.parser.proofs.Laws.{length-tokens, inside}

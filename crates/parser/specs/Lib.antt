@@ -1,3 +1,4 @@
 pub mod Row
 pub mod Views
 pub mod Lines
+pub mod Meaning

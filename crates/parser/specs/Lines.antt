@@ -6,8 +6,8 @@ use lib.Dec.{eqb}
 use lib.ListN.{length, drop}
 use Rattle.parser.specs.Row.{peek}
 use Rattle.parser.specs.Views.{spanOf, isKind, isChoice, isState, isSymbol, isWrite, isDirection, isText, keywordOf, leadOf}
-use Rattle.parser.specs.declared.Token.{Token}
-use Rattle.parser.specs.declared.Span.{Span}
+use Rattle.tokens.specs.declared.Token.{Token}
+use Rattle.lexer.specs.declared.Span.{Span}
 use Rattle.parser.specs.declared.Parsed.{Parsed}
 use Rattle.parser.specs.declared.Parsed.the-variants.{Done, Failed}
 use Rattle.parser.specs.declared.Parts.{Parts}

@@ -3,8 +3,8 @@ use Prim.Native.Nat.{ℕ, _+_}
 use mathlib.Core.Bool.{Bool, true, false, cond, not}
 use mathlib.Core.List.{List, [], _∷_}
 use lib.Dec.{eqb, ltb, leb}
-use Rattle.parser.specs.declared.Token.{Token}
-use Rattle.parser.specs.declared.Span.{Span}
+use Rattle.tokens.specs.declared.Token.{Token}
+use Rattle.lexer.specs.declared.Span.{Span}
 use Rattle.parser.specs.declared.ItemKind.{ItemKind}
 use Rattle.parser.specs.declared.ItemKind.the-variants.{Machine, Kind, Input, Output, Tapes, States, InputAlphabet, TapeAlphabet, Blank, Start, Final, Transition}
 use Rattle.parser.specs.declared.Lead.{Lead}

@@ -5,11 +5,11 @@ ghost use Rattle.parser.specs.Row.{tokensIn, peek};
 ghost use Rattle.parser.specs.Views.{isKind, isChoice, isState, isSymbol, isWrite};
 ghost use Rattle.parser.specs.Lines.{codeOf, unexpected, one, direction, separator, entries, set, tuple, readEntry, output};
 use crate::Parsed;
-use crate::Span;
-use crate::Token;
-use crate::kind;
 use crate::row::token_at;
 use crate::view;
+use lexer::Span;
+use lexer::kind;
+use tokens::Token;
 
 // E002 for an unterminated string, E001 for any other token that is not what is due.
 pub fn code_of(t: Token) -> u32

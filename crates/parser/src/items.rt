@@ -11,12 +11,12 @@ use crate::Lead;
 use crate::Line;
 use crate::Parsed;
 use crate::Parts;
-use crate::Span;
 use crate::Value;
 use crate::elements;
-use crate::kind;
 use crate::row::token_at;
 use crate::view;
+use lexer::Span;
+use lexer::kind;
 
 // `(`, a state and a comma.
 fn side(work: &[u32], at: usize) -> Parsed

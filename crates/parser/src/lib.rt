@@ -1,23 +1,10 @@
 // Lines of a description, read from the tokens in a row of words (the source's dsl/parser.rs, Parser).
 pub mod elements;
 pub mod items;
-pub mod kind;
 pub mod row;
 pub mod view;
 
-// A half-open range of byte offsets.
-pub struct Span {
-    pub start: u32,
-    pub end: u32,
-}
-
-// A token: the number of its kind, its span, and a value by its kind.
-pub struct Token {
-    pub kind: u32,
-    pub start: u32,
-    pub end: u32,
-    pub value: u32,
-}
+use lexer::Span;
 
 // What an item declares, or that it is a transition.
 pub enum ItemKind {

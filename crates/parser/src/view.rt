@@ -4,8 +4,8 @@ ghost use Rattle.parser.specs.Views.{isKind, isChoice, isState, isSymbol
 use crate::ItemKind;
 use crate::Keyword;
 use crate::Lead;
-use crate::Token;
-use crate::kind;
+use lexer::kind;
+use tokens::Token;
 
 pub fn is_kind(t: Token, kind: u32) -> bool
     ensures { λ r. ⌜ r ≡ isKind kind t ⌝ }

@@ -10,17 +10,6 @@ pub token-at-spec : {M : Type 1} → statement M
 token-at-spec =
     tie.close
     (tie.spec
-    (λ c. search laws)
-    (λ c. search laws)
-    (λ c. search laws)
-    (λ c. search laws)
-    (λ c. search laws)
-    (λ c. search laws)
-    (λ c. search laws)
-    (λ c. search laws)
-    (λ c. search laws)
-    (λ c. search laws)
-    (λ c. search laws)
-    (λ c. search laws)
+    (λ c κs. search laws)
     (λ c. search laws)
     (λ c. search laws))

@@ -9,6 +9,7 @@ other-spec =
     tie.close
     (tie.spec
     (λ c κs. search needs)
+    (λ c κs. search needs)
     (λ c. search (needs, other-word, other-string, other-quoted, other-slash, other-sign))
     (λ c κs. search needs)
     (λ c. search (needs, other-word, other-string, other-quoted, other-slash, other-sign))

@@ -1,1 +1,0 @@
-// What the layers above ask of a token.
