@@ -87,7 +87,7 @@ fn counted(s: Sets, t: Token) -> Sets
 }
 
 // The product of the sizes of the sets from an index to the line's end, cut off above the limit.
-fn combinations(work: &[u32], count: usize, at: usize) -> usize
+pub fn combinations(work: &[u32], count: usize, at: usize) -> usize
     requires { ⌜ (4 * count ≤ length (now work)) × (count < 2 ^ 32) ⌝ }
     ensures { λ r. ⌜ r ≡ combinations (drop at (rows count (now (work .entry)))) ⌝ }
 {

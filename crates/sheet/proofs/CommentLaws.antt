@@ -2,13 +2,13 @@
 use mathlib.Core.Path.{_≡_, refl, sym, ap, subst, _∙_}
 use mathlib.Core.Bool.{Bool, true, false, cond}
 use mathlib.Core.List.{List, [], _∷_, _++_, append-assoc}
-use Prim.Native.Nat.{ℕ, zero, suc, _+_, _-_, _*_, _≤_, _<_, _^_, _%_}
+use Prim.Native.Nat.{ℕ, zero, suc, _+_, _-_, _*_, _≤_, _<_, _^_, _%_, _/_}
 use native.Mathlib.Omega.{arith}
 use native.Mathlib.Numerals.{add-one}
 use native.Mathlib.Decide.{decLt}
 use borrow.Author.Tests.{le-leb, lt-leb, lt-ltb, le-ltb, eq-eqb, ne-eqb}
 use lib.Dec.{eqb, leb, ltb}
-use lib.ListN.{length, getD, take, drop, length-append, drop-of-length-le, List·getD-eq-default}
+use lib.ListN.{length, getD, take, drop, length-append, length-take, length-drop, drop-of-length-le, List·getD-eq-default}
 use lib.Seq.{sets, drop-cons, take-nil}
 use Rattle.parser.specs.declared.Token.{Token}
 use Rattle.parser.specs.Row.{ended, peek}
@@ -87,6 +87,37 @@ between-on ts i j h = go (decLt i (length ts))
     go (no q) =
         let past : peek ts i ≡ ended = List·getD-eq-default ts ended {n = i} (omega arith) in
         between-past ts i j (omega arith) ∙ sym (ap (λ (t : Token). commentsIn (t ∷ []) ++ between ts (i + 1) j) past ∙ between-past ts (i + 1) j (omega arith))
+
+-- no more than there are tokens
+comments-few : (l : List Token) → length (commentsIn l) ≤ length l
+unfolding commentsIn
+comments-few [] = omega arith
+comments-few (t ∷ ts) = go (eqb (t .kind) 12) (comments-few ts)
+  where
+    go : (b : Bool) → length (commentsIn ts) ≤ length ts → length {A = Token} (elim b [ true ↦ t ∷ commentsIn ts | false ↦ commentsIn ts ]) ≤ length (t ∷ ts)
+    go true h = omega arith
+    go false h = omega arith
+
+pub between-few : (ts : List Token) (i j : ℕ) → length (between ts i j) ≤ length ts - i
+unfolding between
+between-few ts i j = omega (arith, comments-few (take (j - i) (drop i ts)), length-take (j - i) (drop i ts), length-drop i ts)
+
+-- two words each
+pub length-texts : (cs : List Token) → length (flat textWords cs) ≡ 2 * length cs
+unfolding flat
+length-texts [] = refl
+length-texts (c ∷ cs) = omega (arith, length-texts cs)
+
+module _ (count : ℕ) (work : List ℕ) (i j : ℕ) (room : 4 * count ≤ length work) where
+  pub count-room : 2 * count < 2 ^ 64 → 0 + length (flat textWords (between (rows count work) i j)) < 2 ^ 64
+  count-room h =
+      let ts : List Token = rows count work in
+      omega (arith, length-texts (between ts i j), between-few ts i j, length-rows count work room)
+
+  pub count-half : (o o′ : List ℕ) (r : ℕ) → Stored (flat textWords (between (rows count work) i j)) o 0 o′ r → r / 2 ≡ length (between (rows count work) i j)
+  count-half o o′ r s =
+      let ts : List Token = rows count work in
+      omega (arith, length-texts (between ts i j), s .behind)
 
 -- the walk has come to the index i
 abbrev pub Gathering : ℕ → List ℕ → ℕ → ℕ → List ℕ → ℕ → List ℕ → ℕ → ℕ → Type 0

@@ -1,3 +1,5 @@
 pub mod Writes
 pub mod Turns
 pub mod CommentLaws
+pub mod RuleLaws
+pub mod WheelLaws

@@ -24,6 +24,9 @@ sets-append o i (x ∷ xs) ys =
     let e : suc i + length xs ≡ i + suc (length xs) = omega arith in
     sets-append (set o i x) (suc i) xs ys ∙ ap (λ (k : ℕ). sets (sets (set o i x) (suc i) xs) k ys) e
 
+pub stored-word : (o o′ : List ℕ) (i x : ℕ) → o′ ≡ set o i x → Stored (x ∷ []) o i o′ (i + 1)
+stored-word o o′ i x e = record { words = e; behind = refl }
+
 pub stored-none : (ws o : List ℕ) (i : ℕ) → ws ≡ [] → Stored ws o i o i
 stored-none ws o i e = record { words = ap (sets o i) (sym e); behind = omega (arith, ap length e) }
 
@@ -39,6 +42,9 @@ stored-append xs ys o o₁ o₂ i i₁ i₂ a b =
 
 pub stored-length : (ws o o′ : List ℕ) (i i′ : ℕ) → Stored ws o i o′ i′ → length o′ ≡ length o
 stored-length ws o o′ i i′ s = ap length (s .words) ∙ length-sets o i ws
+
+pub symbol-stored : (o o₁ o₂ : List ℕ) (i r x : ℕ) (p : Span) → o₁ ≡ set o i x → Stored (spanWords p) o₁ (i + 1) o₂ r → Stored (x ∷ spanWords p) o i o₂ r
+symbol-stored o o₁ o₂ i r x p e s = stored-append (x ∷ []) (spanWords p) o o₁ o₂ i (i + 1) r (stored-word o o₁ i x e) s
 
 -- what is left to store behind what is there gives the target, and ends where it was to end
 pub record Writing (target : List ℕ) (end : ℕ) (o : List ℕ) (i : ℕ) (left : List ℕ) : Type 0 where

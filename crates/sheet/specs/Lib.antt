@@ -1,3 +1,4 @@
 pub mod Stored
 pub mod Comments
+pub mod Wheels
 pub mod Rules

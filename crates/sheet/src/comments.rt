@@ -73,6 +73,15 @@ pub fn comments(
     n
 }
 
+// How many comments stand from the index `from` to before `to`.
+pub fn count_between(work: &[u32], count: usize, from: usize, to: usize) -> usize
+    requires { ⌜ (4 * count ≤ length (now work)) × (2 * count < 2 ^ 64) ⌝ }
+    ensures { λ r. ⌜ r ≡ length (between (rows count (now (work .entry))) from to) ⌝ }
+{
+    let mut none = [0u32; 1];
+    comments(work, count, from, to, &mut none[..0], 0) / 2
+}
+
 // What is pending behind the line that begins with the token t at an index.
 pub fn passed(p: Pending, t: Token, at: usize) -> Pending
     requires { ⌜ at + 2 < 2 ^ 64 ⌝ }

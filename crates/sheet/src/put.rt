@@ -1,6 +1,7 @@
 // Stores to the sheet.
 ghost use mathlib.Core.Path.{_≡_};
 ghost use lib.ListN.{set};
+ghost use mathlib.Core.List.{_∷_};
 ghost use Prim.Native.Nat.{_+_, _<_, _^_};
 ghost use Rattle.sheet.specs.Stored.{Stored};
 ghost use Rattle.sheet.specs.Comments.{spanWords};
@@ -23,4 +24,13 @@ pub fn place(out: &mut [u32], at: usize, p: Span) -> usize
     word(out, at, p.start);
     word(out, at + 1, p.end);
     at + 2
+}
+
+// A character and its place at an index.
+pub fn symbol(out: &mut [u32], at: usize, x: u32, p: Span) -> usize
+    requires { ⌜ at + 3 < 2 ^ 64 ⌝ }
+    ensures { λ r. ⌜ Stored (x ∷ spanWords p) (now (out .entry)) at (now (out .exit)) r ⌝ }
+{
+    word(out, at, x);
+    place(out, at + 1, p)
 }

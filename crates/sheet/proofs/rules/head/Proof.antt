@@ -1,0 +1,30 @@
+-- `sheet::rules::head` meets its contract: eleven words, one behind the other.
+use borrow.Author.Needs.{needs}
+use Rattle.sheet.proofs.RuleLaws.{behind-places, behind-head, head-stored}
+use Rattle.sheet.proofs.rules.head.Statement.{statement}
+use Rattle.sheet.proofs.rules.head.Tie as tie
+
+ruleset laws = (needs, behind-places, behind-head)
+
+pub head-spec : {M : Type 1} → statement M
+head-spec =
+    tie.close
+    (tie.spec
+    (λ c. search laws)
+    (λ c. search laws)
+    (λ c. search laws)
+    (λ c. search laws)
+    (λ c. search laws)
+    (λ c κs. search laws)
+    (λ c. search laws)
+    (λ c κs. search laws)
+    (λ c. search laws)
+    (λ c κs. search laws)
+    (λ c. search laws)
+    (λ c. search laws)
+    (λ c κs. search laws)
+    (λ c. search laws)
+    (λ c. search laws)
+    (λ c.
+    head-stored _ _ _ _ _ _ _ _ _ _ _ _ (c .before .before .before .before .before .before .before .before .before .before .before .before .before .before .before .word .ensures) (c .before .before .before .before .before .before .before .before .before .before .before .places .ensures) (c .before .before .before .before .before .before .word2 .ensures)
+    (c .before .before .word3 .ensures)))

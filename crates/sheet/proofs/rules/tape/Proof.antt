@@ -1,0 +1,23 @@
+-- `sheet::rules::tape` meets its contract: two symbols and a direction, one behind the other.
+use borrow.Author.Needs.{needs}
+use Rattle.sheet.proofs.RuleLaws.{tape-stored}
+use Rattle.sheet.proofs.rules.tape.Statement.{statement}
+use Rattle.sheet.proofs.rules.tape.Tie as tie
+
+ruleset laws = (needs, tape-stored)
+
+pub tape-spec : {M : Type 1} → statement M
+tape-spec =
+    tie.close
+    (tie.spec
+    (λ c κs. search laws)
+    (λ c κs. search laws)
+    (λ c κs. search laws)
+    (λ c κs. search laws)
+    (λ c κs. search laws)
+    (λ c κs. search laws)
+    (λ c κs. search laws)
+    (λ c κs. search laws)
+    (λ c. search laws)
+    (λ c. search laws)
+    (λ c. search laws))
