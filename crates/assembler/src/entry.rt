@@ -6,8 +6,8 @@ ghost use Rattle.parser.specs.Row.{peek};
 ghost use Rattle.assembler.specs.Rows.{rows, placeOf};
 ghost use Rattle.assembler.specs.Entries.{behind};
 use diag::Span;
-use tokens::Token;
 use lexer::kind;
+use tokens::Token;
 
 // The kind of an item's entry: this and its number.
 pub const ITEM: u32 = 16;

@@ -13,8 +13,8 @@ ghost use Rattle.assembler.specs.Finals.{nameAt, namesOf, finalError, fi
 use crate::declarations;
 use crate::entry;
 use diag::Diagnostic;
-use tokens::Token;
 use lexer::kind;
+use tokens::Token;
 
 // The code of a name that Q lacks.
 const UNKNOWN_NAME: u32 = 3;

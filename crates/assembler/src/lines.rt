@@ -8,14 +8,14 @@ ghost use Rattle.parser.specs.Lines.{line, lineEnd};
 ghost use Rattle.assembler.specs.Rows.{rows};
 ghost use Rattle.assembler.specs.Entered.{wordsOf, flat, itemNumber, itemEntry, PartsFit, countsOf, partsOf, enterAt, entered};
 use crate::entry;
+use lexer::Span;
+use lexer::kind;
 use parser::Item;
 use parser::ItemKind;
 use parser::Line;
 use parser::Parts;
-use lexer::Span;
-use tokens::Token;
 use parser::items;
-use lexer::kind;
+use tokens::Token;
 
 // The number of a rule's item.
 const TRANSITION: u32 = 11;

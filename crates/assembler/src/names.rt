@@ -8,8 +8,8 @@ ghost use Rattle.assembler.specs.Rows.{rows};
 ghost use Rattle.assembler.specs.Names.{sameWord, firstEqual, internOf, interned};
 use crate::entry;
 use lexer::Span;
-use tokens::Token;
 use lexer::kind;
+use tokens::Token;
 
 // Whether u is a word with the characters of t.
 fn same_word(text: &[u8], t: Token, u: Token) -> bool

@@ -11,8 +11,8 @@ ghost use Rattle.assembler.specs.Rules.{counted, combinations, sameArity
 use crate::entry;
 use diag::Diagnostic;
 use diag::Span;
-use tokens::Token;
 use lexer::kind;
+use tokens::Token;
 
 // The number of a rule's item.
 const TRANSITION: u32 = 11;

@@ -3,7 +3,6 @@ ghost use mathlib.Core.Path.{_≡_};
 ghost use Prim.Native.Nat.{_*_, _-_, _≤_};
 ghost use lib.ListN.{length};
 ghost use Rattle.assembler.specs.Rows.{rows};
-ghost use Rattle.sheet.specs.Rules.{resolve};
 ghost use Rattle.reader.specs.Heads.{placeAt, textOf, textAt, kindOf, kindAt, orderOf, decoderOf, decoderAt, tapesAt, blankAt, startAt, declaredIn, mapIn, headAt};
 use assembler::entry;
 use machine::BitOrder;
@@ -14,8 +13,8 @@ use machine::Head;
 use machine::Kind;
 use machine::SourceMap;
 use machine::Span;
-use parser::Token;
-use parser::kind;
+use sheet::rules;
+use tokens::Token;
 
 // The blank that no text can declare otherwise than by default.
 pub const BLANK: u32 = 0x2423;
@@ -37,27 +36,6 @@ pub const NONE: Span = Span {
     start: 0xffff_ffff,
     end: 0xffff_ffff,
 };
-
-// The character of a symbol.
-fn resolve(blank: u32, t: Token) -> u32
-    ensures { λ r. ⌜ r ≡ resolve blank t ⌝ }
-{
-    if t.kind == kind::WORD {
-        if t.value == 0x5F {
-            return blank;
-        }
-        return t.value;
-    }
-    if t.kind == kind::NUMBER {
-        return std::num::wrapping_add_u32(0x30, t.value);
-    }
-    if t.kind == kind::OTHER {
-        if t.value == 0x2423 {
-            return blank;
-        }
-    }
-    t.value
-}
 
 // The place of the token j behind the first of the line f.
 fn place_at(work: &[u32], count: usize, f: u32, j: usize) -> Span
@@ -148,7 +126,7 @@ fn decoder_of(blank: u32, v: u32, t: Token) -> Decoder
     ensures { λ r. ⌜ r ≡ decoderOf blank v t ⌝ }
 {
     if v == UNARY {
-        return Decoder::Unary(resolve(blank, t));
+        return Decoder::Unary(rules::resolve(blank, t));
     }
     if v == BINARY {
         return Decoder::Binary(order_of(t.value));
@@ -193,7 +171,7 @@ pub fn blank_at(work: &[u32], count: usize, f: u32) -> u32
 {
     let i = f as usize;
     if i < count {
-        return resolve(BLANK, entry::token_at(work, count, i + 2));
+        return rules::resolve(BLANK, entry::token_at(work, count, i + 2));
     }
     BLANK
 }

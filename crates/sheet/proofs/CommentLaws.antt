@@ -10,7 +10,7 @@ use borrow.Author.Tests.{le-leb, lt-leb, lt-ltb, le-ltb, eq-eqb, ne-eqb}
 use lib.Dec.{eqb, leb, ltb}
 use lib.ListN.{length, getD, take, drop, length-append, length-take, length-drop, drop-of-length-le, List·getD-eq-default}
 use lib.Seq.{sets, drop-cons, take-nil}
-use Rattle.parser.specs.declared.Token.{Token}
+use Rattle.tokens.specs.declared.Token.{Token}
 use Rattle.parser.specs.Row.{ended, peek}
 use Rattle.diag.specs.declared.Span.{Span}
 use Rattle.language.specs.Layout.{flat}

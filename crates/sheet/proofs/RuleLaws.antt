@@ -11,7 +11,7 @@ use mir.Val.{Fits}
 use lib.Dec.{eqb, leb, ltb}
 use lib.ListN.{length, getD, take, drop, set, length-append, length-drop, length-map, drop-of-length-le}
 use lib.Seq.{sets, drop-cons, getD-drop, getD-take, length-take-le}
-use Rattle.parser.specs.declared.Token.{Token}
+use Rattle.tokens.specs.declared.Token.{Token}
 use Rattle.parser.specs.Row.{ended, peek}
 use Rattle.diag.specs.declared.Span.{Span}
 use Rattle.language.specs.Layout.{flat, ruleLength}
@@ -188,8 +188,12 @@ module _ (count : ℕ) (work : List ℕ) (b : ℕ) (r : Rule) (blank : ℕ) wher
       pub taping-room : at + 7 * r .tapes < 2 ^ 64 → i + 7 < 2 ^ 64
       unfolding tapeAt tapeWords
       taping-room u =
-          omega (arith, length-tapes blank ts (r .write) (r .dir) (reads count work b (r .tapes)), length-reads count work b (r .tapes) fits,
-          writing-room (sets o₀ at all) (at + length all) o i (left t) g one (left (t + 1)) left-on)
+          omega (
+            arith,
+            length-tapes blank ts (r .write) (r .dir) (reads count work b (r .tapes)),
+            length-reads count work b (r .tapes) fits,
+            writing-room (sets o₀ at all) (at + length all) o i (left t) g one (left (t + 1)) left-on,
+          )
 
       pub taping-on : (o′ : List ℕ) (i′ : ℕ) → Stored (tapeAt blank (rows count work) r t (getD work (b + t) 0)) o i o′ i′ → Taping count work b r blank o₀ at o′ i′ (t + 1)
       taping-on o′ i′ s = writing-on (sets o₀ at all) (at + length all) o i (left t) g one (left (t + 1)) o′ i′ left-on s
@@ -249,8 +253,14 @@ pub length-rule : (b : ℕ) (ts : List Token) (r : Rule) (c : Span) (cs rs : Lis
 unfolding ruleWords
 length-rule b ts r c cs rs =
     let tapes : List ℕ = tapesWords b ts (r .write) (r .dir) rs in
-    omega (arith, length-append (headWords ts r c (length rs) (length cs)) (tapes ++ flat textWords cs), length-append tapes (flat textWords cs),
-    length-head ts r c (length rs) (length cs), length-tapes b ts (r .write) (r .dir) rs, length-texts cs)
+    omega (
+      arith,
+      length-append (headWords ts r c (length rs) (length cs)) (tapes ++ flat textWords cs),
+      length-append tapes (flat textWords cs),
+      length-head ts r c (length rs) (length cs),
+      length-tapes b ts (r .write) (r .dir) rs,
+      length-texts cs,
+    )
 
 module _ (count : ℕ) (work : List ℕ) (b : ℕ) (r : Rule) (c : Span) (lead blank : ℕ) (p : Placed count (length work) b r) where
   -- what leads it, what it reads, and its words
@@ -283,8 +293,16 @@ module _ (count : ℕ) (work : List ℕ) (b : ℕ) (r : Rule) (c : Span) (lead b
       module _ (o₂ : List ℕ) (j : ℕ) (s₂ : Stored (tapesWords blank (rows count work) (r .write) (r .dir) (reads count work b (r .tapes))) o₁ i o₂ j) where
         pub leading-room : j + length (flat textWords (between (rows count work) lead (r .line))) < 2 ^ 64
         leading-room =
-            omega (arith, size-is, s₁ .behind, s₂ .behind, length-head (rows count work) r c (r .tapes) k, length-tapes blank (rows count work) (r .write) (r .dir) symbols, arity,
-            length-texts leading)
+            omega (
+              arith,
+              size-is,
+              s₁ .behind,
+              s₂ .behind,
+              length-head (rows count work) r c (r .tapes) k,
+              length-tapes blank (rows count work) (r .write) (r .dir) symbols,
+              arity,
+              length-texts leading,
+            )
 
         pub rule-stored : (o₃ : List ℕ) (l : ℕ) → k ≡ length (between (rows count work) lead (r .line)) → Stored (flat textWords (between (rows count work) lead (r .line))) o₂ j o₃ l
             → Stored (ruleWords blank (rows count work) r c (between (rows count work) lead (r .line)) (reads count work b (r .tapes))) o at o₃ l

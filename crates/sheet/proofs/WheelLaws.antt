@@ -12,7 +12,7 @@ use mir.Val.{Fits}
 use lib.Dec.{eqb, ltb}
 use lib.ListN.{length, getD, take, drop, set, length-drop, length-set, length-append, drop-of-length-le}
 use lib.Seq.{drop-cons, drop-drop, getD-drop, getD-take, take-set-le, take-set-lt, drop-set-add, drop-set-lt, take-suc-set, length-take-le, take-take}
-use Rattle.parser.specs.declared.Token.{Token}
+use Rattle.tokens.specs.declared.Token.{Token}
 use Rattle.parser.specs.Row.{tokensIn, ended, peek}
 use Rattle.parser.proofs.Laws.{inside}
 use Rattle.assembler.specs.Rows.{rows}

@@ -4,7 +4,7 @@ use mathlib.Core.Bool.{Bool, true, false, cond}
 use mathlib.Core.List.{List, [], _∷_, _++_}
 use lib.Dec.{eqb, leb, ltb}
 use lib.ListN.{length, take, drop}
-use Rattle.parser.specs.declared.Token.{Token}
+use Rattle.tokens.specs.declared.Token.{Token}
 use Rattle.diag.specs.declared.Span.{Span}
 use Rattle.assembler.specs.Entries.{Entry, behind, entries}
 use Rattle.sheet.specs.declared.comments.Pending.{Pending}

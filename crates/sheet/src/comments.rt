@@ -11,8 +11,8 @@ ghost use Rattle.sheet.specs.Comments.{textOf, textWords, commentsIn, be
 use crate::put;
 use assembler::entry;
 use diag::Span;
-use parser::Token;
-use parser::kind;
+use lexer::kind;
+use tokens::Token;
 
 // The comments that wait for an item: whether an item or failed line came earlier, where they begin, and where the block that goes on begins.
 pub struct Pending {

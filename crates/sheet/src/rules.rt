@@ -15,8 +15,8 @@ use crate::comments;
 use crate::put;
 use assembler::entry;
 use diag::Span;
-use parser::Token;
-use parser::kind;
+use lexer::kind;
+use tokens::Token;
 
 // Where the parts of a rule stand: its line's first token, the next state, the first write, the first move; and how many tapes it has.
 pub struct Rule {
@@ -190,15 +190,7 @@ fn places(work: &[u32], count: usize, r: Rule, c: Span, out: &mut [u32], at: usi
 }
 
 // A rule up to its tapes; k comments lead it.
-fn head(
-    work: &[u32],
-    count: usize,
-    r: Rule,
-    c: Span,
-    k: usize,
-    out: &mut [u32],
-    at: usize,
-) -> usize
+fn head(work: &[u32], count: usize, r: Rule, c: Span, k: usize, out: &mut [u32], at: usize) -> usize
     requires { ⌜ (4 * count ≤ length (now work)) × (r .line < count) × (11 + 7 * r .tapes + 2 * k < 2 ^ 32) × (at + 11 < 2 ^ 64) ⌝ }
     ensures { λ x. ⌜ Stored (headWords (rows count (now (work .entry))) r c (r .tapes) k) (now (out .entry)) at (now (out .exit)) x ⌝ }
 {

@@ -7,7 +7,7 @@ ghost use lib.ListN.{length, getD, set};
 ghost use Rattle.assembler.specs.Rows.{rows};
 ghost use Rattle.sheet.specs.Wheels.{firstMember, goesOn, nextEntry, entriesOf, part, Wheels};
 use assembler::entry;
-use parser::kind;
+use lexer::kind;
 
 // The first member of the entry at the index e.
 fn first_member(work: &[u32], count: usize, e: u32) -> u32
@@ -55,14 +55,7 @@ fn next_entry(work: &[u32], count: usize, e: usize) -> usize
 }
 
 // The entries from the index `at` on, at most n, each at its first member; how many there are.
-pub fn wheels(
-    work: &mut [u32],
-    count: usize,
-    at: usize,
-    n: usize,
-    a: usize,
-    b: usize,
-) -> usize
+pub fn wheels(work: &mut [u32], count: usize, at: usize, n: usize, a: usize, b: usize) -> usize
     requires { ⌜ (4 * count ≤ a) × (a + count ≤ b) × (b + count ≤ length (now work)) × (count < 2 ^ 32) ⌝ }
     ensures { λ r. ⌜ (Wheels count a r (rows count (now (work .entry))) (entriesOf (rows count (now (work .entry))) n at) (now (work .exit))) × (part (now (work .exit)) b r ≡ map (firstMember (rows count (now (work .entry)))) (entriesOf (rows count (now (work .entry))) n at)) × (r ≤ count) ⌝ }
 {
