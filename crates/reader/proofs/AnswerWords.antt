@@ -1,10 +1,13 @@
 -- Words stored one behind the other: a head, and an answer.
 use mathlib.Core.Path.{_≡_, refl, sym, ap, _∙_}
 use mathlib.Core.List.{List, [], _∷_, _++_}
-use Prim.Native.Nat.{ℕ, _+_, _*_, _/_, _%_, _≤_}
+use Prim.Native.Nat.{ℕ, _+_, _*_, _/_, _%_, _≤_, _<_}
+use native.Mathlib.Omega.{arith}
+use borrow.Author.Tests.{le-leb, lt-leb}
 use native.Mathlib.Numerals.{towards-suc}
-use lib.ListN.{length, set, replicate}
-use lib.Seq.{sets}
+use lib.ListN.{length, take, drop, set, replicate}
+use lib.Seq.{sets, take-all}
+use Rattle.language.specs.Layout as L
 use Rattle.language.specs.Layout.{kindNumber, placeWords, decoderWords, declaredWords, countWords, headWords}
 use Rattle.language.specs.Outcome.{replyNumber, replyValue, replyWords}
 use Rattle.machine.specs.declared.BitOrder.the-variants.{Lsb, Msb}
@@ -16,6 +19,7 @@ use Rattle.reader.specs.declared.Refusal.{Refusal}
 use Rattle.reader.specs.declared.Answer.{Answer}
 use Rattle.reader.specs.declared.Answer.the-variants.{Machine, Diagnostics, Refused}
 use Rattle.reader.specs.Answer.{spanIn, kindIn, decoderIn, declaredIn, countsIn, headIn, replyIn}
+use Rattle.reader.specs.Reading.{answerRow}
 use Rattle.reader.specs.Words.{decoderTag, decoderValue, mapWords}
 
 -- the two words of a decoder
@@ -66,3 +70,26 @@ module _ (a : Answer) (n v : ℕ) (p : n ≡ replyNumber (replyIn a)) (q : v ≡
   pub refused-words : (r : Refusal) → a ≡ Refused r → front n v ≡ replyWords (replyIn a)
   unfolding replyWords
   refused-words r e = rw (p, q, e)
+
+-- ---- a row that is lent for an answer
+length-head : (h : L.Head) (d : Decoder) → decoderIn d ≡ h .output → length (headWords h) ≡ 33
+unfolding headWords
+length-head h d e = rw (← e, decoder-words d)
+
+length-reply : (a : Answer) → length (replyWords (replyIn a)) ≡ 36
+unfolding replyWords headIn
+length-reply (Machine h) = omega (arith, length-head (headIn h) (h .output) refl)
+length-reply (Diagnostics n) = refl
+length-reply (Refused r) = refl
+
+module _ (a : Answer) (row : List ℕ) where
+  pub no-room : length row < 36 → row ≡ answerRow (replyIn a) row
+  unfolding answerRow
+  no-room h = rw (answerRow, lt-leb 36 (length row) h)
+
+  pub with-room : 36 ≤ length row → (ws row′ : List ℕ) → ws ≡ replyWords (replyIn a) → row′ ≡ take 36 (take 36 (drop 0 ws)) ++ drop 36 row → row′ ≡ answerRow (replyIn a) row
+  unfolding answerRow
+  with-room h ws row′ e p =
+      let n : length ws ≡ 36 = ap length e ∙ length-reply a in
+      let all : take 36 ws ≡ ws = take-all 36 ws (omega arith) in
+      p ∙ rw (all, all, e, answerRow, le-leb 36 (length row) h)

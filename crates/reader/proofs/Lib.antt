@@ -2,3 +2,4 @@ pub mod Admissions
 pub mod StateNames
 pub mod AnswerWords
 pub mod HeadLaws
+pub mod Reports

@@ -2,6 +2,7 @@
 pub mod admission;
 pub mod head;
 pub mod name;
+pub mod report;
 pub mod words;
 
 use machine::Head;

@@ -6,6 +6,7 @@ ghost use lib.Seq.{sets};
 ghost use Rattle.language.specs.Layout.{flag, kindNumber, placeWords, declaredWords, countWords, headWords};
 ghost use Rattle.language.specs.Outcome.{refusalNumber, refusalValue, replyNumber, replyValue, replyWords};
 ghost use Rattle.reader.specs.Answer.{spanIn, kindIn, declaredIn, countsIn, headIn, refusalIn, replyIn};
+ghost use Rattle.reader.specs.Reading.{answerRow};
 ghost use Rattle.reader.specs.Words.{decoderTag, decoderValue, mapWords};
 use crate::Answer;
 use crate::Refusal;
@@ -200,4 +201,16 @@ pub fn answer_words(a: Answer) -> [u32; 36]
         Answer::Diagnostics(_) => row,
         Answer::Refused(_) => row,
     }
+}
+
+// An answer in a row that is lent for it, and its number.
+pub fn give(a: Answer, row: &mut [u32]) -> u32
+    ensures { λ n. ⌜ (n ≡ replyNumber (replyIn a)) × (now (row .exit) ≡ answerRow (replyIn a) (now (row .entry))) ⌝ }
+{
+    if row.len() < ANSWER_WORDS {
+        return answer_number(a);
+    }
+    let words = answer_words(a);
+    diag::copy(&words[0..36], row, 36);
+    answer_number(a)
 }
