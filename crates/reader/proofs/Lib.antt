@@ -3,3 +3,4 @@ pub mod StateNames
 pub mod AnswerWords
 pub mod HeadLaws
 pub mod Reports
+pub mod Outcomes
