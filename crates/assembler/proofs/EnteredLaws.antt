@@ -103,7 +103,7 @@ as-drop (Read x) i t ts h =
     let e : Token = itemEntry i x in
     let l : List Token = withParts (x .kind) i (x .parts) (e ∷ ts) in
     let first : behind i (peek l 0) ≡ x .newline = ap (behind i) (parts-first (x .kind) i (x .parts) e ts) ∙ entry-behind i x in
-    let long : x .kind ≡ Transition → 3 < suc (x .newline) = λ k. omega (arith, h .parts k .long) in
+    let long : x .kind ≡ Transition → 3 < suc (x .newline) = λ k. omega (arith, h .parts k .long, h .behind) in
     ap (λ (n : ℕ). drop n (drop 1 l)) first ∙ dropped l (x .newline) ∙ parts-drop (x .kind) i (x .parts) (e ∷ ts) (suc (x .newline)) long ∙ ap (λ (n : ℕ). drop n ts) (sym first)
   where
     dropped : (l : List Token) (n : ℕ) → drop n (drop 1 l) ≡ drop (suc n) l

@@ -17,7 +17,9 @@ use Rattle.diag.specs.declared.Diagnostic.{Diagnostic}
 use Rattle.diag.specs.Log.{error, withRelated, Log, logged, appended, appendAll}
 use Rattle.diag.proofs.Appended.{append-all-append, append-all-count, append-all-length}
 use Rattle.tokens.specs.declared.Token.{Token}
+use Rattle.diag.proofs.Cases.{by-test}
 use Rattle.parser.specs.Row.{peek, ended}
+use Rattle.parser.specs.Views.{isState}
 use Rattle.assembler.specs.Rows.{rows, placeOf}
 use Rattle.assembler.specs.Names.{isWord}
 use Rattle.assembler.specs.Finals.{nameAt, namesFrom, namesOf, listed, unknownError, finalError, finalErrorAt, finalErrors, finalsErrors, Marks, Interned, Laid, Kept}
@@ -33,57 +35,65 @@ pub mark-read : (w : List ℕ) (b k j : ℕ) → k ≡ j → getD w (b + k) 0 �
 mark-read w b k j e = ap (λ (k : ℕ). getD w (b + k) 0) e
 
 -- ---- one token
-name-word : (i : ℕ) (t : Token) → t .kind ≡ 0 → nameAt i t ≡ i ∷ []
+name-state : (i : ℕ) (t : Token) → isState t ≡ true → nameAt i t ≡ i ∷ []
 unfolding nameAt
-name-word i t h = rw (eq-eqb (t .kind) 0 h)
+name-state i t h = rw h
 
-name-other : (i : ℕ) (t : Token) → (t .kind ≡ 0 → ⊥) → nameAt i t ≡ []
+name-other : (i : ℕ) (t : Token) → isState t ≡ false → nameAt i t ≡ []
 unfolding nameAt
-name-other i t h = rw (ne-eqb (t .kind) 0 h)
+name-other i t h = rw h
 
-module _ (text : List ℕ) (count a b : ℕ) (w : List ℕ) (laid : Laid count a b w) (names : Interned text (rows count w) a w) (i : ℕ) (low : i < count) (t : Token) (at : t ≡ peek (rows count w) i) where
+-- a state's name is a word
+state-word : (t : Token) → isState t ≡ true → isWord t ≡ true
+unfolding isState
+state-word t h = by-test (eqb (t .kind) 0) (λ y. y) (λ n. let z : false ≡ true = rw n at h in cc)
+
+module _ (text : List ℕ) (count a b : ℕ) (w : List ℕ) (laid : Laid count a b w) (names : Interned text (rows count w) a w) (i : ℕ) (low : i < count) (t : Token) (at : t ≡ peek (rows count w) i)
+    (x : Bool) (test : x ≡ isState t) where
   abbrev row : List Token
   row = rows count w
 
-  pub is-word : t .kind ≡ 0 → isWord (peek (rows count w) i) ≡ true
-  is-word k = ap (λ (t : Token). isWord t) (sym at) ∙ eq-eqb (t .kind) 0 k
+  tested : (y : Bool) → x ≡ y → isState (peek row i) ≡ y
+  tested y k = ap isState (sym at) ∙ sym test ∙ k
+
+  pub is-word : x ≡ true → isWord (peek (rows count w) i) ≡ true
+  is-word k = state-word (peek row i) (tested true k)
 
   pub word-within : a + i < length w
   word-within = omega (arith, laid .words, laid .marks)
 
-  pub mark-within : t .kind ≡ 0 → b + getD w (a + i) 0 < length w
+  pub mark-within : x ≡ true → b + getD w (a + i) 0 < length w
   mark-within k = mark-inside text count a b w laid names i low (is-word k)
 
-  pub state-step : (v : List ℕ) → t .kind ≡ 0 → v ≡ set w (b + getD w (a + i) 0) 1 → (qs : List ℕ) → Marks text (rows count w) a b w qs []
+  pub state-step : (v : List ℕ) → x ≡ true → v ≡ set w (b + getD w (a + i) 0) 1 → (qs : List ℕ) → Marks text (rows count w) a b w qs []
       → Marks text (rows count w) a b v (qs ++ nameAt i (peek (rows count w) i)) []
   state-step v k e qs p =
-      let n : nameAt i (peek row i) ≡ i ∷ [] = ap (nameAt i) (sym at) ∙ name-word i t k in
+      let n : nameAt i (peek row i) ≡ i ∷ [] = name-state i (peek row i) (tested true k) in
       rw n (state-marked text count a b w laid names i low (is-word k) 1 v e qs refl p)
 
-  pub state-skip : (t .kind ≡ 0 → ⊥) → (qs : List ℕ) → Marks text (rows count w) a b w qs [] → Marks text (rows count w) a b w (qs ++ nameAt i (peek (rows count w) i)) []
+  pub state-skip : x ≡ false → (qs : List ℕ) → Marks text (rows count w) a b w qs [] → Marks text (rows count w) a b w (qs ++ nameAt i (peek (rows count w) i)) []
   state-skip k qs p =
-      let n : nameAt i (peek row i) ≡ [] = ap (nameAt i) (sym at) ∙ name-other i t k in
+      let n : nameAt i (peek row i) ≡ [] = name-other i (peek row i) (tested false k) in
       rw (n, append-nil) p
 
   -- as a name of F
   module _ (d : Bool) (l : Log) where
-    pub final-skip : (t .kind ≡ 0 → ⊥) → (qs before : List ℕ) → Marks text (rows count w) a b w qs before
+    pub final-skip : x ≡ false → (qs before : List ℕ) → Marks text (rows count w) a b w qs before
         → (l ≡ appendAll l (finalErrorAt text (rows count w) d qs before i)) × Marks text (rows count w) a b w qs (before ++ nameAt i (peek (rows count w) i))
     unfolding finalErrorAt appendAll
     final-skip k qs before p =
-        let n : nameAt i (peek row i) ≡ [] = ap (nameAt i) (sym at) ∙ name-other i t k in
-        let o : isWord (peek row i) ≡ false = ap (λ (t : Token). isWord t) (sym at) ∙ ne-eqb (t .kind) 0 k in
-        (rw o, rw (n, append-nil) p)
+        let n : nameAt i (peek row i) ≡ [] = name-other i (peek row i) (tested false k) in
+        (rw (tested false k), rw (n, append-nil) p)
 
-    pub final-step : (l′ : Log) (v : List ℕ) → t .kind ≡ 0
+    pub final-step : (l′ : Log) (v : List ℕ) → x ≡ true
         → ((qs before : List ℕ) → Marks text (rows count w) a b w qs before → (l′ ≡ appendAll l (finalError text (rows count w) d qs before i)) × Marks text (rows count w) a b v qs (before ++ i ∷ []))
         → (qs before : List ℕ) → Marks text (rows count w) a b w qs before
         → (l′ ≡ appendAll l (finalErrorAt text (rows count w) d qs before i)) × Marks text (rows count w) a b v qs (before ++ nameAt i (peek (rows count w) i))
     unfolding finalErrorAt
     final-step l′ v k f qs before p =
-        let n : nameAt i (peek row i) ≡ i ∷ [] = ap (nameAt i) (sym at) ∙ name-word i t k in
+        let n : nameAt i (peek row i) ≡ i ∷ [] = name-state i (peek row i) (tested true k) in
         let r = f qs before p in
-        (rw (is-word k) (r .0), rw n (r .1))
+        (rw (tested true k) (r .0), rw n (r .1))
 
 -- a name that Q lacks
 module _ (t : Token) (m : ℕ) (l : Log) where
@@ -181,7 +191,7 @@ module _ (text : List ℕ) (count a b : ℕ) (all w₀ w : List ℕ) (i : ℕ) (
 -- ---- the walk over F's set has come to the index i; `start` says what held before it
 at-most-final : (text : List ℕ) (ts : List Token) (d : Bool) (qs before : List ℕ) (i : ℕ) → length (finalErrorAt text ts d qs before i) ≤ 1
 unfolding finalErrorAt finalError unknownError
-at-most-final text ts d qs before i = at-most-one (isWord (peek ts i)) (finalError text ts d qs before i) [] (one (listed text ts i before) (listed text ts i qs)) (omega arith)
+at-most-final text ts d qs before i = at-most-one (isState (peek ts i)) (finalError text ts d qs before i) [] (one (listed text ts i before) (listed text ts i qs)) (omega arith)
   where
     one : (o q : Option ℕ)
         → length {A = Diagnostic} (elim o [ some j ↦ withRelated (error 11 (placeOf (peek ts i))) (placeOf (peek ts j)) ∷ [] | none ↦ cond d (elim q [ some j ↦ [] | none ↦ error 3 (placeOf (peek ts i)) ∷ [] ]) [] ]) ≤ 1
@@ -192,7 +202,7 @@ at-most-final text ts d qs before i = at-most-one (isWord (peek ts i)) (finalErr
 errors-on : (text : List ℕ) (ts : List Token) (d : Bool) (qs before fs : List ℕ) (i : ℕ)
     → finalErrors text ts d qs before (nameAt i (peek ts i) ++ fs) ≡ finalErrorAt text ts d qs before i ++ finalErrors text ts d qs (before ++ nameAt i (peek ts i)) fs
 unfolding finalErrors finalErrorAt nameAt
-errors-on text ts d qs before fs i = go (isWord (peek ts i))
+errors-on text ts d qs before fs i = go (isState (peek ts i))
   where
     go : (x : Bool) → finalErrors text ts d qs before (cond x (i ∷ []) [] ++ fs) ≡ cond x (finalError text ts d qs before i) [] ++ finalErrors text ts d qs (before ++ cond x (i ∷ []) []) fs
     go true = refl

@@ -5,9 +5,12 @@ pub mod Passes
 pub mod FailureLaws
 pub mod DeclarationLaws
 pub mod RuleLaws
+pub mod Braces
 pub mod Inside
 pub mod LineLaws
 pub mod EnteredLaws
 pub mod NameLaws
 pub mod MarkLaws
 pub mod FinalLaws
+pub mod Means
+pub mod RulesMean

@@ -139,11 +139,11 @@ module _ (n i : ℕ) (w : List ℕ) (room : 4 * n ≤ length w) (low : i < n) (f
       is-rule : x .kind ≡ Transition
       is-rule = number-rule (x .kind) (sym number ∙ rule)
 
-      parts-inside : PartsIn rest (x .newline) (x .parts)
+      parts-inside : PartsIn rest (x .end) (x .parts)
       parts-inside = item-inside .parts is-rule
 
       pub rule-room : i + 3 < n
-      rule-room = omega (arith, item-inside .newline, parts-inside .long, rest-length)
+      rule-room = omega (arith, item-inside .low, parts-inside .long, rest-length)
 
       pub rule-fits : PartsFit i (x .parts)
       rule-fits =

@@ -23,7 +23,7 @@ use Rattle.tokens.specs.declared.Token.{Token}
 use Rattle.parser.specs.Row.{tokensIn, peek, ended}
 use Rattle.assembler.specs.Rows.{rows, placeOf}
 use Rattle.assembler.specs.Names.{sameName, isWord, sameWord, firstEqual}
-use Rattle.assembler.specs.Finals.{nameAt, listed, unknownError, finalError, markBy, markOf, Marks, Interned, Laid, Kept}
+use Rattle.assembler.specs.Finals.{listed, unknownError, finalError, markBy, markOf, Marks, Interned, Laid, Kept}
 use Rattle.assembler.proofs.Rows.{length-rows}
 use Rattle.assembler.proofs.RowWords.{part-tokens}
 
@@ -346,8 +346,3 @@ module _ (text : List ℕ) (count a b : ℕ) (w : List ℕ) (laid : Laid count a
           ∙ ap (λ (r : List ℕ). getD r j 0) cleared
           ∙ getD-replicate (length (midOf b (b + count - b) w)) j 0 0 (omega (arith, mid-is));
     }
-
-  -- a token that is no word
-  pub other-name : (i : ℕ) → (peek row i .kind ≡ 0 → ⊥) → nameAt i (peek row i) ≡ []
-  unfolding nameAt
-  other-name i h = rw (ne-eqb (peek row i .kind) 0 h)

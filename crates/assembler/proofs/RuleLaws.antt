@@ -10,8 +10,8 @@ use mir.Syntax.{w64}
 use mir.Val.{Fits}
 use borrow.Author.Tests.{le-leb, lt-leb, eq-eqb, ne-eqb, leb-true}
 use lib.Dec.{leb, eqb}
-use lib.ListN.{length, drop, drop-of-length-le}
-use lib.Seq.{getD-drop, drop-cons}
+use lib.ListN.{length, take, drop, drop-of-length-le}
+use lib.Seq.{getD-drop, drop-cons, drop-drop, take-nil}
 use Rattle.diag.specs.declared.Span.{Span}
 use Rattle.diag.specs.declared.Diagnostic.{Diagnostic}
 use Rattle.diag.specs.Log.{error, Log, logged, appended, appendAll}
@@ -21,9 +21,10 @@ use Rattle.assembler.specs.declared.rules.Tally.{Tally}
 use Rattle.assembler.specs.declared.rules.Verdict.{Verdict}
 use Rattle.assembler.specs.declared.rules.Verdict.the-variants.{Other, WrongArity, TooMany, Expands}
 use Rattle.parser.specs.Row.{peek, ended}
+use Rattle.parser.specs.Views.{isSymbol}
 use Rattle.assembler.specs.Rows.{rows, placeOf}
 use Rattle.assembler.specs.Entries.{Entry, entryAt, behind, entries}
-use Rattle.assembler.specs.Rules.{counted, combinationsFrom, combinations, sameArity, verdict, after, ruleError, ruleErrors, ruleCount, noRules}
+use Rattle.assembler.specs.Rules.{counted, combinationsFrom, combinations, sameArity, readPart, verdict, after, ruleError, ruleErrors, ruleCount, noRules}
 use Rattle.assembler.proofs.Rows.{length-rows, entriesAt, entries-step, entries-end}
 use Rattle.assembler.proofs.Passes.{at-most-one, Passing, passing-start, passing-step, passing-end}
 
@@ -54,20 +55,20 @@ module _ (s : Sets) (t : Token) where
     unfolding counted
     counted-cut h g = rw (ne-eqb (t .kind) 6 a, eq-eqb (t .kind) 7 h, ← cut-high (s .product * s .size) g)
 
-    module _ (b : t .kind ≡ 7 → ⊥) where
-      pub counted-comma : t .kind ≡ 8 → s ≡ counted s t
+    module _ (b : t .kind ≡ 7 → ⊥) (x : Bool) (symbol : x ≡ isSymbol t) where
+      pub counted-member : x ≡ true → record { product = s .product; size = s .size + 1 } ≡ counted s t
       unfolding counted
-      counted-comma h = rw (ne-eqb (t .kind) 6 a, ne-eqb (t .kind) 7 b, eq-eqb (t .kind) 8 h)
+      counted-member h = rw (ne-eqb (t .kind) 6 a, ne-eqb (t .kind) 7 b, ← symbol, h)
 
-      pub counted-member : (t .kind ≡ 8 → ⊥) → record { product = s .product; size = s .size + 1 } ≡ counted s t
+      pub counted-other : x ≡ false → s ≡ counted s t
       unfolding counted
-      counted-member h = rw (ne-eqb (t .kind) 6 a, ne-eqb (t .kind) 7 b, ne-eqb (t .kind) 8 h)
+      counted-other h = rw (ne-eqb (t .kind) 6 a, ne-eqb (t .kind) 7 b, ← symbol, h)
 
   counted-low : s .product ≤ 262145 → counted s t .product ≤ 262145
   unfolding counted
-  counted-low h = go (eqb (t .kind) 6) (eqb (t .kind) 7) (eqb (t .kind) 8)
+  counted-low h = go (eqb (t .kind) 6) (eqb (t .kind) 7) (isSymbol t)
     where
-      go : (x y z : Bool) → cond x (record { product = s .product; size = 0 }) (cond y (record { product = min (s .product * s .size) 262145; size = s .size }) (cond z s (record { product = s .product; size = s .size + 1 }))) .product ≤ 262145
+      go : (x y z : Bool) → cond x (record { product = s .product; size = 0 }) (cond y (record { product = min (s .product * s .size) 262145; size = s .size }) (cond z (record { product = s .product; size = s .size + 1 }) s)) .product ≤ 262145
       go true y z = h
       go false true z = min-le-right (s .product * s .size) 262145
       go false false true = h
@@ -75,9 +76,9 @@ module _ (s : Sets) (t : Token) where
 
   counted-size : counted s t .size ≤ s .size + 1
   unfolding counted
-  counted-size = go (eqb (t .kind) 6) (eqb (t .kind) 7) (eqb (t .kind) 8)
+  counted-size = go (eqb (t .kind) 6) (eqb (t .kind) 7) (isSymbol t)
     where
-      go : (x y z : Bool) → cond x (record { product = s .product; size = 0 }) (cond y (record { product = min (s .product * s .size) 262145; size = s .size }) (cond z s (record { product = s .product; size = s .size + 1 }))) .size ≤ s .size + 1
+      go : (x y z : Bool) → cond x (record { product = s .product; size = 0 }) (cond y (record { product = min (s .product * s .size) 262145; size = s .size }) (cond z (record { product = s .product; size = s .size + 1 }) s)) .size ≤ s .size + 1
       go true y z = omega arith
       go false true z = omega arith
       go false false true = omega arith
@@ -87,52 +88,50 @@ module _ (s : Sets) (t : Token) where
 combinations-low-from : (s : Sets) (ts : List Token) → s .product ≤ 262145 → combinationsFrom s ts ≤ 262145
 unfolding combinationsFrom
 combinations-low-from s [] h = h
-combinations-low-from s (t ∷ ts) h = go (eqb (t .kind) 13) (combinations-low-from (counted s t) ts (counted-low s t h))
-  where
-    go : (b : Bool) → combinationsFrom (counted s t) ts ≤ 262145 → elim b [ true ↦ s .product | false ↦ combinationsFrom (counted s t) ts ] ≤ 262145
-    go true r = h
-    go false r = r
+combinations-low-from s (t ∷ ts) h = combinations-low-from (counted s t) ts (counted-low s t h)
 
 pub combinations-low : (ts : List Token) → combinations ts ≤ 262145
 unfolding combinations
 combinations-low ts = combinations-low-from (record { product = 1; size = 0 }) ts (omega arith)
 
 -- the walk has come to the index i
-pub record Counting (count : ℕ) (work : List ℕ) (at : ℕ) (s : Sets) (i : ℕ) : Type 0 where
-  pub whole : combinationsFrom s (drop i (rows count work)) ≡ combinations (drop at (rows count work))
+pub record Counting (count : ℕ) (work : List ℕ) (from to : ℕ) (s : Sets) (i : ℕ) : Type 0 where
+  pub whole : combinationsFrom s (take (to - i) (drop i (rows count work))) ≡ combinations (take (to - from) (drop from (rows count work)))
   pub low : s .product ≤ 262145
   pub size : s .size ≤ i
 
-pub counting-start : (count : ℕ) (work : List ℕ) (at : ℕ) → Counting count work at (record { product = 1; size = 0 }) at
+pub counting-start : (count : ℕ) (work : List ℕ) (from to : ℕ) → Counting count work from to (record { product = 1; size = 0 }) from
 unfolding combinations
-counting-start count work at = record { whole = refl; low = omega arith; size = omega arith }
+counting-start count work from to = record { whole = refl; low = omega arith; size = omega arith }
 
-module _ (count : ℕ) (work : List ℕ) (at : ℕ) (s : Sets) (i : ℕ) (c : Counting count work at s i) (room : 4 * count ≤ length work) where
-  here : i < count → drop i (rows count work) ≡ peek (rows count work) i ∷ drop (suc i) (rows count work)
-  here h = drop-cons (rows count work) i ended (omega (arith, length-rows count work room))
-
-  pub counting-stop : (t : Token) → i < count → t ≡ peek (rows count work) i → t .kind ≡ 13 → s .product ≡ combinations (drop at (rows count work))
+module _ (count : ℕ) (work : List ℕ) (from to : ℕ) (s : Sets) (i : ℕ) (c : Counting count work from to s i) (room : 4 * count ≤ length work) where
+  pub counting-on : (t : Token) (s′ : Sets) → i < to → i < count → t ≡ peek (rows count work) i → s′ ≡ counted s t → Counting count work from to s′ (i + 1)
   unfolding combinationsFrom
-  counting-stop t h e k =
-      let ends : eqb (peek (rows count work) i .kind) 13 ≡ true = ap (λ (t : Token). eqb (t .kind) 13) (sym e) ∙ eq-eqb (t .kind) 13 k in
-      sym (ap (combinationsFrom s) (here h) ∙ rw (ends, combinationsFrom)) ∙ c .whole
-
-  pub counting-on : (t : Token) (s′ : Sets) → i < count → t ≡ peek (rows count work) i → (t .kind ≡ 13 → ⊥) → s′ ≡ counted s t → Counting count work at s′ (i + 1)
-  unfolding combinationsFrom
-  counting-on t s′ h e k q =
+  counting-on t s′ h g e q =
       let ts : List Token = rows count work in
-      let goes : eqb (peek ts i .kind) 13 ≡ false = ap (λ (t : Token). eqb (t .kind) 13) (sym e) ∙ ne-eqb (t .kind) 13 k in
-      let one : combinationsFrom s (drop i ts) ≡ combinationsFrom (counted s (peek ts i)) (drop (suc i) ts) = ap (combinationsFrom s) (here h) ∙ rw (goes, combinationsFrom) in
+      let k : ℕ = to - suc i in
+      let more : to - i ≡ suc k = omega arith in
+      let less : to - (i + 1) ≡ k = omega arith in
+      let here : take (to - i) (drop i ts) ≡ peek ts i ∷ take k (drop (suc i) ts) =
+      ap (λ (n : ℕ). take n (drop i ts)) more ∙ ap (take (suc k)) (drop-cons ts i ended (omega (arith, length-rows count work room))) in
       let q′ : s′ ≡ counted s (peek ts i) = q ∙ ap (counted s) e in
       record {
-        whole = ap (λ (k : ℕ). combinationsFrom s′ (drop k ts)) (add-one i) ∙ ap (λ (x : Sets). combinationsFrom x (drop (suc i) ts)) q′ ∙ sym one ∙ c .whole;
+        whole =
+            ap (λ (n : ℕ). combinationsFrom s′ (take n (drop (i + 1) ts))) less ∙ ap (λ (n : ℕ). combinationsFrom s′ (take k (drop n ts))) (add-one i)
+            ∙ ap (λ (x : Sets). combinationsFrom x (take k (drop (suc i) ts))) q′ ∙ ap (combinationsFrom s) (sym here) ∙ c .whole;
         low = subst (λ (x : Sets). x .product ≤ 262145) (sym q) (counted-low s t (c .low));
         size = omega (arith, ap (λ (x : Sets). x .size) q, counted-size s t, c .size);
       }
 
-  pub counting-end : count ≤ i → s .product ≡ combinations (drop at (rows count work))
+  pub counting-past : count ≤ i → s .product ≡ combinations (take (to - from) (drop from (rows count work)))
   unfolding combinationsFrom
-  counting-end h = sym (ap (combinationsFrom s) (drop-of-length-le (rows count work) {i = i} (omega (arith, length-rows count work room)))) ∙ c .whole
+  counting-past h =
+      sym (ap (λ (r : List Token). combinationsFrom s (take (to - i) r)) (drop-of-length-le (rows count work) {i = i} (omega (arith, length-rows count work room)))
+      ∙ ap (combinationsFrom s) (take-nil {A = Token} (to - i))) ∙ c .whole
+
+  pub counting-end : to ≤ i → s .product ≡ combinations (take (to - from) (drop from (rows count work)))
+  unfolding combinationsFrom
+  counting-end h = let none : to - i ≡ 0 = omega arith in sym (ap (λ (n : ℕ). combinationsFrom s (take n (drop i (rows count work)))) none) ∙ c .whole
 
 -- ---- what becomes of a line
 pub arity-same : (p : Token) → p .end ≡ p .start → eqb (p .value) (p .start) ≡ sameArity p
@@ -159,9 +158,16 @@ module _ (ts : List Token) (i n : ℕ) (t : Token) (at : t ≡ peek ts i) where
     unfolding verdict
     verdict-arity h = rw (← at, eq-eqb (t .kind) 27 rule, opens, ← arity, h)
 
-    module _ (m : ℕ) (product : m ≡ combinations (drop (i + 1) ts)) where
-      product-is : combinations (drop (suc i) ts) ≡ m
-      product-is = sym (product ∙ ap (λ (k : ℕ). combinations (drop k ts)) (add-one i))
+    -- what it reads
+    module _ (o : Token) (comma : o ≡ peek ts (i + 3)) (to : ℕ) (next : to ≡ o .start) (m : ℕ) (product : m ≡ combinations (take (to - (i + 4)) (drop (i + 4) ts))) where
+      product-is : combinations (readPart (entryAt ts i)) ≡ m
+      unfolding readPart
+      product-is =
+          let e : suc i + 2 ≡ i + 3 = omega arith in
+          let z : suc i + 3 ≡ i + 4 = omega arith in
+          let place : peek (drop (suc i) ts) 2 .start ≡ to = ap (λ (t : Token). t .start) (getD-drop (suc i) ts 2 ended ∙ ap (peek ts) e ∙ sym comma) ∙ sym next in
+          sym (product ∙ sym (ap (λ (n : ℕ). combinations (take (n - (i + 4)) (drop 3 (drop (suc i) ts)))) place
+          ∙ ap (λ (r : List Token). combinations (take (to - (i + 4)) r)) (drop-drop 3 (suc i) ts ∙ ap (λ (k : ℕ). drop k ts) z)))
 
       pub verdict-expands : same ≡ true → n + m ≤ 262144 → Expands (n + m) ≡ verdict n (entryAt ts i)
       unfolding verdict
@@ -222,10 +228,10 @@ one-rule (Expands n) cut p = omega arith
 -- no more than the limit
 verdict-within : (n m : ℕ) (e : Entry) → verdict n e ≡ Expands m → m ≤ 262144
 unfolding verdict
-verdict-within n m e h = go (eqb (e .first .kind) 27) (sameArity (peek (e .rest) 0)) (leb (n + combinations (e .rest)) 262144) refl h
+verdict-within n m e h = go (eqb (e .first .kind) 27) (sameArity (peek (e .rest) 0)) (leb (n + combinations (readPart e)) 262144) refl h
   where
     total : ℕ
-    total = n + combinations (e .rest)
+    total = n + combinations (readPart e)
 
     go : (x y z : Bool) → leb total 262144 ≡ z → cond x (cond y (cond z (Expands total) TooMany) WrongArity) Other ≡ Expands m → m ≤ 262144
     go true true true f h = let t : total ≡ m = cc in omega (arith, leb-true total 262144 f)

@@ -8,16 +8,18 @@ use lib.Dec.{eqb, ltb}
 use lib.ListN.{length, getD, take, drop}
 use Rattle.tokens.specs.declared.Token.{Token}
 use Rattle.parser.specs.Row.{peek}
+use Rattle.parser.specs.Views.{isState}
 use Rattle.diag.specs.declared.Diagnostic.{Diagnostic}
 use Rattle.diag.specs.Log.{error, withRelated}
 use Rattle.assembler.specs.Rows.{placeOf}
 use Rattle.assembler.specs.Names.{sameName, isWord, firstEqual}
 
--- the index of a word, of another token none
+-- the index of a state's name, of another token none
 unfoldable pub nameAt : ℕ → Token → List ℕ
-nameAt i t = cond (isWord t) (i ∷ []) []
+unfolding isState
+nameAt i t = cond (isState t) (i ∷ []) []
 
--- the indices of the words up to the line's end, counted from i
+-- the indices of the names up to the line's end, counted from i
 unfoldable pub namesFrom : ℕ → List Token → List ℕ
 unfolding nameAt
 namesFrom i [] = []
@@ -47,10 +49,10 @@ finalError text ts declared qs before f = elim (listed text ts f before) [
   | none ↦ unknownError text ts declared qs f
 ]
 
--- the diagnostic of a token of F's line: of a word as a name, of another token none
+-- the diagnostic of a token of F's line: of a name, and of another token none
 unfoldable pub finalErrorAt : List ℕ → List Token → Bool → List ℕ → List ℕ → ℕ → List Diagnostic
-unfolding finalError
-finalErrorAt text ts declared qs before i = cond (isWord (peek ts i)) (finalError text ts declared qs before i) []
+unfolding finalError isState
+finalErrorAt text ts declared qs before i = cond (isState (peek ts i)) (finalError text ts declared qs before i) []
 
 unfoldable pub finalErrors : List ℕ → List Token → Bool → List ℕ → List ℕ → List ℕ → List Diagnostic
 unfolding finalError

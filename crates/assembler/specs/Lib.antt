@@ -6,3 +6,4 @@ pub mod Rules
 pub mod Entered
 pub mod Names
 pub mod Finals
+pub mod Records

@@ -14,6 +14,7 @@ use crate::declarations;
 use crate::entry;
 use diag::Diagnostic;
 use lexer::kind;
+use parser::view;
 use tokens::Token;
 
 // The code of a name that Q lacks.
@@ -46,16 +47,14 @@ fn clear_marks(text: &[u8], work: &mut [u32], count: usize, a: usize, b: usize)
     diag::clear(&mut work[b..e]);
 }
 
-// Marks the token at an index as one of Q's names, if it is a word.
+// Marks the token at an index as one of Q's names, if it is one.
 fn mark_state(text: &[u8], work: &mut [u32], count: usize, a: usize, b: usize, at: usize)
     requires { ⌜ Laid count a b (now work) × Interned (now text) (rows count (now work)) a (now work) × (at < count) ⌝ }
     ensures { λ _. ⌜ Kept b (now (work .entry)) (now (work .exit)) × ((qs : List ℕ) → Marks (now (text .entry)) (rows count (now (work .entry))) a b (now (work .entry)) qs [] → Marks (now (text .entry)) (rows count (now (work .entry))) a b (now (work .exit)) (qs ++ nameAt at (peek (rows count (now (work .entry))) at)) []) ⌝ }
 {
-    let t = entry::token_at(work, count, at);
-    if t.kind != kind::WORD {
-        return;
+    if view::is_state(entry::token_at(work, count, at)) {
+        mark(work, a, b, at, 1);
     }
-    mark(work, a, b, at, 1);
 }
 
 // Marks the names of the set in the line at an index as Q's.
@@ -132,11 +131,10 @@ fn final_at(
     requires { ⌜ Laid count a b (now work) × Interned (now text) (rows count (now work)) a (now work) × (at < count) × (errors + 1 < 2 ^ 64) ⌝ }
     ensures { λ r. ⌜ Kept b (now (work .entry)) (now (work .exit)) × ((qs before : List ℕ) → Marks (now (text .entry)) (rows count (now (work .entry))) a b (now (work .entry)) qs before → (logged (now (log .exit)) r ≡ appendAll (logged (now (log .entry)) errors) (finalErrorAt (now (text .entry)) (rows count (now (work .entry))) declared qs before at)) × Marks (now (text .entry)) (rows count (now (work .entry))) a b (now (work .exit)) qs (before ++ nameAt at (peek (rows count (now (work .entry))) at))) ⌝ }
 {
-    let t = entry::token_at(work, count, at);
-    if t.kind != kind::WORD {
-        return errors;
+    if view::is_state(entry::token_at(work, count, at)) {
+        return final_name(text, work, count, a, b, at, declared, log, errors);
     }
-    final_name(text, work, count, a, b, at, declared, log, errors)
+    errors
 }
 
 // The names of the set in the line at f, as those that F lists; those of the set at q are marked.

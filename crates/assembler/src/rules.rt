@@ -1,7 +1,7 @@
 // How many rules the lines stand for, and the diagnostics of rules.
 ghost use mathlib.Core.Path.{_≡_};
-ghost use Prim.Native.Nat.{_+_, _*_, _<_, _≤_, _^_};
-ghost use lib.ListN.{length, drop};
+ghost use Prim.Native.Nat.{_+_, _*_, _-_, _<_, _≤_, _^_};
+ghost use lib.ListN.{length, take, drop};
 ghost use Rattle.diag.specs.Log.{logged, appendAll};
 ghost use Rattle.diag.specs.declared.Span.{Span};
 ghost use Rattle.parser.specs.Row.{peek};
@@ -12,6 +12,7 @@ use crate::entry;
 use diag::Diagnostic;
 use diag::Span;
 use lexer::kind;
+use parser::view;
 use tokens::Token;
 
 // The number of a rule's item.
@@ -77,31 +78,30 @@ fn counted(s: Sets, t: Token) -> Sets
             size: s.size,
         };
     }
-    if t.kind == kind::COMMA {
-        return s;
+    if view::is_symbol(t) {
+        return Sets {
+            product: s.product,
+            size: s.size + 1,
+        };
     }
-    Sets {
-        product: s.product,
-        size: s.size + 1,
-    }
+    s
 }
 
-// The product of the sizes of the sets from an index to the line's end, cut off above the limit.
-pub fn combinations(work: &[u32], count: usize, at: usize) -> usize
+// The product of the sizes of the sets from an index to before another, cut off above the limit.
+fn combinations(work: &[u32], count: usize, from: usize, to: usize) -> usize
     requires { ⌜ (4 * count ≤ length (now work)) × (count < 2 ^ 32) ⌝ }
-    ensures { λ r. ⌜ r ≡ combinations (drop at (rows count (now (work .entry)))) ⌝ }
+    ensures { λ r. ⌜ r ≡ combinations (take (to - from) (drop from (rows count (now (work .entry))))) ⌝ }
 {
     let mut s = Sets {
         product: 1,
         size: 0,
     };
-    let mut i = at;
-    while i < count {
-        let t = entry::token_at(work, count, i);
-        if t.kind == kind::NEWLINE {
+    let mut i = from;
+    while i < to {
+        if count <= i {
             return s.product;
         }
-        s = counted(s, t);
+        s = counted(s, entry::token_at(work, count, i));
         i += 1;
     }
     s.product
@@ -127,7 +127,8 @@ fn verdict_at(work: &[u32], count: usize, at: usize, n: usize) -> Verdict
         return Verdict::Other;
     }
     if same_arity(entry::token_at(work, count, at + 1)) {
-        let total = n + combinations(work, count, at + 1);
+        let to = entry::wide(entry::token_at(work, count, at + 3).start);
+        let total = n + combinations(work, count, at + 4, to);
         if total <= MAX_TRANSITIONS {
             return Verdict::Expands(total);
         }
