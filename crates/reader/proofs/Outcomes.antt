@@ -1,7 +1,7 @@
 -- A reading call stage by stage: what the definition answers once a stage is decided.
 use mathlib.Core.Path.{_≡_, refl, sym, ap, _∙_}
 use mathlib.Core.Bool.{Bool, true, false}
-use mathlib.Core.List.{List, [], _∷_, map}
+use mathlib.Core.List.{List, [], _∷_}
 use mathlib.Core.Option.{Option, none, some}
 use Prim.Native.Nat.{ℕ, _+_, _≤_, _<_}
 use native.Mathlib.Omega.{arith}
@@ -16,7 +16,8 @@ use Rattle.language.specs.Infer.{machineOf}
 use Rattle.language.specs.Layout.{headOf, sheetWords}
 use Rattle.language.specs.Outcome.{Refusal, sheetTooShort, refusalOf, zeros, filled, Reply, machine, refused, ReadOutcome, readDiagnostics, wordsNeeded, readMachine, readWith, readOutcome}
 use Rattle.diag.specs.Log as D
-use Rattle.reader.specs.Reading.{diagnosticOf, reportReply}
+use Rattle.assembler.specs.Records.{recordsOf}
+use Rattle.reader.specs.Reading.{reportReply}
 use Rattle.reader.proofs.Reports.{sort-length, report-same}
 
 -- the lines of a text
@@ -42,8 +43,8 @@ module _ (t : List ℕ) (work : ℕ) (log sheet : List ℕ) where
 
     -- diagnostics, sorted, or row 5
     pub reported-outcome : (d : A.Diagnostic Span) (ds : List (A.Diagnostic Span)) → A.diagnosticsOf (linesOf t) ≡ d ∷ ds
-        → _≡_ {A = ReadOutcome} (record { reply = reportReply (length log) (length (d ∷ ds)); log = D.logAfter (length log) (D.sort (map diagnosticOf (d ∷ ds))); sheet = zeros (length sheet) }) (readOutcome t work log sheet)
-    unfolding A.diagnostics
+        → _≡_ {A = ReadOutcome} (record { reply = reportReply (length log) (length (d ∷ ds)); log = D.logAfter (length log) (D.sort (recordsOf (d ∷ ds))); sheet = zeros (length sheet) }) (readOutcome t work log sheet)
+    unfolding A.diagnostics recordsOf
     reported-outcome d ds e =
         report-same (d ∷ ds) (length log) (length sheet)
         ∙ some-diagnostics (A.sort (d ∷ ds)) (length ds) (linesOf t) (length log) (length sheet) (sort-length (d ∷ ds) ∙ omega arith)

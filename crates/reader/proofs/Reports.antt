@@ -17,7 +17,8 @@ use Rattle.diag.specs.Log as D
 use Rattle.diag.proofs.Cases.{by-test}
 use Rattle.diag.proofs.Records.{length-flat}
 use Rattle.diag.proofs.Logs.{log-sorted, log-cleared}
-use Rattle.reader.specs.Reading.{diagnosticOf, reportReply}
+use Rattle.assembler.specs.Records.{recordOf}
+use Rattle.reader.specs.Reading.{reportReply}
 
 -- ---- two stable sorts: the definition's inserts the first element last, before those that are not smaller; the log's the last element last, behind those
 -- that are not greater
@@ -78,21 +79,21 @@ sort-step : (d : Diagnostic) (ds : List Diagnostic) → sortBy key (d ∷ ds) �
 unfolding insertAll insert
 sort-step d ds = ap (λ (k : List Diagnostic). insertAll key k ds) (nothing d) ∙ insert-all d [] ds
 
-insert-same : (d : A.Diagnostic Span) (ds : List (A.Diagnostic Span)) → map diagnosticOf (A.insert d ds) ≡ insert (diagnosticOf d) (map diagnosticOf ds)
-unfolding A.insert insert
+insert-same : (d : A.Diagnostic Span) (ds : List (A.Diagnostic Span)) → map recordOf (A.insert d ds) ≡ insert (recordOf d) (map recordOf ds)
+unfolding A.insert insert recordOf
 insert-same d [] = refl
 insert-same d (e ∷ ds) = by-test (leb (d .place .start) (e .place .start))
     (λ t. rw (A.insert, insert, t))
     (λ t. rw (A.insert, insert, t, insert-same d ds))
 
-pub sort-same : (ds : List (A.Diagnostic Span)) → map diagnosticOf (A.sort ds) ≡ D.sort (map diagnosticOf ds)
+pub sort-same : (ds : List (A.Diagnostic Span)) → map recordOf (A.sort ds) ≡ D.sort (map recordOf ds)
 unfolding A.sort insertAll
 sort-same [] = refl
-sort-same (d ∷ ds) = insert-same d (A.sort ds) ∙ ap (insert (diagnosticOf d)) (sort-same ds) ∙ sym (sort-step (diagnosticOf d) (map diagnosticOf ds))
+sort-same (d ∷ ds) = insert-same d (A.sort ds) ∙ ap (insert (recordOf d)) (sort-same ds) ∙ sym (sort-step (recordOf d) (map recordOf ds))
 
 -- ---- the words
-words-same : (ds : List (A.Diagnostic Span)) → L.logWords ds ≡ D.flat (map diagnosticOf ds)
-unfolding L.logWords L.flat L.diagnosticWords D.flat
+words-same : (ds : List (A.Diagnostic Span)) → L.logWords ds ≡ D.flat (map recordOf ds)
+unfolding L.logWords L.flat L.diagnosticWords D.flat recordOf
 words-same [] = refl
 words-same (d ∷ ds) = ap (λ (w : List ℕ). L.diagnosticWords d ++ w) (words-same ds)
 
@@ -108,17 +109,17 @@ sort-length (d ∷ ds) = omega (arith, insert-length d (A.sort ds), sort-length 
 
 -- ---- row 5
 pub report-same : (ds : List (A.Diagnostic Span)) (n s : ℕ)
-    → _≡_ {A = ReadOutcome} (record { reply = reportReply n (length ds); log = D.logAfter n (D.sort (map diagnosticOf ds)); sheet = zeros s }) (readDiagnostics (A.sort ds) n s)
+    → _≡_ {A = ReadOutcome} (record { reply = reportReply n (length ds); log = D.logAfter n (D.sort (map recordOf ds)); sheet = zeros s }) (readDiagnostics (A.sort ds) n s)
 unfolding reportReply readDiagnostics D.logAfter D.padded
 report-same ds n s =
     let k : length (A.sort ds) ≡ length ds = sort-length ds in
-    let w : L.logWords (A.sort ds) ≡ D.flat (D.sort (map diagnosticOf ds)) = words-same (A.sort ds) ∙ ap D.flat (sort-same ds) in
-    let m : length (D.sort (map diagnosticOf ds)) ≡ length ds = ap length (sym (sort-same ds)) ∙ length-map (A.sort ds) diagnosticOf ∙ k in
+    let w : L.logWords (A.sort ds) ≡ D.flat (D.sort (map recordOf ds)) = words-same (A.sort ds) ∙ ap D.flat (sort-same ds) in
+    let m : length (D.sort (map recordOf ds)) ≡ length ds = ap length (sym (sort-same ds)) ∙ length-map (A.sort ds) recordOf ∙ k in
     by-test (ltb (n / 5) (length ds))
     (λ t. let h : n / 5 < length ds = ltb-true (n / 5) (length ds) t in
     rw (reportReply, readDiagnostics, D.logAfter, k, t, m, lt-leb (5 * length ds) n (omega arith), k))
     (λ t. let h : length ds ≤ n / 5 = ltb-false (n / 5) (length ds) t in
-    rw (reportReply, readDiagnostics, D.logAfter, D.padded, k, t, m, le-leb (5 * length ds) n (omega arith), w, k, length-flat (D.sort (map diagnosticOf ds)), m))
+    rw (reportReply, readDiagnostics, D.logAfter, D.padded, k, t, m, le-leb (5 * length ds) n (omega arith), w, k, length-flat (D.sort (map recordOf ds)), m))
 
 -- ---- what the function's returns ask for
 module _ (n k : ℕ) where
