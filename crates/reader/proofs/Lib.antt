@@ -7,3 +7,4 @@ pub mod Outcomes
 pub mod Declared
 pub mod HeadMeans
 pub mod TokenSays
+pub mod ItemSays
