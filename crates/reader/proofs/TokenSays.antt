@@ -62,11 +62,11 @@ unfolding find wordValue keyword position meaningOf known member valued
 kind-rule = table-rule kinds kindRows refl refl refl refl
 
 -- F says of each value what G says of its meaning
-abbrev RowsSay : {B C : Type 0} → (ℕ → C) → (B → C) → List (Row B) → Type 0
+abbrev pub RowsSay : {B C : Type 0} → (ℕ → C) → (B → C) → List (Row B) → Type 0
 RowsSay F G [] = Unit {0}
 RowsSay F G (row n a ∷ r) = (F n ≡ G a) × RowsSay F G r
 
-found-row : {B C : Type 0} (F : ℕ → C) (G : B → C) (r : List (Row B)) (v : ℕ) (b : B) → RowsSay F G r → find r v ≡ some b → F v ≡ G b
+pub found-row : {B C : Type 0} (F : ℕ → C) (G : B → C) (r : List (Row B)) (v : ℕ) (b : B) → RowsSay F G r → find r v ≡ some b → F v ≡ G b
 unfolding find
 found-row F G [] v b s e = none-some b e
 found-row {B} F G (row n a ∷ r) v b s e =

@@ -16,7 +16,7 @@ use machine::Span;
 use sheet::rules;
 use tokens::Token;
 
-// The blank that no text can declare otherwise than by default.
+// The blank unless another is declared.
 pub const BLANK: u32 = 0x2423;
 // The values of words: the kinds of machines, the outputs and the orders of bits.
 const ACCEPTOR: u32 = 0x110010;

@@ -4,8 +4,8 @@ ghost use Prim.Native.Nat.{_+_, _≤_};
 ghost use lib.ListN.{length};
 ghost use lib.Seq.{sets};
 ghost use Rattle.language.specs.Layout.{flag, kindNumber, placeWords, declaredWords, countWords, headWords};
-ghost use Rattle.language.specs.Outcome.{refusalNumber, refusalValue, replyNumber, replyValue, replyWords};
-ghost use Rattle.reader.specs.Answer.{spanIn, kindIn, declaredIn, countsIn, headIn, refusalIn, replyIn};
+ghost use Rattle.language.specs.Outcome.{replyNumber, replyValue, replyWords};
+ghost use Rattle.reader.specs.Answer.{spanIn, kindIn, declaredIn, countsIn, headIn, refusalNumber, refusalValue, replyIn};
 ghost use Rattle.reader.specs.Reading.{answerRow};
 ghost use Rattle.reader.specs.Words.{decoderTag, decoderValue, mapWords};
 use crate::Answer;
@@ -136,7 +136,7 @@ fn head_words(row: &mut [u32; 36], head: Head)
 
 // The number of a refusal.
 fn refusal_number(r: Refusal) -> u32
-    ensures { λ n. ⌜ n ≡ refusalNumber (refusalIn r) ⌝ }
+    ensures { λ n. ⌜ n ≡ refusalNumber r ⌝ }
 {
     match r {
         Refusal::TextTooLong => 1,
@@ -150,7 +150,7 @@ fn refusal_number(r: Refusal) -> u32
 
 // The value beside it.
 fn refusal_value(r: Refusal) -> u64
-    ensures { λ n. ⌜ n ≡ refusalValue (refusalIn r) ⌝ }
+    ensures { λ n. ⌜ n ≡ refusalValue r ⌝ }
 {
     match r {
         Refusal::TextTooLong => 0,
