@@ -1,5 +1,5 @@
 -- The head by value, as the code has it, from the definition's.
-use Rattle.lexer.specs.Tokens as T
+use Rattle.lexer.specs.declared.Span as T
 use Rattle.language.specs.Machine as M
 use Rattle.language.specs.Layout as L
 use Rattle.machine.specs.declared.Span.{Span}

@@ -1,0 +1,21 @@
+-- `reader::admission::refusal` meets its contract: its tests are those of the definition, in their order.
+use Rattle.reader.proofs.Admissions.{too-long, work-too-short, not-utf8, outside, all-inside}
+use borrow.Author.Needs.{needs}
+use Rattle.reader.proofs.admission.refusal.Statement.{statement}
+use Rattle.reader.proofs.admission.refusal.Tie as tie
+
+pub refusal-spec : {M : Type 1} → statement M
+refusal-spec =
+    tie.close
+    (tie.spec
+    (λ c. search (needs, too-long))
+    (λ c. search needs)
+    (λ c. search needs)
+    (λ c. search (needs, work-too-short))
+    (λ c κs. search needs)
+    (λ c. search (needs, not-utf8))
+    (λ c κs. search needs)
+    (λ c. search needs)
+    (λ c. search needs)
+    (λ c. search (needs, outside))
+    (λ c. search (needs, all-inside)))
