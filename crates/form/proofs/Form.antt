@@ -12,8 +12,9 @@ use Rattle.language.specs.Agreement.{Answer, groups, records, stateIn, textIn, 
 use Rattle.emit.specs.Output.{Output, appended}
 use Rattle.emit.proofs.Appends.{appended-nil}
 use Rattle.pieces.specs.Writes.{Writes}
+use Rattle.lists.specs.Places.{Every, NameIn}
 use Rattle.form.specs.Sections.{headLines, statesLine, symbolsLine, blankLine, startLine, finalsLine, declaredLines}
-use Rattle.form.specs.WellFormed.{Every, NameIn, RuleFormed, DeclaredFormed, BodyFormed, sigmaFrom, gammaFrom, headerFrom, trailingFrom, rulesFrom, WellFormed}
+use Rattle.form.specs.WellFormed.{RuleFormed, DeclaredFormed, BodyFormed, sigmaFrom, gammaFrom, headerFrom, trailingFrom, rulesFrom, WellFormed}
 use Rattle.pieces.proofs.Chain.{same, _▹_}
 
 -- the letters Σ and Γ

@@ -1,8 +1,3 @@
-pub mod Parts
-pub mod Places
-pub mod Comments
-pub mod Lists
-pub mod Finals
 pub mod RuleWords
 pub mod HeadWords
 pub mod Form

@@ -17,8 +17,9 @@ use Rattle.machine.specs.declared.Span as D
 use Rattle.machine.specs.Head.{spanOf, spanIn}
 use Rattle.emit.specs.Output.{Output}
 use Rattle.pieces.specs.Writes.{Adds, Writes}
-use Rattle.form.specs.Lists.{ruleLeft, ruleRight}
-use Rattle.form.specs.WellFormed.{Every, Utf8At, NameIn, column, RuleFormed}
+use Rattle.form.specs.Rules.{ruleLeft, ruleRight}
+use Rattle.lists.specs.Places.{Every, Utf8At, NameIn, column}
+use Rattle.form.specs.WellFormed.{RuleFormed}
 use Rattle.pieces.proofs.Chain.{known, same, _▹_, Goes, goes-start, goes-on, goes-end}
 
 -- ---- the members of a list by a function of each

@@ -1,4 +1,4 @@
 pub mod Answers
-pub mod Lists
+pub mod Rules
 pub mod WellFormed
 pub mod Sections

@@ -1,36 +1,15 @@
 -- What the form asks of an answer, and every answer to an admitted text has: symbols are scalar values, names and comments are UTF-8, strings are whole.
-use Prim.Native.Nat.{ℕ, _+_, _-_, _*_}
+use Prim.Native.Nat.{ℕ, _+_, _*_}
 use mathlib.Core.Bool.{true}
-use mathlib.Core.List.{List, [], _∷_, map}
+use mathlib.Core.List.{List}
 use mathlib.Core.Path.{_≡_}
-use lib.ListN.{take, drop}
-use Rattle.chars.specs.Utf8.{scalar, scalars, encode}
-use Rattle.lexer.specs.Tokens.{Span}
+use lib.ListN.{drop}
+use Rattle.chars.specs.Utf8.{scalar, scalars}
 use Rattle.pieces.specs.Strings.{Whole}
 use Rattle.language.specs.Machine.{Decoder, asWord, asUnary, asBinary}
 use Rattle.language.specs.Layout.{Counts, Head}
 use Rattle.language.specs.Agreement.{Answer, groups, records, at, placeAt, charactersAt}
-
--- every member has the property
-abbrev pub Every : {A : Type 0} → (A → Type 0) → List A → Type 0
-Every p [] = Unit {0}
-Every p (a ∷ l) = p a × Every p l
-
--- the bytes at a place
-abbrev pub bytesAt : List ℕ → Span → List ℕ
-bytesAt text p = take (p .end - p .start) (drop (p .start) text)
-
--- they are UTF-8
-abbrev pub Utf8At : List ℕ → Span → Type 0
-Utf8At text p = encode (charactersAt text p) ≡ bytesAt text p
-
--- the place that a record of the sheet begins with holds UTF-8
-abbrev pub NameIn : List ℕ → List ℕ → Type 0
-NameIn text ws = Utf8At text (placeAt ws 0)
-
--- the i-th words of n records of k words
-abbrev pub column : ℕ → ℕ → ℕ → List ℕ → List ℕ
-column k i n ws = map (λ r. at r i) (groups k n ws)
+use Rattle.lists.specs.Places.{Every, Utf8At, NameIn, column}
 
 -- a rule of the sheet
 pub record RuleFormed (text ws : List ℕ) : Type 0 where

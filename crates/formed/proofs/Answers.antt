@@ -35,7 +35,8 @@ use Rattle.machine.specs.Head as H
 use Rattle.machine.specs.Head.{kindOf, decoderOf, kindIn, decoderIn, headIn}
 use Rattle.pieces.specs.Strings.{Whole}
 use Rattle.form.specs.Answers.{answer}
-use Rattle.form.specs.WellFormed.{Every, Utf8At, NameIn, column, RuleFormed, DecoderFormed, WellFormed}
+use Rattle.lists.specs.Places.{Every, Utf8At, NameIn, column}
+use Rattle.form.specs.WellFormed.{RuleFormed, DecoderFormed, WellFormed}
 
 -- ---- members
 
