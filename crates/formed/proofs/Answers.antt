@@ -1,22 +1,22 @@
 -- Every answer to an admitted text is well formed: names, strings and comments stand where its places say, and its symbols are characters of the text's set.
-use Prim.Native.Nat.{ℕ, suc, _+_, _*_, _<_, _≤_}
+use Prim.Native.Nat.{ℕ, suc, _+_, _-_, _*_, _<_, _≤_}
 use native.Mathlib.Omega.{arith}
 use mathlib.Core.Bool.{true}
 use mathlib.Core.List.{List, [], _∷_, _++_, map}
 use mathlib.Core.Option.{Option, none, some}
-use mathlib.Core.Path.{_≡_, refl, sym, ap, subst, _∙_}
+use mathlib.Core.Path.{_≡_, refl, sym, ap, ap₂, subst, _∙_}
 use lib.ListN.{length, getD, drop}
 use Rattle.chars.specs.Utf8.{scalar, scalars, sizes, encode, decode, validUpTo}
 use Rattle.chars.proofs.Theorems.{decode-scalars, length-encode, valid-whole}
 use Rattle.chars.proofs.Tests.{and-both}
 use Rattle.lexer.specs.Tokens.{Span, closed, inside, unescape}
-use Rattle.language.specs.Machine.{Located, Kind, acceptor, transducer, enumerator, beaver, BitOrder, lsb, msb, Decoder, asWord, asUnary, asBinary, State, Rule, Machine}
+use Rattle.language.specs.Machine.{Located, Decoder, asWord, asUnary, asBinary, State, Rule, Machine}
 use Rattle.language.specs.Content.{ActionContent, RuleContent, Content, contentOf}
 use Rattle.language.specs.Lines.{readLines}
 use Rattle.language.specs.Infer.{machineOf}
 use Rattle.language.specs.Layout.{placeOrNone, locatedWords, flat, Head, headOf, stateWords, ruleWords, sheetWords}
 use Rattle.language.specs.Agreement.{Answer, groups, records, placeAt, actionIn, charactersAt, ruleIn, contentOfAnswer}
-use Rattle.language.specs.Outcome.{admitted, formOf}
+use Rattle.language.specs.Outcome.{admitted, zeros, formOf}
 use Rattle.language.proofs.Every as L
 use Rattle.language.proofs.Every.{Maybe}
 use Rattle.language.proofs.LexSound.{AllFine}
@@ -31,12 +31,12 @@ use Rattle.language.proofs.RoundTrip.{admitted-fine, fine-scalars, read-good}
 use Rattle.language.proofs.Claim.{is-short, is-valid}
 use Rattle.language.specs.Plain.{plain}
 use Rattle.machine.specs.declared.Head as D
-use Rattle.machine.specs.Head as H
-use Rattle.machine.specs.Head.{kindOf, decoderOf, kindIn, decoderIn, headIn}
+use Rattle.machine.specs.Head.{headIn}
 use Rattle.pieces.specs.Strings.{Whole}
 use Rattle.form.specs.Answers.{answer}
 use Rattle.lists.specs.Places.{Every, Utf8At, NameIn, column}
 use Rattle.form.specs.WellFormed.{RuleFormed, DecoderFormed, WellFormed}
+use Rattle.formed.specs.Read.{machineIn, ReadAs}
 
 -- ---- members
 
@@ -192,38 +192,23 @@ text-formed t rest h =
     let fine : GoodContent (contentOf m) = subst GoodContent (sym (content-facts (readLines (decode t)))) (content-good (factsOf (readLines (decode t))) (read-good (decode t) (admitted-fine t h))) in
     subst (λ x. WellFormed (record { head = headOf m; sheet = sheetWords m ++ rest; text = x })) whole (answer-formed (decode t) (decode-scalars t) short m (machine-placed (decode t)) fine rest)
 
--- ---- by value
+-- what a caller has who read a text as a machine
+module _ (t : List ℕ) (head : D.Head) (sheet : List ℕ) (r : ReadAs t (headIn head) sheet) where
+  -- the words behind the sheet's
+  rest : List ℕ
+  rest = zeros (length sheet - length (sheetWords (machineIn t)))
 
-kind-back : (k : Kind) → kindIn (kindOf k) ≡ k
-kind-back acceptor = refl
-kind-back transducer = refl
-kind-back enumerator = refl
-kind-back beaver = refl
-
-decoder-back : (d : Decoder) → decoderIn (decoderOf d) ≡ d
-decoder-back asWord = refl
-decoder-back (asUnary c) = refl
-decoder-back (asBinary lsb) = refl
-decoder-back (asBinary msb) = refl
-
--- the head by value gives the head back
-head-back : (h : Head) → headIn (H.headOf h) ≡ h
-unfolding H.headOf
-head-back h = rw (kind-back (h .kind), decoder-back (h .output))
-
--- what a caller has who read an admitted text as a machine
-module _ (t rest : List ℕ) (h : admitted t ≡ true) (head : D.Head) (sheet : List ℕ)
-    (e : head ≡ H.headOf (headOf (machineOf (readLines (decode t))))) (s : sheet ≡ sheetWords (machineOf (readLines (decode t))) ++ rest) where
-  answer-is : answer head sheet t ≡ record { head = headOf (machineOf (readLines (decode t))); sheet = sheetWords (machineOf (readLines (decode t))) ++ rest; text = t }
-  answer-is = rw (e, s, head-back (headOf (machineOf (readLines (decode t)))))
+  answer-is : answer head sheet t ≡ record { head = headOf (machineIn t); sheet = sheetWords (machineIn t) ++ rest; text = t }
+  unfolding rest
+  answer-is = ap₂ (λ (h : Head) (s : List ℕ). record { head = h; sheet = s; text = t }) (r .head-is) (r .sheet-is)
 
   -- what `plain_form` asks
   pub read-formed : WellFormed (answer head sheet t)
-  read-formed = subst WellFormed (sym answer-is) (text-formed t rest h)
+  read-formed = subst WellFormed (sym answer-is) (text-formed t rest (r .is-admitted))
 
   -- and what it writes
   pub read-form : encode (plain (contentOfAnswer (answer head sheet t))) ≡ formOf t
   unfolding formOf
   read-form =
       ap (λ a. encode (plain (contentOfAnswer a))) answer-is ∙
-      ap (λ c. encode (plain c)) (answer-of-text t rest (is-valid t h) (omega (arith, is-short t h)))
+      ap (λ c. encode (plain c)) (answer-of-text t rest (is-valid t (r .is-admitted)) (omega (arith, is-short t (r .is-admitted))))

@@ -1,0 +1,65 @@
+// Writing the plain form of a description: a text is read, and the form of its machine is put at the front of a lent output.
+ghost use mathlib.Core.Bool.{true};
+ghost use mathlib.Core.List.{List};
+ghost use mathlib.Core.Path.{_≡_};
+ghost use Prim.Native.Nat.{ℕ};
+ghost use lib.ListN.{length};
+ghost use Rattle.language.specs.Outcome.{formOf, writeForm, writeOutcome};
+ghost use Rattle.reader.specs.Answer.{readIn};
+ghost use Rattle.reader.specs.declared.Answer.the-variants.{Machine};
+ghost use Rattle.formed.specs.Read.{ReadAs};
+ghost use Rattle.writer.specs.Answer.{writeIn, leavesWork};
+ghost use Rattle.writer.specs.Given.{given, givenBy};
+use machine::Head;
+use reader::Answer;
+use reader::Refusal;
+
+pub mod words;
+
+// The longest plain form.
+pub const MAX_BYTES: usize = 4_194_304;
+
+// What a writing call answers (paper 01, "What a call returns").
+pub enum WriteAnswer {
+    // The length of the form, which stands at the output's front.
+    Written(usize),
+    // The number of diagnostics.
+    Diagnostics(usize),
+    // What reading is refused for.
+    Refused(Refusal),
+    // The bytes that the form needs.
+    OutputTooShort(u64),
+}
+
+// The form of the machine that a text was read as, at the front of the output if it is short enough.
+fn write_form(head: Head, text: &[u8], sheet: &[u32], output: &mut [u8]) -> WriteAnswer
+    requires { ⌜ ReadAs (now text) head (now sheet) ⌝ }
+    ensures { λ r. ⌜ (log : List ℕ) → writeIn r log (now (sheet .entry)) (now (output .exit)) ≡ writeForm (formOf (now (text .entry))) (readIn (Machine head) log (now (sheet .entry))) (now (output .entry)) ⌝ }
+{
+    let n = form::plain_form(head, sheet, text, &mut output[..0]);
+    if output.len() < n {
+        return WriteAnswer::OutputTooShort(n as u64);
+    }
+    if MAX_BYTES < n {
+        return WriteAnswer::OutputTooShort(n as u64);
+    }
+    WriteAnswer::Written(form::plain_form(head, sheet, text, output))
+}
+
+// Writes the plain form of a text: answers its length; or the number of diagnostics, which the log holds; or a refusal.
+pub fn write(
+    text: &[u8],
+    work: &mut [u32],
+    log: &mut [u32],
+    sheet: &mut [u32],
+    output: &mut [u8],
+) -> WriteAnswer
+    ensures { λ r. ⌜ (writeIn r (now (log .exit)) (now (sheet .exit)) (now (output .exit)) ≡ writeOutcome (now (text .entry)) (length (now (work .entry))) (now (log .entry)) (now (sheet .entry)) (now (output .entry))) × (leavesWork r ≡ true → now (work .exit) ≡ now (work .entry)) ⌝ }
+{
+    let a = reader::read(text, work, log, sheet);
+    match a {
+        Answer::Machine(head) => write_form(head, text, sheet, output),
+        Answer::Diagnostics(n) => WriteAnswer::Diagnostics(n),
+        Answer::Refused(r) => WriteAnswer::Refused(r),
+    }
+}
