@@ -1,14 +1,12 @@
 // Writing the plain form of a description: a text is read, and the form of its machine is put at the front of a lent output.
 ghost use mathlib.Core.Bool.{true};
-ghost use mathlib.Core.List.{List};
 ghost use mathlib.Core.Path.{_≡_};
-ghost use Prim.Native.Nat.{ℕ};
 ghost use lib.ListN.{length};
-ghost use Rattle.language.specs.Outcome.{formOf, writeForm, writeOutcome};
-ghost use Rattle.reader.specs.Answer.{readIn};
-ghost use Rattle.reader.specs.declared.Answer.the-variants.{Machine};
+ghost use Rattle.language.specs.Outcome.{formOf, writeOutcome};
+ghost use Rattle.machine.specs.Head.{headIn};
+ghost use Rattle.reader.specs.Reading.{leavesWorkNumber};
 ghost use Rattle.formed.specs.Read.{ReadAs};
-ghost use Rattle.writer.specs.Answer.{writeIn, leavesWork};
+ghost use Rattle.writer.specs.Answer.{writeReplyIn, writeIn, formIn, formReply, leavesWork};
 ghost use Rattle.writer.specs.Given.{given, givenBy};
 use machine::Head;
 use reader::Answer;
@@ -33,8 +31,8 @@ pub enum WriteAnswer {
 
 // The form of the machine that a text was read as, at the front of the output if it is short enough.
 fn write_form(head: Head, text: &[u8], sheet: &[u32], output: &mut [u8]) -> WriteAnswer
-    requires { ⌜ ReadAs (now text) head (now sheet) ⌝ }
-    ensures { λ r. ⌜ (log : List ℕ) → writeIn r log (now (sheet .entry)) (now (output .exit)) ≡ writeForm (formOf (now (text .entry))) (readIn (Machine head) log (now (sheet .entry))) (now (output .entry)) ⌝ }
+    requires { ⌜ ReadAs (now text) (headIn head) (now sheet) ⌝ }
+    ensures { λ r. ⌜ formIn r (now (output .exit)) ≡ formReply (formOf (now (text .entry))) (now (output .entry)) ⌝ }
 {
     let n = form::plain_form(head, sheet, text, &mut output[..0]);
     if output.len() < n {
@@ -54,7 +52,7 @@ pub fn write(
     sheet: &mut [u32],
     output: &mut [u8],
 ) -> WriteAnswer
-    ensures { λ r. ⌜ (writeIn r (now (log .exit)) (now (sheet .exit)) (now (output .exit)) ≡ writeOutcome (now (text .entry)) (length (now (work .entry))) (now (log .entry)) (now (sheet .entry)) (now (output .entry))) × (leavesWork r ≡ true → now (work .exit) ≡ now (work .entry)) ⌝ }
+    ensures { λ r. ⌜ (writeIn r (now (log .exit)) (now (sheet .exit)) (now (output .exit)) ≡ writeOutcome (now (text .entry)) (length (now (work .entry))) (now (log .entry)) (now (sheet .entry)) (now (output .entry))) × (leavesWork (writeReplyIn r) ≡ true → now (work .exit) ≡ now (work .entry)) ⌝ }
 {
     let a = reader::read(text, work, log, sheet);
     match a {
@@ -62,4 +60,20 @@ pub fn write(
         Answer::Diagnostics(n) => WriteAnswer::Diagnostics(n),
         Answer::Refused(r) => WriteAnswer::Refused(r),
     }
+}
+
+// The same for callers in other languages: the answer in 36 words, and its number.
+#[no_mangle]
+pub extern "C" fn pevzoncs_write(
+    text: &[u8],
+    work: &mut [u32],
+    log: &mut [u32],
+    sheet: &mut [u32],
+    output: &mut [u8],
+    answer: &mut [u32],
+) -> u32
+    ensures { λ n. ⌜ (given n (now (answer .exit)) (now (log .exit)) (now (sheet .exit)) (now (output .exit)) ≡ givenBy (writeOutcome (now (text .entry)) (length (now (work .entry))) (now (log .entry)) (now (sheet .entry)) (now (output .entry))) (now (answer .entry))) × (leavesWorkNumber n ≡ true → now (work .exit) ≡ now (work .entry)) ⌝ }
+{
+    let a = write(text, work, log, sheet, output);
+    words::give(a, answer)
 }

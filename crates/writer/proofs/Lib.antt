@@ -1,0 +1,4 @@
+pub mod AnswerWords
+pub mod Forms
+pub mod Calls
+pub mod Claim
