@@ -35,13 +35,12 @@ fn write_form(head: Head, text: &[u8], sheet: &[u32], output: &mut [u8]) -> Writ
     ensures { λ r. ⌜ formIn r (now (output .exit)) ≡ formReply (formOf (now (text .entry))) (now (output .entry)) ⌝ }
 {
     let n = form::plain_form(head, sheet, text, &mut output[..0]);
-    if output.len() < n {
+    let room = emit::least(output.len(), MAX_BYTES);
+    if room < n {
         return WriteAnswer::OutputTooShort(n as u64);
     }
-    if MAX_BYTES < n {
-        return WriteAnswer::OutputTooShort(n as u64);
-    }
-    WriteAnswer::Written(form::plain_form(head, sheet, text, output))
+    let m = form::plain_form(head, sheet, text, &mut output[..n]);
+    WriteAnswer::Written(m)
 }
 
 // Writes the plain form of a text: answers its length; or the number of diagnostics, which the log holds; or a refusal.

@@ -3,10 +3,11 @@ use Prim.Native.Nat.{_*_, _<_}
 use lib.ListN.{length}
 use Rattle.language.specs.Outcome.{formOf}
 use Rattle.machine.specs.Head.{headIn}
+use Rattle.emit.proofs.least.Reads as least-reads
 use Rattle.form.proofs.plain_form.Reads as plain-form-reads
 use Rattle.formed.proofs.Answers.{read-formed}
 use Rattle.formed.proofs.Bounds.{form-fits}
-use Rattle.writer.proofs.Forms.{too-short, too-long, form-stands}
+use Rattle.writer.proofs.Forms.{front-count, too-short, form-stands}
 use borrow.Author.Needs.{needs}
 use Rattle.writer.proofs.write_form.Statement.{statement}
 use Rattle.writer.proofs.write_form.Tie as tie
@@ -15,7 +16,7 @@ use Rattle.writer.proofs.write_form.Lts as lts
 
 -- what is known where the function begins
 abbrev Start : Type 0
-Start = lts.Start (plain-form-reads.Asked, plain-form-reads.Learnt) reads.Pre reads.Post
+Start = lts.Start (plain-form-reads.Asked, plain-form-reads.Learnt, least-reads.Asked, least-reads.Learnt) reads.Pre reads.Post
 
 -- the counts of the head are words of 32 bits, and so are those of the sheet
 fits : (s : Start) → length (formOf (s .args .text .now)) < 18446744073709551615
@@ -32,16 +33,14 @@ write-form-spec =
     (λ c κs.
     let s = c .before .before .before .before in
     read-formed (s .args .text .now) (s .args .head) (s .args .sheet .now) (s .pre))
-    (λ c. search needs)
-    (λ c.
-    let called = c .before .before .before in
-    let s = called .before .before .before .before .before in
-    too-short (s .args .text .now) (s .args .head) (s .args .sheet .now) (s .pre) (fits s) _ _ (called .plain-form .ensures) (s .args .output .now) (c .if1 .taken))
+    (λ c κs. search needs)
     (λ c. search needs)
     (λ c.
     let called = c .before .before .before .before in
     let s = called .before .before .before .before .before in
-    too-long (s .args .text .now) (s .args .head) (s .args .sheet .now) (s .pre) (fits s) _ _ (called .plain-form .ensures) (s .args .output .now) (c .before .if1 .left) (c .if2 .taken))
+    too-short (s .args .text .now) (s .args .head) (s .args .sheet .now) (s .pre) (fits s) _ _ (called .plain-form .ensures) (s .args .output .now) _ (c .before .least .ensures) (c .if1 .taken))
+    (λ c. search needs)
+    (λ c. front-count _ _ _ (c .before .if1 .left) (c .before .before .least .ensures))
     (λ c κs.
     let s = c .before .before .before .before .before .before .before .before .before .before in
     read-formed (s .args .text .now) (s .args .head) (s .args .sheet .now) (s .pre))
@@ -51,4 +50,4 @@ write-form-spec =
     let fitting = again .before .before in
     let called = fitting .before .before .before .before in
     let s = called .before .before .before .before .before in
-    form-stands (s .args .text .now) (s .args .head) (s .args .sheet .now) (s .pre) (fits s) _ _ (called .plain-form .ensures) (s .args .output .now) (fitting .before .if1 .left) (fitting .if2 .left) _ _ (again .plain-form2 .ensures) (s .good .1 .1 .1 .0 .0)))
+    form-stands (s .args .text .now) (s .args .head) (s .args .sheet .now) (s .pre) (fits s) _ _ (called .plain-form .ensures) (s .args .output .now) _ (fitting .before .least .ensures) (fitting .if1 .left) _ _ (again .plain-form2 .ensures) (s .good .1 .1 .1 .0 .0)))
