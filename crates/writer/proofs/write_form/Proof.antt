@@ -40,7 +40,7 @@ write-form-spec =
     let s = called .before .before .before .before .before in
     too-short (s .args .text .now) (s .args .head) (s .args .sheet .now) (s .pre) (fits s) _ _ (called .plain-form .ensures) (s .args .output .now) _ (c .before .least .ensures) (c .if1 .taken))
     (λ c. search needs)
-    (λ c. front-count _ _ _ (c .before .if1 .left) (c .before .before .least .ensures))
+    (λ c. search (needs, front-count))
     (λ c κs.
     let s = c .before .before .before .before .before .before .before .before .before .before in
     read-formed (s .args .text .now) (s .args .head) (s .args .sheet .now) (s .pre))
