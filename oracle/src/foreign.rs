@@ -152,7 +152,7 @@ mod linked {
                 answer.len(),
             )
         };
-        assert_eq!(number, answer[0], "the number returned is the row's");
+        assert_eq!(number, answer[0], "the number that pevzoncs_write answers");
         answer
     }
 }
