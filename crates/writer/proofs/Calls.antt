@@ -1,7 +1,7 @@
 -- A writing call by the answer of the reading call in it: a machine's form is written, and everything else is handed on.
 use Prim.Native.Nat.{ℕ}
 use mathlib.Core.Bool.{Bool, true, false, _||_, false≢true}
-use mathlib.Core.List.{List}
+use mathlib.Core.List.{List, []}
 use mathlib.Core.Path.{_≡_, refl, sym, ap, subst, _∙_}
 use lib.Dec.{ltb}
 use lib.ListN.{length}
@@ -20,7 +20,7 @@ use Rattle.formed.specs.Read.{ReadAs}
 use Rattle.formed.proofs.Readings.{machine-read}
 use Rattle.writer.specs.declared.WriteAnswer.{WriteAnswer}
 use Rattle.writer.specs.declared.WriteAnswer.the-variants as W
-use Rattle.writer.specs.Answer.{writeReplyIn, writeIn, FormReply, formIn, formReply, leavesWork}
+use Rattle.writer.specs.Answer.{writeReplyIn, writeIn, leavesWork}
 use Rattle.writer.specs.Given.{answerRow, given, givenBy}
 
 -- the head says the same wherever it is told
@@ -28,18 +28,14 @@ head-same : (h : Head) → H.headIn h ≡ headIn h
 unfolding H.headIn
 head-same h = refl
 
--- row 7, with the log and the sheet beside it
-abbrev beside : FormReply → List ℕ → List ℕ → WriteOutcome
-beside f log sheet = record { reply = f .reply; log = log; sheet = sheet; output = f .output }
-
-form-beside : (form output : List ℕ) (r : ReadOutcome) → beside (formReply form output) (r .log) (r .sheet) ≡ writeForm form r output
-unfolding formReply writeForm
-form-beside form output r = byTest (ltb (length output) (length form) || ltb maxBytes (length form)) (λ e. rw (e, formReply, writeForm)) (λ e. rw (e, formReply, writeForm))
+-- what `write_form` shows
+abbrev Formed : List ℕ → WriteAnswer → List ℕ → List ℕ → Type 0
+Formed form r output output′ = (x : ReadOutcome) → writeIn r (x .log) (x .sheet) output′ ≡ writeForm form x output
 
 -- a form or row 7 leaves work to the program
-form-leaves : (form output : List ℕ) → leavesWork (formReply form output .reply) ≡ false
-unfolding formReply
-form-leaves form output = byTest (ltb (length output) (length form) || ltb maxBytes (length form)) (λ e. rw (e, formReply)) (λ e. rw (e, formReply))
+form-leaves : (form output : List ℕ) (x : ReadOutcome) → leavesWork (writeForm form x output .reply) ≡ false
+unfolding writeForm
+form-leaves form output x = byTest (ltb (length output) (length form) || ltb maxBytes (length form)) (λ e. rw (e, writeForm)) (λ e. rw (e, writeForm))
 
 -- the reading call answered a and left the log l and the sheet s
 module _ (t : List ℕ) (work : ℕ) (log sheet : List ℕ) (a : Answer) (l s : List ℕ) (read : R.readIn a l s ≡ readOutcome t work log sheet) where
@@ -51,11 +47,9 @@ module _ (t : List ℕ) (work : ℕ) (log sheet : List ℕ) (a : Answer) (l s : 
   pub machine-was-read : (h : Head) → a ≡ Machine h → ReadAs t (headIn h) s
   machine-was-read h e = subst (λ x. ReadAs t x s) (head-same h) (machine-read t work log sheet (H.headIn h) l s (ap (λ x. R.readIn x l s) (sym e) ∙ read))
 
-  pub machine-written : (h : Head) → a ≡ Machine h → (r : WriteAnswer) (output output′ : List ℕ) → formIn r output′ ≡ formReply (formOf t) output → writeIn r l s output′ ≡ writeOutcome t work log sheet output
+  pub machine-written : (h : Head) → a ≡ Machine h → (r : WriteAnswer) (output output′ : List ℕ) → Formed (formOf t) r output output′ → writeIn r l s output′ ≡ writeOutcome t work log sheet output
   unfolding writeWith
-  machine-written h e r output output′ f =
-      ap (λ x. beside x l s) f
-      ∙ (form-beside (formOf t) output (R.readIn (Machine h) l s) ∙ (ap (λ x. writeWith (R.readIn x l s) (formOf t) output) (sym e) ∙ outcome output))
+  machine-written h e r output output′ f = f (R.readIn (Machine h) l s) ∙ (ap (λ x. writeWith (R.readIn x l s) (formOf t) output) (sym e) ∙ outcome output)
 
   -- diagnostics
   pub diagnostics-handed : (n : ℕ) (output : List ℕ) → a ≡ Diagnostics n → writeIn (W.Diagnostics n) l s output ≡ writeOutcome t work log sheet output
@@ -69,8 +63,10 @@ module _ (t : List ℕ) (work : ℕ) (log sheet : List ℕ) (a : Answer) (l s : 
 
 -- ---- work
 
-pub form-frees : (form output output′ : List ℕ) (r : WriteAnswer) (w w′ : List ℕ) → formIn r output′ ≡ formReply form output → leavesWork (writeReplyIn r) ≡ true → w′ ≡ w
-form-frees form output output′ r w w′ f e = absurd (false≢true (sym (form-leaves form output) ∙ (ap (λ (x : FormReply). leavesWork (x .reply)) (sym f) ∙ e)))
+pub form-frees : (form output output′ : List ℕ) (r : WriteAnswer) (w w′ : List ℕ) → Formed form r output output′ → leavesWork (writeReplyIn r) ≡ true → w′ ≡ w
+form-frees form output output′ r w w′ f e =
+    let x : ReadOutcome = record { reply = O.diagnosed 0; log = []; sheet = [] } in
+    absurd (false≢true (sym (form-leaves form output x) ∙ (ap (λ (o : WriteOutcome). leavesWork (o .reply)) (sym (f x)) ∙ e)))
 
 pub refusal-leaves : (a : Answer) (r : Refusal) (w w′ : List ℕ) → a ≡ Refused r → (R.leavesWork a ≡ true → w′ ≡ w) → leavesWork (writeReplyIn (W.Refused r)) ≡ true → w′ ≡ w
 refusal-leaves a r w w′ e h k = h (ap R.leavesWork e ∙ k)

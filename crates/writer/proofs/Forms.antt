@@ -11,7 +11,7 @@ use Rattle.chars.specs.Utf8.{encode}
 use Rattle.chars.proofs.Tests.{lt-or-ge}
 use Rattle.language.specs.Plain.{plain}
 use Rattle.language.specs.Agreement.{contentOfAnswer}
-use Rattle.language.specs.Outcome.{formOf}
+use Rattle.language.specs.Outcome.{ReadOutcome, formOf, writeForm}
 use Rattle.machine.specs.declared.Head.{Head}
 use Rattle.machine.specs.Head.{headIn}
 use Rattle.emit.specs.Output.{Output, output, counted, appended}
@@ -20,7 +20,7 @@ use Rattle.form.specs.Answers.{answer}
 use Rattle.formed.specs.Read.{ReadAs}
 use Rattle.formed.proofs.Answers.{read-form}
 use Rattle.writer.specs.declared.WriteAnswer.the-variants.{Written, OutputTooShort}
-use Rattle.writer.specs.Answer.{formIn, formReply}
+use Rattle.writer.specs.Answer.{writeIn}
 
 -- the first n of a row are n
 pub front-count : (n room : ℕ) (out : List ℕ) → n ≤ room → room ≡ min (length out) 4194304 → n ≡ length (take n out)
@@ -53,20 +53,20 @@ module _ (t : List ℕ) (head : Head) (sheet : List ℕ) (r : ReadAs t (headIn h
       -- the output and 4,194,304 bytes, whichever is less
       module _ (room : ℕ) (least : room ≡ min (length (part ++ out)) 4194304) where
         -- row 7
-        pub too-short : room < n → formIn (OutputTooShort n) (part ++ out) ≡ formReply (formOf t) out
-        unfolding formReply
-        too-short h = ⊎-elim
-            (λ (k : length out < length (formOf t)). rw (untouched, count, formReply, lt-ltb (length out) (length (formOf t)) k))
+        pub too-short : room < n → (x : ReadOutcome) → writeIn (OutputTooShort n) (x .log) (x .sheet) (part ++ out) ≡ writeForm (formOf t) x out
+        unfolding writeForm
+        too-short h x = ⊎-elim
+            (λ (k : length out < length (formOf t)). rw (untouched, count, writeForm, lt-ltb (length out) (length (formOf t)) k))
             (λ (k : length (formOf t) ≤ length out).
             let l : 4194304 < length (formOf t) = omega (arith, ap length untouched, count, least, h) in
-            rw (untouched, count, formReply, le-ltb (length out) (length (formOf t)) k, lt-ltb 4194304 (length (formOf t)) l))
+            rw (untouched, count, writeForm, le-ltb (length out) (length (formOf t)) k, lt-ltb 4194304 (length (formOf t)) l))
             (lt-or-ge (length out) (length (formOf t)))
 
         -- the form stands at the front, and the bytes behind it are as before
         pub form-stands : n ≤ room → (front : List ℕ) (m : ℕ) → output front m ≡ appended (output (take n (part ++ out)) 0) bytes → length out < 18446744073709551616
-            → formIn (Written m) (front ++ drop n (part ++ out)) ≡ formReply (formOf t) out
-        unfolding formReply
-        form-stands h front m f short =
+            → (x : ReadOutcome) → writeIn (Written m) (x .log) (x .sheet) (front ++ drop n (part ++ out)) ≡ writeForm (formOf t) x out
+        unfolding writeForm
+        form-stands h front m f short x =
             let k : length (formOf t) ≤ length out = omega (arith, ap length untouched, count, least, h) in
             let l : length (formOf t) ≤ 4194304 = omega (arith, count, least, h) in
             let row : take n (part ++ out) ≡ take (length (formOf t)) out = ap₂ take count untouched in
@@ -77,4 +77,4 @@ module _ (t : List ℕ) (head : Head) (sheet : List ℕ) (r : ReadAs t (headIn h
             f ∙ (ap₂ (λ r b. appended (output r 0) b) row same ∙ appended-front (take (length (formOf t)) out) (formOf t) (omega (arith, size, short, k)) (omega (arith, size))) in
             let front-is : front ≡ formOf t = ap (λ (o : Output). o .row) stored ∙ (ap (λ r. formOf t ++ r) whole ∙ append-nil (formOf t)) in
             let count-is : m ≡ length (formOf t) = ap (λ (o : Output). o .at) stored in
-            rw (untouched, front-is, count-is, count, formReply, le-ltb (length out) (length (formOf t)) k, le-ltb 4194304 (length (formOf t)) l)
+            rw (untouched, front-is, count-is, count, writeForm, le-ltb (length out) (length (formOf t)) k, le-ltb 4194304 (length (formOf t)) l)

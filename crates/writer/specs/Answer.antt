@@ -1,9 +1,7 @@
 -- What the code answers, as the definition's reply: paper 01's number and value of each case are those of the reply.
 use Prim.Native.Nat.{ℕ}
-use mathlib.Core.Bool.{Bool, true, false, _||_}
-use mathlib.Core.List.{List, _++_}
-use lib.Dec.{ltb}
-use lib.ListN.{length, drop}
+use mathlib.Core.Bool.{Bool, false}
+use mathlib.Core.List.{List}
 use Rattle.language.specs.Outcome as O
 use Rattle.reader.specs.Answer.{refusalIn}
 use Rattle.writer.specs.declared.WriteAnswer.{WriteAnswer}
@@ -19,24 +17,6 @@ writeReplyIn (OutputTooShort n) = O.notRead (O.outputTooShort n)
 -- the answer, and the log, the sheet and the output that are left with it
 abbrev pub writeIn : WriteAnswer → List ℕ → List ℕ → List ℕ → O.WriteOutcome
 writeIn a log sheet output = record { reply = writeReplyIn a; log = log; sheet = sheet; output = output }
-
--- the answer and the output of a text that was read as a machine
-pub record FormReply : Type 0 where
-  pub reply : O.WriteReply
-  pub output : List ℕ
-
--- from what the code has
-abbrev pub formIn : WriteAnswer → List ℕ → FormReply
-formIn a output = record { reply = writeReplyIn a; output = output }
-
--- those of a form and the output at entry: row 7
-unfoldable pub formReply : List ℕ → List ℕ → FormReply
-formReply form output =
-    let n = length form in
-    elim (ltb (length output) n || ltb O.maxBytes n) [
-      | true ↦ record { reply = O.notRead (O.outputTooShort n); output = output }
-      | false ↦ record { reply = O.written n; output = form ++ drop n output }
-    ]
 
 -- whether work is untouched too: rows 1 and 2
 abbrev pub leavesWork : O.WriteReply → Bool

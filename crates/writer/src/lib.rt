@@ -2,11 +2,11 @@
 ghost use mathlib.Core.Bool.{true};
 ghost use mathlib.Core.Path.{_≡_};
 ghost use lib.ListN.{length};
-ghost use Rattle.language.specs.Outcome.{formOf, writeOutcome};
+ghost use Rattle.language.specs.Outcome.{ReadOutcome, formOf, writeForm, writeOutcome};
 ghost use Rattle.machine.specs.Head.{headIn};
 ghost use Rattle.reader.specs.Reading.{leavesWorkNumber};
 ghost use Rattle.formed.specs.Read.{ReadAs};
-ghost use Rattle.writer.specs.Answer.{writeReplyIn, writeIn, formIn, formReply, leavesWork};
+ghost use Rattle.writer.specs.Answer.{writeReplyIn, writeIn, leavesWork};
 ghost use Rattle.writer.specs.Given.{given, givenBy};
 use machine::Head;
 use reader::Answer;
@@ -29,10 +29,10 @@ pub enum WriteAnswer {
     OutputTooShort(u64),
 }
 
-// The form of the machine that a text was read as, at the front of the output if it is short enough.
+// The form of the machine that a text was read as, at the front of the output if it is short enough: row 7, whatever reading left.
 fn write_form(head: Head, text: &[u8], sheet: &[u32], output: &mut [u8]) -> WriteAnswer
     requires { ⌜ ReadAs (now text) (headIn head) (now sheet) ⌝ }
-    ensures { λ r. ⌜ formIn r (now (output .exit)) ≡ formReply (formOf (now (text .entry))) (now (output .entry)) ⌝ }
+    ensures { λ r. ⌜ ((x : ReadOutcome) → writeIn r (x .log) (x .sheet) (now (output .exit)) ≡ writeForm (formOf (now (text .entry))) x (now (output .entry))) ⌝ }
 {
     let n = form::plain_form(head, sheet, text, &mut output[..0]);
     let room = emit::least(output.len(), MAX_BYTES);
