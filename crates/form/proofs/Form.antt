@@ -1,11 +1,10 @@
 -- The whole form: its sections stand one after the other, each from its words of the sheet.
-use mathlib.Core.Path.{_≡_, refl, sym, ap, ap₂, subst, _∙_}
+use mathlib.Core.Path.{_≡_, refl, sym, ap, subst, _∙_}
 use Prim.Native.Nat.{ℕ, _+_, _*_, _<_}
 use mathlib.Core.Bool.{Bool, true, false}
-use mathlib.Core.List.{List, [], _∷_, map, map-map}
+use mathlib.Core.List.{List, [], map, map-map}
 use lib.ListN.{drop}
 use Rattle.chars.specs.Utf8.{scalar, encode}
-use Rattle.language.specs.Content.{StateContent, Content}
 use Rattle.language.specs.Layout.{Counts, Head}
 use Rattle.language.specs.Plain.{Piece, _⨾_, say, end, only, each, nameSet, commentLine, ruleLines, pieces, plain}
 use Rattle.language.specs.Agreement.{Answer, groups, records, stateIn, textIn, ruleIn, contentOfAnswer}
@@ -14,7 +13,7 @@ use Rattle.emit.proofs.Appends.{appended-nil}
 use Rattle.pieces.specs.Writes.{Writes}
 use Rattle.lists.specs.Places.{Every, NameIn}
 use Rattle.form.specs.Sections.{headLines, statesLine, symbolsLine, blankLine, startLine, finalsLine, declaredLines}
-use Rattle.form.specs.WellFormed.{RuleFormed, DeclaredFormed, BodyFormed, sigmaFrom, gammaFrom, headerFrom, trailingFrom, rulesFrom, WellFormed}
+use Rattle.form.specs.WellFormed.{RuleFormed, DeclaredFormed, sigmaFrom, gammaFrom, headerFrom, trailingFrom, rulesFrom, WellFormed}
 use Rattle.pieces.proofs.Chain.{same, _▹_}
 
 -- the letters Σ and Γ

@@ -1,18 +1,17 @@
 -- The lines before the rules: each is its pieces one after the other, or nothing if its part is not declared.
-use mathlib.Core.Path.{_≡_, refl, sym, ap, ap₂, subst, _∙_}
-use Prim.Native.Nat.{ℕ, zero, suc, _+_, _/_, _%_, _<_, _^_}
+use mathlib.Core.Path.{_≡_, refl, sym, ap, subst, _∙_}
+use Prim.Native.Nat.{ℕ, zero, suc, _+_, _/_, _%_, _<_}
 use native.Mathlib.Omega.{arith}
 use mathlib.Core.Logic.{⊎-elim}
 use mathlib.Core.Bool.{Bool, true, false}
-use mathlib.Core.List.{List, [], _∷_, _++_, map, append-assoc}
-use lib.Dec.{ltb}
+use mathlib.Core.List.{List, [], _∷_, _++_, map}
 use lib.ListN.{length}
 use borrow.Author.Tests.{lt-ltb, le-ltb}
 use Rattle.chars.specs.Utf8.{scalar, encodeOne, encode}
 use Rattle.chars.proofs.Tests.{lt-or-ge}
 use Rattle.language.specs.Layout.{Head}
 use Rattle.language.specs.Machine.{asBinary}
-use Rattle.language.specs.Plain.{Piece, _⨾_, say, end, only, commas, verbatim, symbol, string, decimalFrom, decimal, kindName, decoder, nameSet, symbolSet, finalNames}
+use Rattle.language.specs.Plain.{say, commas, verbatim, symbol, string, decimalFrom, decimal, kindName, decoder, nameSet, symbolSet, finalNames}
 use Rattle.language.specs.Agreement.{groups, charactersAt, stringAt, stateIn, textIn}
 use Rattle.machine.specs.declared.Kind.{Kind}
 use Rattle.machine.specs.declared.Kind.the-variants.{Acceptor, Transducer, Enumerator, Beaver}

@@ -10,8 +10,8 @@ use lib.Seq.{getD-drop, drop-drop}
 use Rattle.chars.specs.Utf8.{scalars, encode}
 use Rattle.chars.proofs.Tests.{lt-or-ge}
 use Rattle.lexer.specs.Tokens.{Span}
-use Rattle.language.specs.Content.{ActionContent, RuleContent}
-use Rattle.language.specs.Plain.{Piece, _⨾_, say, end, each, commas, verbatim, symbol, direction, comment, commentLine, ownComment, rule, ruleLines}
+use Rattle.language.specs.Content.{ActionContent}
+use Rattle.language.specs.Plain.{Piece, say, end, each, commas, verbatim, symbol, direction, commentLine, ownComment, rule, ruleLines}
 use Rattle.language.specs.Agreement.{groups, records, placeAt, dirOf, actionIn, charactersAt, commentAt, textIn, ruleIn}
 use Rattle.machine.specs.declared.Span as D
 use Rattle.machine.specs.Head.{spanOf, spanIn}

@@ -1,17 +1,17 @@
 -- Every answer to an admitted text is well formed: names, strings and comments stand where its places say, and its symbols are characters of the text's set.
-use Prim.Native.Nat.{ℕ, suc, _+_, _-_, _*_, _<_, _≤_}
+use Prim.Native.Nat.{ℕ, suc, _+_, _-_, _*_, _<_}
 use native.Mathlib.Omega.{arith}
 use mathlib.Core.Bool.{true}
 use mathlib.Core.List.{List, [], _∷_, _++_, map}
 use mathlib.Core.Option.{Option, none, some}
 use mathlib.Core.Path.{_≡_, refl, sym, ap, ap₂, subst, _∙_}
 use lib.ListN.{length, getD, drop}
-use Rattle.chars.specs.Utf8.{scalar, scalars, sizes, encode, decode, validUpTo}
+use Rattle.chars.specs.Utf8.{scalar, scalars, sizes, encode, decode}
 use Rattle.chars.proofs.Theorems.{decode-scalars, length-encode, valid-whole}
 use Rattle.chars.proofs.Tests.{and-both}
-use Rattle.lexer.specs.Tokens.{Span, closed, inside, unescape}
+use Rattle.lexer.specs.Tokens.{Span, closed, unescape}
 use Rattle.language.specs.Machine.{Located, Decoder, asWord, asUnary, asBinary, State, Rule, Machine}
-use Rattle.language.specs.Content.{ActionContent, RuleContent, Content, contentOf}
+use Rattle.language.specs.Content.{contentOf}
 use Rattle.language.specs.Lines.{readLines}
 use Rattle.language.specs.Infer.{machineOf}
 use Rattle.language.specs.Layout.{placeOrNone, locatedWords, flat, Head, headOf, stateWords, ruleWords, sheetWords}
@@ -19,8 +19,7 @@ use Rattle.language.specs.Agreement.{Answer, groups, records, placeAt, actionIn
 use Rattle.language.specs.Outcome.{admitted, zeros, formOf}
 use Rattle.language.proofs.Every as L
 use Rattle.language.proofs.Every.{Maybe}
-use Rattle.language.proofs.LexSound.{AllFine}
-use Rattle.language.proofs.TokenPlaces.{Stands, stands-bytes, stands-at, Encloses, encloses-value}
+use Rattle.language.proofs.TokenPlaces.{Stands, stands-bytes, stands-at, encloses-value}
 use Rattle.language.proofs.ParseSound.{GoodCode}
 use Rattle.language.proofs.AssemblyHolds.{GoodRuleOf, GoodMachine}
 use Rattle.language.proofs.AssemblySound.{GoodAction, GoodRule}
@@ -34,7 +33,7 @@ use Rattle.machine.specs.declared.Head as D
 use Rattle.machine.specs.Head.{headIn}
 use Rattle.pieces.specs.Strings.{Whole}
 use Rattle.form.specs.Answers.{answer}
-use Rattle.lists.specs.Places.{Every, Utf8At, NameIn, column}
+use Rattle.lists.specs.Places.{Every, Utf8At, NameIn}
 use Rattle.form.specs.WellFormed.{RuleFormed, DecoderFormed, WellFormed}
 use Rattle.formed.specs.Read.{machineIn, ReadAs}
 

@@ -4,17 +4,17 @@ use native.Mathlib.Omega.{arith}
 use mathlib.Core.Bool.{Bool, true, false}
 use mathlib.Core.List.{List, [], _∷_, _++_, map}
 use mathlib.Core.Option.{Option, none, some}
-use mathlib.Core.Path.{_≡_, refl, sym, ap, _∙_}
+use mathlib.Core.Path.{_≡_, refl, ap}
 use lib.Dec.{eqb}
 use lib.ListN.{length, length-append, length-map}
-use Rattle.chars.specs.Utf8.{size, sizes, encode, decode, validUpTo}
+use Rattle.chars.specs.Utf8.{size, sizes, decode, validUpTo}
 use Rattle.chars.proofs.Theorems.{sizes-append, length-encode}
 use Rattle.lexer.specs.Tokens.{Span, escape, Inner, ends, breaks, escapes, stands, innerOf, Inside, closed, unclosed, put, pass, inside}
 use Rattle.language.specs.Machine.{Located, Rule, Machine}
 use Rattle.language.specs.Content.{StateContent, ActionContent, valueOr, optional, values, ruleContent, contentOf}
 use Rattle.language.specs.Lines.{readLines}
 use Rattle.language.specs.Layout.{Head, headOf, placeWords, locatedWords, flat, stateWords, symbolWords, ruleWords, sheetWords}
-use Rattle.language.specs.Outcome.{admitted, formOf}
+use Rattle.language.specs.Outcome.{formOf}
 use Rattle.language.specs.Plain.{verbatim, symbol, direction, each, comment, commentLine, nameSet, symbolSet, finalNames, rule, ruleLines, pieces, plain}
 use Rattle.language.proofs.Every.{byTest, Every, Maybe, every-any, every-impl, every-map}
 use Rattle.language.proofs.Counts.{rule-length}
@@ -25,7 +25,7 @@ use Rattle.language.proofs.AnswerBack.{placedIn, machine-placed}
 use Rattle.language.proofs.Claim.{is-short, is-valid}
 use Rattle.formed.specs.Read.{machineIn, ReadAs}
 use Rattle.formed.proofs.Leading.{leading-few}
-use Rattle.formed.proofs.Costs.{Costs, length-sizes, _▸_, at-most, one-costs, say-costs, end-costs, verbatim-costs, only-costs, each-costs, commas-costs, symbol-costs, direction-costs, string-costs, decimal-costs, comment-costs, own-costs, kind-costs, decoder-costs}
+use Rattle.formed.proofs.Costs.{Costs, length-sizes, _▸_, at-most, say-costs, end-costs, verbatim-costs, only-costs, each-costs, commas-costs, symbol-costs, direction-costs, string-costs, decimal-costs, comment-costs, own-costs, kind-costs, decoder-costs}
 
 -- ---- strings
 

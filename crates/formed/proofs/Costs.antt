@@ -3,7 +3,7 @@ use Prim.Native.Nat.{ℕ, zero, suc, _+_, _*_, _/_, _%_, _≤_}
 use Prim.Native.String as S
 use native.Mathlib.Omega.{arith}
 use mathlib.Core.Bool.{Bool, true, false}
-use mathlib.Core.List.{List, [], _∷_, _++_}
+use mathlib.Core.List.{List, [], _∷_}
 use mathlib.Core.Option.{Option, none, some}
 use mathlib.Core.Path.{_≡_, refl}
 use lib.Dec.{ltb}
@@ -11,7 +11,7 @@ use lib.ListN.{length}
 use Rattle.chars.specs.Utf8.{size, sizes}
 use Rattle.chars.proofs.Theorems.{sizes-append}
 use Rattle.language.specs.Machine.{Kind, acceptor, transducer, enumerator, beaver, lsb, msb, Decoder, asWord, asUnary, asBinary, Dir, left, right, stay}
-use Rattle.language.specs.Plain.{Piece, _⨾_, say, verbatim, end, only, each, commas, symbol, direction, escaped, inString, escapedText, string, decimalFrom, decimal, comment, commentLine, ownComment, kindName, decoder}
+use Rattle.language.specs.Plain.{Piece, _⨾_, say, verbatim, end, only, each, commas, symbol, direction, escaped, inString, escapedText, string, decimalFrom, decimal, comment, ownComment, kindName, decoder}
 use Rattle.language.proofs.Every.{byTest, Every, Maybe}
 
 -- a piece puts at most n bytes before what follows

@@ -4,14 +4,13 @@ use native.Mathlib.Omega.{arith}
 use mathlib.Core.Bool.{Bool, true, false}
 use mathlib.Core.List.{List, [], _∷_, _++_}
 use mathlib.Core.Option.{Option, none, some}
-use mathlib.Core.Path.{_≡_}
 use lib.ListN.{length, length-append, length-map}
 use Rattle.chars.specs.Utf8.{decode}
 use Rattle.lexer.specs.Tokens.{Span, Token, tokens}
 use Rattle.lexer.proofs.Writes.{tokens-of-bytes}
 use Rattle.language.specs.Machine.{Located, Rule}
 use Rattle.language.specs.Lines.{RawSymbol, RawTransition, Line, blankLine, commentLine, itemLine, errorLine, Row, Ending, lineFeed, goesBy, remark, endingOf, inFront, rows, lineOf, covering, lines, readLines}
-use Rattle.language.specs.Assembly.{parts, items, blankOf, RuleLine, Body, addHeader, addRule, atEnd, leads, unled, attachItem, attach, bodyOf, kept, choices, ruleOf, dressed, expand, expandAll}
+use Rattle.language.specs.Assembly.{parts, items, blankOf, RuleLine, Body, addHeader, addRule, atEnd, leads, attachItem, attach, bodyOf, kept, choices, ruleOf, dressed, expand, expandAll}
 use Rattle.language.specs.Infer.{machineOf}
 use Rattle.language.proofs.Every.{Every, every-append, every-any, every-map}
 use Rattle.language.proofs.Counts.{kept-every}

@@ -1,11 +1,11 @@
 -- Final states: a state that is not final gives nothing, a final one its name behind those written before.
 use mathlib.Core.Path.{_≡_, refl, sym, ap, ap₂, subst, _∙_}
-use Prim.Native.Nat.{ℕ, suc, _+_, _-_, _≤_, _<_}
+use Prim.Native.Nat.{ℕ, _+_, _-_, _≤_, _<_}
 use native.Mathlib.Omega.{arith}
 use mathlib.Core.Bool.{Bool, true, false}
 use mathlib.Core.List.{List, [], _∷_, map}
 use lib.Dec.{eqb, ltb}
-use lib.ListN.{length, getD, take, drop}
+use lib.ListN.{getD}
 use borrow.Author.Tests.{eq-eqb, ne-eqb}
 use Rattle.language.specs.Content.{StateContent}
 use Rattle.language.specs.Layout.{flag}
@@ -14,7 +14,7 @@ use Rattle.language.specs.Agreement.{groups, placeAt, charactersAt, stateIn}
 use Rattle.machine.specs.declared.Span as D
 use Rattle.machine.specs.Head.{spanOf, spanIn}
 use Rattle.emit.specs.Output.{Output}
-use Rattle.pieces.specs.Writes.{Adds, Writes}
+use Rattle.pieces.specs.Writes.{Writes}
 use Rattle.lists.specs.Finals.{FinalWritten}
 use Rattle.lists.specs.Places.{Every, Utf8At, NameIn}
 use Rattle.pieces.proofs.Chain.{_▹_, Goes, goes-start, goes-on, goes-end}

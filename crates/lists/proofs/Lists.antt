@@ -1,18 +1,17 @@
 -- Lists: the members that are left of a section's records, and what is still to be written of them.
 use mathlib.Core.Path.{_≡_, refl, sym, ap, subst, _∙_}
-use Prim.Native.Nat.{ℕ, zero, suc, _+_, _-_, _*_, _≤_, _<_}
+use Prim.Native.Nat.{ℕ, zero, suc, _+_, _-_, _≤_, _<_}
 use native.Mathlib.Omega.{arith}
 use native.Mathlib.Numerals.{add-one}
-use mathlib.Core.Bool.{Bool, true, false, _&&_}
-use mathlib.Core.List.{List, [], _∷_, _++_, map}
+use mathlib.Core.Bool.{true}
+use mathlib.Core.List.{List, [], _∷_, map}
 use lib.Dec.{ltb}
-use lib.ListN.{length, getD, take, drop}
+use lib.ListN.{getD, take, drop}
 use lib.Seq.{getD-take, getD-drop, drop-drop}
 use borrow.Author.Tests.{lt-ltb}
 use Rattle.chars.specs.Utf8.{scalar, scalars, encode}
 use Rattle.chars.proofs.Tests.{and-both}
-use Rattle.lexer.specs.Tokens.{Span, span}
-use Rattle.language.specs.Machine.{Dir}
+use Rattle.lexer.specs.Tokens.{Span}
 use Rattle.language.specs.Plain.{Piece, _⨾_, say, only, each, commas, verbatim, symbol, direction, end, comment, commentLine}
 use Rattle.language.specs.Agreement.{groups, placeAt, dirOf, charactersAt, textIn}
 use Rattle.machine.specs.declared.Span as D

@@ -1,7 +1,7 @@
 -- What stands at a place of the text: characters as they are, and a string in quotes.
 use mathlib.Core.Path.{_≡_, refl, sym, ap, _∙_}
 use Prim.Native.Nat.{ℕ}
-use mathlib.Core.List.{List, [], _∷_, _++_}
+use mathlib.Core.List.{List, [], _++_}
 use Rattle.chars.specs.Utf8.{encode, decode}
 use Rattle.chars.proofs.Theorems.{encode-append}
 use Rattle.lexer.specs.Tokens.{Span, unescape}

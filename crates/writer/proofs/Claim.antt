@@ -1,7 +1,6 @@
 -- Demand 3 on the calls: their contracts tell the outcomes, of which the language's claim holds.
 use mathlib.Core.List.{List}
-use mathlib.Core.Logic.{_↔_}
-use mathlib.Core.Path.{_≡_, sym, ap, ap₂, subst, _∙_}
+use mathlib.Core.Path.{_≡_, sym, ap, subst, _∙_}
 use Prim.Native.Nat.{ℕ}
 use Rattle.language.specs.Outcome.{formOf}
 use Rattle.language.specs.Claim as L

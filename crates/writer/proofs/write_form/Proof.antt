@@ -1,5 +1,5 @@
 -- `writer::write_form` meets its contract: the form is counted on no row, refused where it does not fit, and else written with the same body.
-use Prim.Native.Nat.{_*_, _<_}
+use Prim.Native.Nat.{_<_}
 use lib.ListN.{length}
 use Rattle.language.specs.Outcome.{formOf}
 use Rattle.machine.specs.Head.{headIn}
