@@ -2,3 +2,4 @@ pub mod Shows
 pub mod TokensShow
 pub mod RulesShown
 pub mod BodyShown
+pub mod ListsShown

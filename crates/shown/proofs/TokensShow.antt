@@ -33,10 +33,10 @@ use Rattle.shown.proofs.Shows.{SymbolShows, WriteShows, MoveShows}
 
 -- an option that is some
 module _ {X : Type 0} where
-  some-of : (a b : X) → some a ≡ some b → a ≡ b
+  pub some-of : (a b : X) → some a ≡ some b → a ≡ b
   some-of a b e = cc
 
-  none-some : {Y : Type 0} (b : X) → none ≡ some b → Y
+  pub none-some : {Y : Type 0} (b : X) → none ≡ some b → Y
   none-some b e = absurd (let z : _≡_ {A = ℕ} 0 1 = cc in omega arith)
 
 -- a bare character
