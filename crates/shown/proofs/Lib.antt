@@ -3,3 +3,4 @@ pub mod TokensShow
 pub mod RulesShown
 pub mod BodyShown
 pub mod ListsShown
+pub mod ReadsShown

@@ -39,7 +39,7 @@ pub data Series (f : Token → Bool) (close : ℕ) (ts : List Token) : ℕ → �
   last-one : {i j : ℕ} → f (peek ts i) ≡ true → eqb (peek ts (i + 1) .kind) close ≡ true → j ≡ i + 2 → Series f close ts i j
   one-more : {i j : ℕ} → f (peek ts i) ≡ true → eqb (peek ts (i + 1) .kind) 8 ≡ true → Series f close ts (i + 2) j → Series f close ts i j
 
-series-high : (f : Token → Bool) (close : ℕ) (ts : List Token) (i j : ℕ) → Series f close ts i j → i + 2 ≤ j
+pub series-high : (f : Token → Bool) (close : ℕ) (ts : List Token) (i j : ℕ) → Series f close ts i j → i + 2 ≤ j
 series-high f close ts i j (last-one y c e) = omega arith
 series-high f close ts i j (one-more y c s) = omega (arith, series-high f close ts (i + 2) j s)
 
@@ -47,7 +47,7 @@ series-high f close ts i j (one-more y c s) = omega (arith, series-high f close 
 abbrev pub Takes : Parser → (Token → Bool) → Type 0
 Takes p f = (ts : List Token) (i j n : ℕ) → p ts i ≡ Done j n → (j ≡ i + 1) × (f (peek ts i) ≡ true)
 
-failed-done : {X : Type 0} (c : ℕ) (s : Place) (j n : ℕ) → Failed c s ≡ Done j n → X
+pub failed-done : {X : Type 0} (c : ℕ) (s : Place) (j n : ℕ) → Failed c s ≡ Done j n → X
 failed-done c s j n e = absurd (let z : _≡_ {A = ℕ} 0 1 = cc in omega arith)
 
 pub direction-takes : Takes direction isDirection
@@ -82,7 +82,7 @@ module _ (p : Parser) (f : Token → Bool) (takes : Takes p f) (close : ℕ) (ts
 
 -- ---- the tokens of the line: from the fourth on those of the row E, where the line begins at the index o, are the text's
 module _ (l : Tokens) where
-  between-first : (i k : ℕ) → i < k → i < length l → between l i k ≡ at l i ∷ between l (i + 1) k
+  pub between-first : (i k : ℕ) → i < k → i < length l → between l i k ≡ at l i ∷ between l (i + 1) k
   between-first i k h g =
       let a : k - i ≡ suc (k - (i + 1)) = omega arith in
       let b : suc i ≡ i + 1 = omega arith in
@@ -100,10 +100,10 @@ module _ (E : List Token) (o b : ℕ) (l : Tokens) (row : RowOf E o b l) where
   W = map tokenOf l
 
   -- a test of the row's token is one of the text's
-  token-is : (P : Token → Bool) (x : Bool) (r : ℕ) → P (peek W r) ≡ x → P (tokenOf (at l r)) ≡ x
+  pub token-is : (P : Token → Bool) (x : Bool) (r : ℕ) → P (peek W r) ≡ x → P (tokenOf (at l r)) ≡ x
   token-is P x r e = ap P (sym (peek-map l r)) ∙ e
 
-  first-entry : (w : ℕ) → 4 ≤ w → w ≤ b → (x : Bool) → eqb (peek W w .kind) 4 ≡ x → firstEntry E (o + w) ≡ cond x (o + w + 1) (o + w)
+  pub first-entry : (w : ℕ) → 4 ≤ w → w ≤ b → (x : Bool) → eqb (peek W w .kind) 4 ≡ x → firstEntry E (o + w) ≡ cond x (o + w + 1) (o + w)
   unfolding firstEntry
   first-entry w h g x e = ap (λ (x : Bool). cond x (o + w + 1) (o + w)) (ap (λ (t : Token). eqb (t .kind) 4) (row .same w h g) ∙ token-is (λ t. eqb (t .kind) 4) x w e)
 
