@@ -4,3 +4,5 @@ pub mod RulesShown
 pub mod BodyShown
 pub mod ListsShown
 pub mod ReadsShown
+pub mod ItemTaken
+pub mod MentionsShown

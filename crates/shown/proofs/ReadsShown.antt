@@ -93,11 +93,11 @@ symbol-read t s g e = go (readPart (t .kind)) refl (read-by t s)
     go passes q h = both-values (isSymbol (tokenOf t)) e (h .2)
 
 -- the sets with one token more in front
-outside-by : (t : Lexed Place) (m : Tokens) (r : ReadPart) → readPart (t .kind) ≡ r → readSets false (t ∷ m) ≡ outside r (t .place) (readSets false m) (readSets true m)
+pub outside-by : (t : Lexed Place) (m : Tokens) (r : ReadPart) → readPart (t .kind) ≡ r → readSets false (t ∷ m) ≡ outside r (t .place) (readSets false m) (readSets true m)
 unfolding readSets
 outside-by t m r e = ap (λ (r : ReadPart). outside r (t .place) (readSets false m) (readSets true m)) e
 
-inside-by : (t : Lexed Place) (m : Tokens) (r : ReadPart) → readPart (t .kind) ≡ r → readSets true (t ∷ m) ≡ inside r (t .place) (readSets false m) (readSets true m)
+pub inside-by : (t : Lexed Place) (m : Tokens) (r : ReadPart) → readPart (t .kind) ≡ r → readSets true (t ∷ m) ≡ inside r (t .place) (readSets false m) (readSets true m)
 unfolding readSets
 inside-by t m r e = ap (λ (r : ReadPart). inside r (t .place) (readSets false m) (readSets true m)) e
 
