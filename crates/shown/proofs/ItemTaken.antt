@@ -26,7 +26,9 @@ use Rattle.parser.specs.Row.{peek}
 use Rattle.parser.specs.Views.{spanOf, isKind, isChoice, isState, isSymbol, keywordOf, leadOf}
 use Rattle.parser.specs.Lines as P
 use Rattle.assembler.proofs.Braces.{false-true, one-done}
-use Rattle.assembler.proofs.Inside.{then-done, kind-done}
+use Rattle.parser.proofs.Lists.{Steps, state-steps, symbol-steps}
+use Rattle.parser.proofs.Rules.{kind-steps, choice-steps, set-steps, output-steps}
+use Rattle.assembler.proofs.Inside.{then-done, done-within}
 use Rattle.shown.proofs.ListsShown.{Series, last-one, one-more, series-high, entries-series, failed-done}
 
 -- two cases of a line
@@ -207,3 +209,22 @@ taken-ends ts x Blank r t = one-ends isSymbol spoken-symbol ts 2 (x .end) (t .co
 taken-ends ts x Start r t = one-ends isState spoken-state ts 2 (x .end) (t .count) (t .read)
 taken-ends ts x Final r t = set-ends isState ts 2 (x .end) (t .count) (t .read)
 taken-ends ts x Transition r t = absurd (r refl)
+
+-- it ends behind the keyword
+module _ (ts : List Token) (x : Found) where
+  ends-high : (p : P.Parser) (v : ℕ) → Steps p → Taken p ts v x → v < x .end
+  ends-high p v s t = done-within p ts v (x .end) (t .count) s (t .read) .0
+
+  pub taken-high : (k : ItemKind) → (k ≡ Transition → ⊥) → TakenAs k ts x → 1 < x .end
+  taken-high Machine r t = ends-high (P.one (isKind 3)) 1 (kind-steps 3 (omega arith)) t
+  taken-high Kind r t = ends-high (P.one (isChoice 0x110010 0x110013)) 1 (choice-steps 0x110010 0x110013) t
+  taken-high Input r t = ends-high (P.one (isKind 3)) 1 (kind-steps 3 (omega arith)) t
+  taken-high Output r t = ends-high P.output 1 output-steps t
+  taken-high Tapes r t = omega (arith, ends-high (P.one (isKind 1)) 2 (kind-steps 1 (omega arith)) t)
+  taken-high States r t = omega (arith, ends-high (P.set (P.one isState)) 2 (set-steps (P.one isState) state-steps) t)
+  taken-high InputAlphabet r t = omega (arith, ends-high (P.set (P.one isSymbol)) 2 (set-steps (P.one isSymbol) symbol-steps) t)
+  taken-high TapeAlphabet r t = omega (arith, ends-high (P.set (P.one isSymbol)) 2 (set-steps (P.one isSymbol) symbol-steps) t)
+  taken-high Blank r t = omega (arith, ends-high (P.one isSymbol) 2 symbol-steps t)
+  taken-high Start r t = omega (arith, ends-high (P.one isState) 2 state-steps t)
+  taken-high Final r t = omega (arith, ends-high (P.set (P.one isState)) 2 (set-steps (P.one isState) state-steps) t)
+  taken-high Transition r t = absurd (r refl)

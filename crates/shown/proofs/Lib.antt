@@ -6,3 +6,4 @@ pub mod ListsShown
 pub mod ReadsShown
 pub mod ItemTaken
 pub mod MentionsShown
+pub mod LineTokens
