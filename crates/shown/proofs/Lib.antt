@@ -7,3 +7,4 @@ pub mod ReadsShown
 pub mod ItemTaken
 pub mod MentionsShown
 pub mod LineTokens
+pub mod LineShown

@@ -108,7 +108,7 @@ symbol-code newline p q s b g e = none-some s e
 symbol-code unterminatedString p q s b g e = none-some s e
 symbol-code unterminatedQuote p q s b g e = none-some s e
 
-place-shown : (t : Lexed Place) → spanWords (placeOf (tokenOf t)) ≡ L.placeWords (t .place)
+pub place-shown : (t : Lexed Place) → spanWords (placeOf (tokenOf t)) ≡ L.placeWords (t .place)
 unfolding tokenOf
 place-shown t = refl
 
