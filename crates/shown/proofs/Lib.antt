@@ -8,3 +8,4 @@ pub mod ItemTaken
 pub mod MentionsShown
 pub mod LineTokens
 pub mod LineShown
+pub mod TextShown

@@ -37,7 +37,7 @@ use Rattle.assembler.specs.Entries.{Entry, entryAt}
 use Rattle.assembler.specs.Entered.{itemNumber, itemEntry, failedEntry, countsOf, partsOf, enterAs, enterLine, enteredFrom}
 use Rattle.assembler.specs.Rules.{combinations, readPart}
 use Rattle.assembler.specs.Finals.{namesOf}
-use Rattle.assembler.proofs.Braces.{false-true, one-done}
+use Rattle.assembler.proofs.Braces.{balanced, false-true, one-done}
 use Rattle.assembler.proofs.Inside.{PartsIn, LineIn, line-in, done-within, dirs-steps, writes-steps}
 use Rattle.assembler.proofs.Means.{number}
 use Rattle.assembler.proofs.SetsMean.{AllSound}
@@ -294,3 +294,183 @@ module _ (text : List ℕ) (E : List Token) (i : ℕ) (t : Lexed Place) (l′ : 
           direction direction-takes (q .dir) (parts .lists .dirStop) (q .dirs) 5 (omega arith) (parts .lists .moving) (omega arith) (omega arith) (parts .lists .last) (omega (arith, stop-low)) in
           subst (λ (k : ℕ). Both MoveShows (everySecond E (firstEntry E k) (raw .dir)) (raw .dir)) (sym (ap (λ (w : Token). w .value) commas))
           (subst (λ (k : ℕ). Both MoveShows (everySecond E (firstEntry E (i + q .dir)) (seen directionIn (between l (q .dir) k))) (seen directionIn (between l (q .dir) k))) (sym (parts .lists .end)) all)
+
+      -- its states
+      from-is : peek E (i + 2) ≡ tokenOf (at l (q .from))
+      from-is = T.rule-state text E i t l′ lexed placed row x read rule ∙ ap (λ (r : ℕ). tokenOf (at l r)) (sym (parts .lists .from))
+
+      to-is : peek E (peek E (i + 3) .start) ≡ tokenOf (at l (q .to))
+      to-is = ap (λ (w : Token). peek E (w .start)) commas ∙ rule-at (q .to) (omega (arith, to-low .0)) (omega (arith, to-low))
+
+      state-at : (r : ℕ) → r ≤ b → isState (peek W r) ≡ true → StateShows text (tokenOf (at l r)) (located stateIn [] (at l r))
+      state-at r h e = state-shows text (at l r) (sound-at r h) (placed-at r h) (ap isState (sym (peek-map l r)) ∙ e)
+
+      -- the tokens that it reads, as the assembler has them
+      same-part : readTokens E i ≡ readPart (entryAt E i)
+      unfolding readTokens readPart
+      same-part =
+          let z : suc i + 3 ≡ i + 4 = omega arith in
+          let y : suc i + 2 ≡ i + 3 = omega arith in
+          sym (ap (λ (w : Token). take (w .start - (i + 4)) (drop 3 (drop (suc i) E))) (getD-drop (suc i) E 2 ended ∙ ap (peek E) y)
+          ∙ ap (take (peek E (i + 3) .start - (i + 4))) (drop-drop 3 (suc i) E ∙ ap (λ (n : ℕ). drop n E) z))
+
+      rule-shows : Expands raw → RuleShows E i raw
+      unfolding ruleOf
+      rule-shows f =
+          let m = M.rule-in text E i t l′ lexed placed row x read rule in
+          record {
+            from = ap (λ (w : Token). spanWords (placeOf w)) from-is ∙ place-shown (at l (q .from));
+            to = ap (λ (w : Token). spanWords (placeOf w)) to-is ∙ place-shown (at l (q .to));
+            read = read-shown;
+            write = write-shown-all;
+            dir = move-shown-all;
+            reads = ap (λ (w : Token). w .start) counts ∙ M.rule-counted text E i t l′ lexed placed row x read rule .reads;
+            writes = f .writes;
+            dirs = f .dirs;
+            product = ap combinations same-part ∙ m .product ∙ min-eq-left {n = A.combinations (raw .read)} {m = 262145} (omega (arith, f .few));
+          }
+
+      mentions-shown : MentionsShow text E i raw
+      unfolding ruleOf
+      mentions-shown = record {
+        from =
+            subst (λ (w : Token). StateShows text w (located stateIn [] (at l (q .from)))) (sym from-is)
+            (state-at (q .from) (omega (arith, parts .lists .from, to-low)) (ap (λ (r : ℕ). isState (peek W r)) (parts .lists .from) ∙ parts .lists .state));
+        to = subst (λ (w : Token). StateShows text w (located stateIn [] (at l (q .to)))) (sym to-is) (state-at (q .to) (omega (arith, to-low)) (parts .lists .next));
+        reads = subst (λ (w : List Token). ReadsShow false w (raw .read)) (sym reads-are)
+            (subst (λ (k : ℕ). ReadsShow false (map tokenOf (between l 4 (q .to))) (readSets false (between l k (q .to)))) (sym (parts .read))
+            (reads-show text false (between l 4 (q .to)) (some-sound 4 (q .to)) (some-placed 4 (q .to)) even));
+        writes = subst (λ (w : List Token). WritesShow w (raw .write)) (sym writes-are) (writes-show text (between l (q .write) (q .dir)) (some-sound (q .write) (q .dir)) (some-placed (q .write) (q .dir)));
+      }
+        where
+          reads-are : range E (i + 4) (peek E (i + 3) .start) ≡ map tokenOf (between l 4 (q .to))
+          reads-are = ap (λ (w : Token). range E (i + 4) (w .start)) commas
+              ∙ range-is 4 (q .to) (omega (arith, to-low .0)) (omega (arith, to-low)) (λ r h g. rule-at r h (omega (arith, to-low)))
+
+          writes-are : range E (peek E (i + 3) .end) (peek E (i + 3) .value) ≡ map tokenOf (between l (q .write) (q .dir))
+          writes-are = ap (λ (w : Token). range E (w .end) (w .value)) commas
+              ∙ range-is (q .write) (q .dir) (omega (arith, to-low)) (omega (arith, to-low)) (λ r h g. rule-at r (omega (arith, to-low)) (omega (arith, to-low)))
+
+          even : balanced false (map tokenOf (between l 4 (q .to))) ≡ true
+          even = ap (balanced false) (sym (ap (take (q .to - 4)) (drop-map 4 l) ∙ take-map (q .to - 4) (drop 4 l))) ∙ parts .even
+
+    -- ---- by the item's kind
+    plain-kind : (k : ItemKind) → x .kind ≡ k → (itemNumber k ≡ 11 → ⊥) → itemNumber (x .kind) ≡ 11 → ⊥
+    plain-kind k e h z = h (ap itemNumber (sym e) ∙ z)
+
+    mentions-of : (k : ItemKind) → x .kind ≡ k → Mentions text E i (meantAs k)
+    unfolding itemMeans itemNumber leadOf namesOf
+    mentions-of Machine e = tt
+    mentions-of Kind e = tt
+    mentions-of Input e = input-shows (plain-kind Input e (λ z. omega arith)) (item-taken W x read Input e)
+    mentions-of Output e = tt
+    mentions-of Tapes e = tt
+    mentions-of States e = M.names-of text E i t l′ lexed placed row x read States e
+    mentions-of InputAlphabet e = set-shows (plain-kind InputAlphabet e (λ z. omega arith)) (ap leadOf e)
+    mentions-of TapeAlphabet e = set-shows (plain-kind TapeAlphabet e (λ z. omega arith)) (ap leadOf e)
+    mentions-of Blank e = blank-shows (plain-kind Blank e (λ z. omega arith)) (item-taken W x read Blank e)
+    mentions-of Start e = start-shows (plain-kind Start e (λ z. omega arith)) (item-taken W x read Start e)
+    mentions-of Final e = M.names-of text E i t l′ lexed placed row x read Final e
+    mentions-of Transition e = mentions-shown e
+
+    rule-of : (k : ItemKind) → x .kind ≡ k → ExpandsItem (meantAs k) → RuleOf E i (meantAs k)
+    unfolding itemMeans
+    rule-of Machine e f = tt
+    rule-of Kind e f = tt
+    rule-of Input e f = tt
+    rule-of Output e f = tt
+    rule-of Tapes e f = tt
+    rule-of States e f = tt
+    rule-of InputAlphabet e f = tt
+    rule-of TapeAlphabet e f = tt
+    rule-of Blank e f = tt
+    rule-of Start e f = tt
+    rule-of Final e f = tt
+    rule-of Transition e f = rule-shows e f
+
+    pub item-mentions : Mentions text E i (meantAs (x .kind))
+    item-mentions = mentions-of (x .kind) refl
+
+    pub item-parsed : ItemParsed text E i (meantAs (x .kind))
+    item-parsed = record {
+      tokens = l;
+      found = x;
+      read = read;
+      means = refl;
+      lexed = lexed;
+      placed = placed;
+      low = omega (arith, end-low, in-line);
+      plain = λ no r h. T.plain-at text E i t l′ lexed placed row x read (by-rule (x .kind) (λ e. absurd (no e)) (λ n p. p)) (suc r) (omega arith)
+          (omega (arith, M.b-is text E i t l′ lexed placed row x read));
+    }
+
+    item-shows : length text < 2 ^ 32 → ExpandsItem (meantAs (x .kind)) → ItemShows text E i (meantAs (x .kind)) (x .span) (ownComment l (x .end) (x .newline))
+    unfolding itemEntry
+    item-shows small f =
+        let entry = M.entry-is text E i t l′ lexed placed row x read in
+        let noted = T.noted text E i t l′ lexed placed row x read small in
+        record {
+          kind = ap (λ (w : Token). w .kind) entry ∙ ap (λ (n : ℕ). 16 + n) (sym (M.order-is text E i t l′ lexed placed row x read (x .kind)));
+          low = omega (arith, value-is, T.b-low text E i t l′ lexed placed row x read);
+          free = T.item-free text E i t l′ lexed placed row x read;
+          feed = T.item-feed text E i t l′ lexed placed row x read;
+          within = omega (arith, value-is, fits);
+          line = ap (λ (w : Token). spanWords (placeOf w)) entry;
+          comment = noted .comment;
+          own = noted .place;
+          rule = rule-of (x .kind) refl f;
+          mentions = item-mentions;
+          parsed = item-parsed;
+        }
+
+  -- ---- the line
+  comment-zero : (k : ℕ) → line W 0 ≡ Comment k → k ≡ 0
+  unfolding line isComment
+  comment-zero k e =
+      let h : (eqb (peek W 0 .kind) 12 ≡ true) × (eqb (peek W 1 .kind) 13 ≡ true) = subst (LineIn W) e (line-in W) in
+      let twelve : peek W 0 .kind ≡ 12 = eqb-true (peek W 0 .kind) 12 (h .0) in
+      let is : isComment W 0 ≡ true = rw (isComment, h .0) (h .1) in
+      let z : Comment 0 ≡ Comment k = sym (rw (line, ne-eqb (peek W 0 .kind) 13 (omega arith), is)) ∙ e in
+      let q : 0 ≡ k = cc in
+      sym q
+
+  entered-as : (y : Parsed) → line W 0 ≡ y → (r : ℕ) → r ≤ b → peek E (i + r) ≡ peek (enterAs y i W) r
+  unfolding enterLine
+  entered-as y e r h = M.row-at text E i t l′ lexed placed row r h ∙ ap (λ (y : Parsed). peek (enterAs y i W) r) e
+
+  first-as : (y : Parsed) → line W 0 ≡ y → peek E i ≡ peek (enterAs y i W) 0
+  first-as y e = let z : i + 0 ≡ i = omega arith in ap (peek E) (sym z) ∙ entered-as y e 0 (omega arith)
+
+  comment-line : length text < 2 ^ 32 → line W 0 ≡ Comment 0 → CommentShows E i (commentOf t)
+  unfolding enterAs
+  comment-line small e =
+      let h : (eqb (peek W 0 .kind) 12 ≡ true) × (eqb (peek W 1 .kind) 13 ≡ true) = subst (LineIn W) e (line-in W) in
+      let here : peek E i ≡ tokenOf t = first-as (Comment 0) e in
+      let kind : peek E i .kind ≡ 12 = ap (λ (w : Token). w .kind) here ∙ eqb-true (tokenOf t .kind) 12 (h .0) in
+      let low : 1 ≤ b =
+      by-test (eqb b 0)
+      (λ y.
+      let z : eqb (tokenOf (at l 0) .kind) 13 ≡ true = ap (λ (r : ℕ). eqb (tokenOf (at l r) .kind) 13) (sym (eqb-true b 0 y)) ∙ T.feed-at text E i t l′ lexed placed row in
+      let w : tokenOf t .kind ≡ 13 = eqb-true (tokenOf t .kind) 13 z in
+      let v : tokenOf t .kind ≡ 12 = eqb-true (tokenOf t .kind) 12 (h .0) in
+      absurd (omega arith))
+      (λ n. let z = eqb-false b 0 n in omega arith) in
+      record {
+        kind = kind;
+        text = ap textWords here ∙ comment-shown text small t (placed .0) (h .0);
+        feed = ap (λ (w : Token). w .kind) (entered-as (Comment 0) e 1 low) ∙ eqb-true (peek W 1 .kind) 13 (h .1);
+      }
+
+  line-as : length text < 2 ^ 32 → (y : Parsed) → line W 0 ≡ y → ExpandsLine (lineMeans l y) → Shows text E i (lineMeans l y)
+  unfolding lineMeans enterAs failedEntry
+  line-as small Empty e f =
+      let h : eqb (peek W 0 .kind) 13 ≡ true = subst (LineIn W) e (line-in W) in
+      ap (λ (w : Token). w .kind) (first-as Empty e) ∙ eqb-true (tokenOf t .kind) 13 h
+  line-as small (Comment k) e f =
+      let z = comment-zero k e in
+      subst (λ (k : ℕ). CommentShows E i (commentOf (at l k))) (sym z) (comment-line small (e ∙ ap Comment z))
+  line-as small (Read x) e f = item-shows x e small f
+  line-as small (Error c s) e f = omega (arith, ap (λ (w : Token). w .kind) (first-as (Error c s) e))
+
+  pub line-shows : length text < 2 ^ 32 → ExpandsLine (lineMeans l (line W 0)) → Shows text E i (lineMeans l (line W 0))
+  line-shows small f = line-as small (line W 0) refl f
