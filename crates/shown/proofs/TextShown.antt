@@ -105,7 +105,7 @@ module _ (text : List ℕ) (l : Tokens) (a : AllLexed l) (p : All (Placed text) 
   text-said =
       lines-mean (Said text E) (λ i y. Means (Said text E) (entryAt E i) y) E (λ i y m. m) 0 (lines covering l)
       (lines-from text E (λ i y. Means (Said text E) (entryAt E i) y)
-      (λ i t r a p d. line-means text E i t r a p d (Said text E) (λ x e. (item-mentions text E i t r a p d x e, item-parsed text E i t r a p d x e)) (line (map tokenOf (t ∷ r)) 0) refl)
+      (λ i t r a p d. line-means text E i t r a p d (Said text E) (λ x e. (item-mentions text E i t r a p d x e, item-parsed text E i t r a p d x e, refl)) (line (map tokenOf (t ∷ r)) 0) refl)
       (length l) 0 l (omega arith) a p (omega arith) refl)
 
 -- ---- what assembly leaves of a text
