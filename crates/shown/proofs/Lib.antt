@@ -8,4 +8,5 @@ pub mod ItemTaken
 pub mod MentionsShown
 pub mod LineTokens
 pub mod LineShown
+pub mod Declared
 pub mod TextShown

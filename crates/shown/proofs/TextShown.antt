@@ -7,10 +7,11 @@ use Prim.Native.Nat.{ℕ, zero, suc, _+_, _≤_, _<_, _^_}
 use native.Mathlib.Omega.{arith}
 use borrow.Author.Tests.{eqb-true, leb-true}
 use lib.Dec.{eqb, leb}
-use lib.ListN.{length}
+use lib.ListN.{length, getD}
 use Rattle.chars.specs.Utf8.{decode}
 use Rattle.lexer.specs.declared.Span.{Span as Place}
 use Rattle.lexer.specs.Tokens.{tokens, Token as Lexed}
+use Rattle.lexer.proofs.Writes.{tokens-of-bytes}
 use Rattle.lexer.proofs.Placed.{Placed, All, placed}
 use Rattle.tokens.specs.declared.Token.{Token}
 use Rattle.parser.specs.Row.{peek}
@@ -26,11 +27,14 @@ use Rattle.assembler.specs.declared.Assembled.{Assembled}
 use Rattle.assembler.specs.Rows.{rows}
 use Rattle.assembler.specs.Entries.{Entry, entryAt, behind, entriesFrom, entries}
 use Rattle.assembler.specs.Entered.{enteredFrom, entered}
+use Rattle.assembler.specs.Declarations.{undeclared, declarations}
 use Rattle.assembler.specs.Assembled.{Tokenized, Outcome}
-use Rattle.assembler.proofs.Means.{Means, AllMean}
+use Rattle.assembler.proofs.Rows.{length-rows}
+use Rattle.assembler.proofs.Means.{number, Means, AllMean}
 use Rattle.assembler.proofs.EntriesMean.{Tokens, Lines, lines-end, lines-on, lines-mean, lines-from, line-means}
 use Rattle.shown.proofs.Shows.{Shows, Shown, Said}
 use Rattle.shown.proofs.BodyShown.{kept-all}
+use Rattle.shown.proofs.Declared.{Agrees, Declared, declared-part}
 use Rattle.shown.proofs.LineShown.{Expands, ExpandsItem, ExpandsLine, item-mentions, item-parsed, line-shows}
 
 -- ---- with no diagnostic of rules each rule expands
@@ -138,3 +142,13 @@ module _ (text : List ℕ) (count : ℕ) (w₀ w log₀ log : List ℕ) (r : Ass
   outcome-shown e =
       subst (λ (ts : List Token). Shown text ts 0 (lines covering (tokens (decode text)))) (sym row-is)
       (text-shown text (tokens (decode text)) (tokens-lexed text) (placed text) (omega (arith, p .short)) (no-rule-errors (lines covering (tokens (decode text))) e))
+
+  -- the parts of the first declarations
+  pub outcome-declared : {B : Type 0} (part : A.Parts Place → Option B) (k : ℕ) → k < 11 → ((i : Item Place) → Agrees (part (A.parts i)) (eqb (number i) k))
+      → Declared (Said text (rows count w)) (rows count w) part (getD (r .first) k 0) (A.items (readLines (decode text)))
+  outcome-declared part k low agrees =
+      let size : length (rows count w) ≡ count = length-rows count w (omega (arith, p .room, p .many, o .entered .size, tokens-of-bytes text)) in
+      let es : List Entry = entries (rows count w) in
+      subst (λ (f : List ℕ). Declared (Said text (rows count w)) (rows count w) part (getD f k 0) (A.items (readLines (decode text))))
+      (ap (λ (n : ℕ). declarations n undeclared es) size ∙ sym (o .first))
+      (declared-part (Said text (rows count w)) (rows count w) part k low agrees (omega (arith, size, p .many, p .short, tokens-of-bytes text)) es (readLines (decode text)) outcome-said)
