@@ -1,13 +1,12 @@
 -- The head over the row is that of the machine which the lines stand for, if the tokens behind each entry say what its item declares.
-use mathlib.Core.Path.{_≡_, refl, sym, ap, ap₂, subst, _∙_}
-use mathlib.Core.Bool.{Bool, true, false, cond}
-use mathlib.Core.List.{List, [], _∷_, _++_}
+use mathlib.Core.Path.{_≡_, sym, ap, _∙_}
+use mathlib.Core.Bool.{cond}
+use mathlib.Core.List.{List, _++_}
 use mathlib.Core.Option.{Option, none, some}
-use Prim.Native.Nat.{ℕ, suc, _+_, _≤_, _<_}
+use Prim.Native.Nat.{ℕ, suc, _+_, _≤_}
 use native.Mathlib.Omega.{arith}
-use borrow.Author.Tests.{le-ltb}
-use lib.Dec.{eqb, leb, ltb}
-use lib.ListN.{length, getD, drop, getD-replicate}
+use lib.Dec.{leb, ltb}
+use lib.ListN.{length, getD}
 use lib.Seq.{getD-drop}
 use Rattle.lexer.specs.declared.Span.{Span as Place}
 use Rattle.tokens.specs.declared.Token.{Token}
@@ -22,12 +21,12 @@ use Rattle.assembler.specs.Rows as R
 use Rattle.assembler.specs.Entries.{Entry, entryAt}
 use Rattle.assembler.specs.Declarations.{undeclared, declarations}
 use Rattle.assembler.specs.Records.{placeIn}
-use Rattle.assembler.proofs.Means.{number, ItemMeans, AllMean}
+use Rattle.assembler.proofs.Means.{AllMean}
 use Rattle.sheet.specs.Rules.{resolve}
 use Rattle.machine.specs.declared.Span.{Span}
 use Rattle.machine.specs.declared.Counts.{Counts}
 use Rattle.reader.specs.Answer.{spanIn, kindIn, decoderIn, countsIn, headIn}
-use Rattle.reader.specs.Heads.{noSpan, placeAt, textOf, textAt, kindOf, kindAt, decoderOf, decoderAt, tapesAt, blankAt, startAt, declaredIn, mapIn, headAt}
+use Rattle.reader.specs.Heads.{placeAt, textOf, textAt, kindOf, kindAt, decoderOf, decoderAt, tapesAt, blankAt, startAt, declaredIn, mapIn, headAt}
 use Rattle.shown.proofs.Declared.{fills, Declared, absent, present, declared-part}
 
 -- a token's place

@@ -1,9 +1,9 @@
 -- The tokens behind an entry say of the head what its item declares: the line parser took each of them for what was due.
 use mathlib.Core.Path.{_≡_, refl, sym, ap, subst, _∙_}
 use mathlib.Core.Bool.{Bool, true, false, cond}
-use mathlib.Core.List.{List, [], _∷_, map}
+use mathlib.Core.List.{List, [], map}
 use mathlib.Core.Option.{Option, none, some}
-use Prim.Native.Nat.{ℕ, zero, suc, _+_, _≤_, _<_, _^_, min}
+use Prim.Native.Nat.{ℕ, suc, _+_, _≤_, _<_, _^_, min}
 use native.Mathlib.Omega.{arith}
 use lib.Dec.{eqb, leb}
 use lib.ListN.{length}
@@ -27,7 +27,7 @@ use Rattle.parser.proofs.Tables.{Codes}
 use Rattle.parser.proofs.Views.{isSome, sees-string, sees-number, sees-symbol}
 use Rattle.parser.proofs.Keywords.{codes-of, sees-kind, outputRows, output-rule, sees-output, sees-order}
 use Rattle.language.specs.Machine as M
-use Rattle.language.specs.Machine.{Located, transducer, asWord, asUnary, asBinary}
+use Rattle.language.specs.Machine.{Located, transducer, asUnary, asBinary}
 use Rattle.language.specs.Lines.{RawSymbol, rawBlank, RawDecoder, rawWord, rawUnary, rawBinary, OutputWord, wordOutput, unaryOutput, binaryOutput, Text, Item, Spelled, meaningOf, stringIn, wordIn, numberIn, symbolIn, stateIn, kinds, outputs, orders}
 use Rattle.language.specs.Assembly as A
 use Rattle.language.specs.Infer.{tapesOf, resolveDecoder}

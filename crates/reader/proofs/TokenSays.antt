@@ -1,30 +1,24 @@
 -- What the words of a token say of the head is what the token means, where the views of a line take it for what is due.
-use mathlib.Core.Path.{_≡_, refl, sym, ap, ap₂, subst, _∙_}
-use mathlib.Core.Bool.{Bool, true, false, cond, not, _&&_, _||_}
+use mathlib.Core.Path.{_≡_, refl, sym, ap, _∙_}
+use mathlib.Core.Bool.{Bool, true, false, cond, not}
 use mathlib.Core.List.{List, [], _∷_}
-use mathlib.Core.Option.{Option, none, some}
-use Prim.Native.Nat.{ℕ, suc, _+_, _-_, _*_, _%_, _≤_, _<_, _^_, min}
+use mathlib.Core.Option.{none, some}
+use Prim.Native.Nat.{ℕ, _+_, _-_, _%_, _≤_, _<_, _^_, min}
 use native.Mathlib.Omega.{arith}
 use native.Mathlib.Nat.{mod-eq-of-lt, min-eq-left, min-eq-right}
-use borrow.Author.Tests.{lt-ltb, le-ltb, le-leb, lt-leb, leb-true, leb-false, eqb-true}
-use lib.Dec.{eqb, leb, ltb}
+use borrow.Author.Tests.{leb-true, leb-false, eqb-true}
+use lib.Dec.{eqb, leb}
 use lib.ListN.{length}
 use Rattle.diag.proofs.Cases.{by-test}
-use Rattle.chars.proofs.Tests.{and-both}
 use Rattle.lexer.specs.declared.Span.{Span as Place}
-use Rattle.lexer.specs.Tokens.{isAsciiDigit, TokenKind, word, number, quoted, str, sign, comment, newline, unterminatedString, unterminatedQuote}
-use Rattle.lexer.specs.Words.{position, keyword, wordValue, valueFrom, value, signNumber, kindNumber, tokenValue}
-use Rattle.lexer.proofs.Scans.{digit-range}
+use Rattle.lexer.specs.Tokens.{TokenKind, word, number, quoted, str, sign, comment, newline, unterminatedString, unterminatedQuote}
+use Rattle.lexer.specs.Words.{position, keyword, wordValue, value, kindNumber, tokenValue}
 use Rattle.lexer.proofs.Placed.{Placed}
-use Rattle.lexer.proofs.Steps.{digits, Good}
 use Rattle.parser.specs.Meaning.{tokenOf}
 use Rattle.parser.proofs.Tables.{Codes, Row, row, find, known, member, valued, table-rule}
-use Rattle.parser.proofs.Views.{Unnamed, sign-rule, unnamed-number}
 use Rattle.parser.proofs.Keywords.{outputRows, output-rule}
-use Rattle.language.specs.Machine.{Located, Kind, acceptor, transducer, enumerator, beaver, BitOrder, lsb, msb, Decoder, asWord, asUnary, asBinary}
-use Rattle.language.specs.Parser.{when}
-use Rattle.language.specs.Lines.{RawSymbol, rawBlank, glyph, stringIn, symbolIn, oneCharacter, bare, bracket, meaningOf, kinds, OutputWord, wordOutput, unaryOutput, binaryOutput, outputs, orders}
-use Rattle.language.specs.Assembly as A
+use Rattle.language.specs.Machine.{Kind, acceptor, transducer, enumerator, beaver, BitOrder, lsb, msb, Decoder, asWord, asUnary, asBinary}
+use Rattle.language.specs.Lines.{stringIn, meaningOf, kinds, OutputWord, wordOutput, unaryOutput, binaryOutput, outputs, orders}
 use Rattle.tokens.specs.declared.Token.{Token as Words}
 use Rattle.sheet.specs.Rules.{resolve}
 use Rattle.language.specs.Infer.{tapesOf}

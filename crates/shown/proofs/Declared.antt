@@ -3,10 +3,10 @@ use mathlib.Core.Path.{_≡_, refl, sym, ap, subst, _∙_}
 use mathlib.Core.Bool.{Bool, true, false, cond}
 use mathlib.Core.List.{List, [], _∷_}
 use mathlib.Core.Option.{Option, none, some}
-use Prim.Native.Nat.{ℕ, suc, _+_, _-_, _≤_, _<_}
+use Prim.Native.Nat.{ℕ, _+_, _-_, _≤_, _<_}
 use native.Mathlib.Omega.{arith}
-use borrow.Author.Tests.{lt-ltb, le-ltb, le-leb, lt-leb, ltb-true, ltb-false, eqb-true, eqb-false}
-use lib.Dec.{eqb, leb, ltb}
+use borrow.Author.Tests.{lt-ltb, le-ltb, le-leb, lt-leb, eqb-true, eqb-false}
+use lib.Dec.{eqb, ltb}
 use lib.ListN.{length, getD, set, length-set, getD-replicate}
 use lib.Seq.{getD-set-same, getD-set-other}
 use Rattle.diag.proofs.Cases.{by-test}
@@ -17,7 +17,7 @@ use Rattle.language.specs.Lines.{Item, machineItem, inputItem, kindItem, output
 use Rattle.language.specs.Assembly as A
 use Rattle.assembler.specs.Entries.{Entry, entryAt}
 use Rattle.assembler.specs.Declarations.{declares, nameOf, undeclared, declare, declarations}
-use Rattle.assembler.proofs.Means.{number, ItemMeans, Means, AllMean, no-lines, one-line}
+use Rattle.assembler.proofs.Means.{number, ItemMeans, AllMean, no-lines, one-line}
 
 -- ---- one line more
 module _ (n : ℕ) (f : List ℕ) (e : Entry) where

@@ -1,8 +1,8 @@
 -- What the line parser took for the value of an item: the answer of the value's parser, and its last token, which is no comment.
 use mathlib.Core.Path.{_≡_, refl, sym, ap, subst, _∙_}
 use mathlib.Core.Bool.{Bool, true, false, cond}
-use mathlib.Core.List.{List, [], _∷_}
-use Prim.Native.Nat.{ℕ, zero, suc, _+_, _-_, _≤_, _<_}
+use mathlib.Core.List.{List}
+use Prim.Native.Nat.{ℕ, _+_, _-_, _<_}
 use native.Mathlib.Omega.{arith}
 use borrow.Author.Tests.{eqb-true, ne-eqb}
 use lib.Dec.{eqb}
@@ -13,14 +13,13 @@ use Rattle.parser.specs.declared.ItemKind.{ItemKind}
 use Rattle.parser.specs.declared.ItemKind.the-variants.{Machine, Kind, Input, Output, Tapes, States, InputAlphabet, TapeAlphabet, Blank, Start, Final, Transition}
 use Rattle.parser.specs.declared.Keyword.{Keyword}
 use Rattle.parser.specs.declared.Keyword.the-variants.{Starts, Other}
-use Rattle.parser.specs.declared.Lead.the-variants.{Equals, Nothing, Whole}
+use Rattle.parser.specs.declared.Lead.the-variants.{Equals, Nothing}
 use Rattle.parser.specs.declared.Parsed.{Parsed}
 use Rattle.parser.specs.declared.Parsed.the-variants.{Done, Failed}
 use Rattle.parser.specs.declared.Parts.{Parts}
 use Rattle.parser.specs.declared.Value.{Value}
 use Rattle.parser.specs.declared.Value.the-variants.{Done as Ended, Failed as Broken}
 use Rattle.parser.specs.declared.Item.{Item as Found}
-use Rattle.parser.specs.declared.Line.{Line}
 use Rattle.parser.specs.declared.Line.the-variants.{Blank as Empty, Comment, Item as Read, Error}
 use Rattle.parser.specs.Row.{peek}
 use Rattle.parser.specs.Views.{spanOf, isKind, isChoice, isState, isSymbol, keywordOf, leadOf}
@@ -29,7 +28,7 @@ use Rattle.assembler.proofs.Braces.{false-true, one-done}
 use Rattle.parser.proofs.Lists.{Steps, state-steps, symbol-steps}
 use Rattle.parser.proofs.Rules.{kind-steps, choice-steps, set-steps, output-steps}
 use Rattle.assembler.proofs.Inside.{then-done, done-within}
-use Rattle.shown.proofs.ListsShown.{Series, last-one, one-more, series-high, entries-series, failed-done}
+use Rattle.shown.proofs.ListsShown.{Series, last-one, one-more, entries-series}
 
 -- two cases of a line
 absurd-line : {X : Type 0} (c : ℕ) (s : Place) (x : Found) → Error c s ≡ Read x → X

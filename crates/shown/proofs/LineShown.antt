@@ -1,18 +1,18 @@
 -- One line of the row of a text shows the language's line: what was parsed still stands in its tokens, or in the entry and the two tokens that hold a rule's parts.
 use mathlib.Core.Path.{_≡_, refl, sym, ap, subst, _∙_}
-use mathlib.Core.Bool.{Bool, true, false, cond}
+use mathlib.Core.Bool.{Bool, true, false}
 use mathlib.Core.List.{List, [], _∷_, _++_, map, append-nil}
 use mathlib.Core.Option.{Option, none, some}
-use Prim.Native.Nat.{ℕ, zero, suc, _+_, _-_, _≤_, _<_, _^_, min}
+use Prim.Native.Nat.{ℕ, suc, _+_, _-_, _≤_, _<_, _^_}
 use native.Mathlib.Omega.{arith}
 use native.Mathlib.Nat.{min-eq-left}
-use borrow.Author.Tests.{eq-eqb, ne-eqb, eqb-true, eqb-false}
+use borrow.Author.Tests.{ne-eqb, eqb-true, eqb-false}
 use lib.Dec.{eqb}
-use lib.ListN.{length, take, drop, length-map}
+use lib.ListN.{length, take, drop}
 use lib.Seq.{getD-drop, drop-drop}
 use Rattle.diag.proofs.Cases.{by-test}
 use Rattle.lexer.specs.declared.Span.{Span as Place}
-use Rattle.lexer.specs.Tokens.{TokenKind, Token as Lexed}
+use Rattle.lexer.specs.Tokens.{Token as Lexed}
 use Rattle.lexer.proofs.Steps.{Good}
 use Rattle.lexer.proofs.Placed.{Placed, All}
 use Rattle.tokens.specs.declared.Token.{Token}
@@ -25,21 +25,19 @@ use Rattle.parser.specs.declared.Line.{Line as Parsed}
 use Rattle.parser.specs.declared.Line.the-variants.{Blank as Empty, Comment, Item as Read, Error}
 use Rattle.parser.specs.Row.{peek, ended}
 use Rattle.parser.specs.Views.{isKind, isState, isSymbol, isWrite, isDirection, leadOf}
-use Rattle.parser.specs.Lines.{one, direction, isComment, line, lineEnd, newlineAt}
+use Rattle.parser.specs.Lines.{one, direction, isComment, line, newlineAt}
 use Rattle.parser.specs.Meaning.{tokenOf, nothing, at, between, located, orElse, textOf, Sound, seen, readSets, ruleOf, itemMeans, commentOf, ownComment, lineMeans, AllLexed}
 use Rattle.parser.proofs.Views.{isSome, sees-symbol, sees-write, sees-direction}
-use Rattle.language.specs.Machine.{Located, Dir}
+use Rattle.language.specs.Machine.{Located}
 use Rattle.language.specs.Lines.{RawSymbol, rawBlank, RawTransition, Text, Item, machineItem, inputItem, kindItem, outputItem, tapesItem, statesItem, finalItem, inputAlphabetItem, tapeAlphabetItem, blankItem, startItem, transitionItem, Line, blankLine, commentLine, itemLine, errorLine, stateIn, symbolIn, writeIn, directionIn}
 use Rattle.language.specs.Assembly as A
-use Rattle.language.specs.Layout as L
 use Rattle.assembler.specs.Rows.{placeOf}
-use Rattle.assembler.specs.Entries.{Entry, entryAt}
+use Rattle.assembler.specs.Entries.{entryAt}
 use Rattle.assembler.specs.Entered.{itemNumber, itemEntry, failedEntry, countsOf, partsOf, enterAs, enterLine, enteredFrom}
 use Rattle.assembler.specs.Rules.{combinations, readPart}
 use Rattle.assembler.specs.Finals.{namesOf}
 use Rattle.assembler.proofs.Braces.{balanced, false-true, one-done}
 use Rattle.assembler.proofs.Inside.{PartsIn, LineIn, line-in, done-within, dirs-steps, writes-steps}
-use Rattle.assembler.proofs.Means.{number}
 use Rattle.assembler.proofs.SetsMean.{AllSound}
 use Rattle.assembler.proofs.NamesMean.{seen-append, seen-none}
 use Rattle.assembler.proofs.EntriesMean as M
@@ -49,10 +47,10 @@ use Rattle.sheet.specs.Rules.{resolve, firstEntry, setsOf, readTokens}
 use Rattle.sheet.specs.Wheels as S
 use Rattle.shown.proofs.Shows.{Both, SymbolShows, WriteShows, MoveShows, everySecond, RuleShows, RuleOf, range, StateShows, TextShows, SymbolsShow, WritesShow, ReadsShow, MentionsShow, Mentions, ItemParsed, CommentShows, ItemShows, Shows}
 use Rattle.shown.proofs.TokensShow.{place-shown, symbol-shown, write-shown, move-shown, comment-shown}
-use Rattle.shown.proofs.ListsShown.{Takes, direction-takes, RowOf, tuple-shown}
-use Rattle.shown.proofs.ReadsShown.{passed, reads-shown}
+use Rattle.shown.proofs.ListsShown.{direction-takes, RowOf, tuple-shown}
+use Rattle.shown.proofs.ReadsShown.{other-symbol, passed, reads-shown}
 use Rattle.shown.proofs.MentionsShown.{symbols-show, writes-show, reads-show, state-shows, text-shows}
-use Rattle.shown.proofs.ItemTaken.{Taken, TakenAs, item-taken}
+use Rattle.shown.proofs.ItemTaken.{Taken, item-taken}
 use Rattle.shown.proofs.LineTokens as T
 use Rattle.shown.proofs.LineTokens.{stretch, by-rule}
 
@@ -82,13 +80,7 @@ ExpandsLine (commentLine c) = Unit {0}
 ExpandsLine (errorLine n p) = Unit {0}
 ExpandsLine (itemLine k p c) = ExpandsItem k
 
--- ---- tokens of some kinds are no symbols, writes or directions
-other-symbol : (t : Token) (n : ℕ) → 2 < n → (n ≡ 11 → ⊥) → eqb (t .kind) n ≡ true → isSymbol t ≡ false
-unfolding isSymbol
-other-symbol t n h g e =
-    let k : t .kind ≡ n = eqb-true (t .kind) n e in
-    rw (ne-eqb (t .kind) 0 (omega arith), ne-eqb (t .kind) 1 (omega arith), ne-eqb (t .kind) 2 (omega arith), ne-eqb (t .kind) 11 (λ q. g (sym k ∙ q)))
-
+-- ---- signs are no writes and no directions
 sign-write : (t : Token) (n : ℕ) → 3 < n → n < 10 → eqb (t .kind) n ≡ true → isWrite t ≡ false
 unfolding isWrite
 sign-write t n h g e = let k : t .kind ≡ n = eqb-true (t .kind) n e in rw (ne-eqb (t .kind) 10 (omega arith)) (other-symbol t n (omega arith) (λ q. omega arith) e)

@@ -6,15 +6,14 @@ use mathlib.Core.Option.{Option, none, some}
 use Prim.Native.Nat.{ℕ, zero, suc, _+_, _-_, _≤_, _<_, _^_}
 use native.Mathlib.Omega.{arith}
 use native.Mathlib.Nat.{le-of-suc-le-suc}
-use borrow.Author.Tests.{eq-eqb, ne-eqb, eqb-true, eqb-false, le-ltb, lt-ltb, ltb-true, ltb-false}
+use borrow.Author.Tests.{eq-eqb, ne-eqb, eqb-true, eqb-false, ltb-true, ltb-false}
 use lib.Dec.{eqb, ltb}
-use lib.ListN.{length, getD, take, drop, set, length-take, length-map}
-use lib.Seq.{getD-take, getD-drop, getD-set-same, getD-set-other, drop-cons, length-take-le}
+use lib.ListN.{length, take, drop, set, length-map}
+use lib.Seq.{getD-take, getD-drop, getD-set-other, drop-cons, length-take-le}
 use Rattle.diag.proofs.Cases.{by-test}
 use Rattle.lexer.specs.declared.Span.{Span as Place}
 use Rattle.lexer.specs.Tokens.{TokenKind, newline, Token as Lexed}
-use Rattle.lexer.specs.Words.{kindNumber, tokenValue}
-use Rattle.lexer.proofs.Steps.{Good}
+use Rattle.lexer.specs.Words.{kindNumber}
 use Rattle.lexer.proofs.Placed.{Placed, All, all-at}
 use Rattle.tokens.specs.declared.Token.{Token}
 use Rattle.parser.specs.declared.Parts.{Parts}
@@ -23,7 +22,7 @@ use Rattle.parser.specs.declared.ItemKind.the-variants.{Machine, Kind, Input, O
 use Rattle.parser.specs.declared.Item.{Item as Found}
 use Rattle.parser.specs.declared.Line.the-variants.{Item as Read}
 use Rattle.parser.specs.Row.{peek, ended}
-use Rattle.parser.specs.Lines.{line, lineEnd, lineLength, newlineAt}
+use Rattle.parser.specs.Lines.{line, lineLength, newlineAt}
 use Rattle.parser.specs.Meaning.{tokenOf, nothing, at, Sound, Closed, AllLexed, commentOf, ownComment}
 use Rattle.parser.proofs.ItemLines.{goes-kind, feed-kind}
 use Rattle.language.specs.Machine.{Located}
@@ -31,19 +30,16 @@ use Rattle.language.specs.Lines.{Ending, lineFeed, goesBy, remark, endingOf}
 use Rattle.language.specs.Assembly as A
 use Rattle.language.specs.Layout as L
 use Rattle.assembler.specs.Entered.{itemNumber, itemEntry, countsOf, partsOf, enteredFrom}
-use Rattle.assembler.proofs.Braces.{false-true}
 use Rattle.assembler.proofs.NamesMean.{AllFree}
 use Rattle.assembler.proofs.EntriesMean as M
 use Rattle.assembler.proofs.EntriesMean.{Tokens, sound-all, peek-map, free-before, feed-there, end-is}
-use Rattle.sheet.specs.Comments.{spanWords, textOf, textWords, commentsIn, between}
+use Rattle.sheet.specs.Comments.{spanWords, textOf, textWords, between}
 use Rattle.sheet.specs.Rules.{noSpan, ownPlace}
 use Rattle.sheet.proofs.CommentLaws.{comments-one, comments-no, between-none, between-on}
 use Rattle.shown.proofs.TokensShow.{comment-shown}
 use Rattle.shown.proofs.BodyShown.{between-join}
-use Rattle.shown.proofs.ItemTaken.{item-begins, TakenAs, item-taken, taken-ends, taken-high}
-
-both-values : {X : Type 0} (t : Bool) → t ≡ true → t ≡ false → X
-both-values t y n = false-true (sym n ∙ y)
+use Rattle.shown.proofs.ReadsShown.{both-values}
+use Rattle.shown.proofs.ItemTaken.{item-begins, item-taken, taken-ends, taken-high}
 
 -- ---- tokens of a text
 -- no line feed before the first

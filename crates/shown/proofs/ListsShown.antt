@@ -1,38 +1,32 @@
 -- The lists of a rule: their entries stand at every second index, or are sets, and are what the language sees in their tokens.
 use mathlib.Core.Path.{_≡_, refl, sym, ap, subst, _∙_}
 use mathlib.Core.Bool.{Bool, true, false, cond}
-use mathlib.Core.List.{List, [], _∷_, _++_, map}
+use mathlib.Core.List.{List, [], _∷_, map}
 use mathlib.Core.Option.{Option, none, some}
-use Prim.Native.Nat.{ℕ, zero, suc, _+_, _-_, _*_, _≤_, _<_}
+use Prim.Native.Nat.{ℕ, zero, suc, _+_, _-_, _≤_, _<_}
 use native.Mathlib.Omega.{arith}
-use borrow.Author.Tests.{eq-eqb, ne-eqb, eqb-true, eqb-false}
+use borrow.Author.Tests.{eqb-true, eqb-false}
 use lib.Dec.{eqb}
-use lib.ListN.{length, take, drop, length-map}
-use lib.Seq.{drop-cons, drop-drop}
+use lib.ListN.{length, take, drop}
+use lib.Seq.{drop-cons}
 use Rattle.diag.proofs.Cases.{by-test}
 use Rattle.lexer.specs.declared.Span.{Span as Place}
 use Rattle.lexer.specs.Tokens.{TokenKind, Token as Lexed}
 use Rattle.lexer.proofs.Steps.{Good}
 use Rattle.tokens.specs.declared.Token.{Token}
-use Rattle.parser.specs.declared.Parsed.{Parsed}
 use Rattle.parser.specs.declared.Parsed.the-variants.{Done, Failed}
-use Rattle.parser.specs.Row.{peek, ended}
-use Rattle.parser.specs.Views.{isKind, isSymbol, isWrite, isDirection, isText}
-use Rattle.parser.specs.Lines.{Parser, then, unexpected, one, direction, separator, entriesFrom, entries, tuple, readEntry}
-use Rattle.parser.specs.Meaning.{tokenOf, nothing, at, between, Sound, seen, ReadPart, opens, closes, passes, reads, readPart, joins, outside, inside, readSets}
-use Rattle.parser.proofs.Views.{isSome, sees-symbol}
-use Rattle.parser.proofs.Lists.{read-steps}
-use Rattle.language.specs.Machine.{Located, Dir}
-use Rattle.language.specs.Lines.{RawSymbol, symbolIn}
-use Rattle.assembler.proofs.Braces.{false-true, symbol-brace, not-brace, one-done, Parted, separator-done}
-use Rattle.assembler.proofs.Inside.{then-done, done-within}
-use Rattle.assembler.proofs.SetsMean.{Reads, read-by}
+use Rattle.parser.specs.Row.{peek}
+use Rattle.parser.specs.Views.{isDirection, isText}
+use Rattle.parser.specs.Lines.{Parser, then, unexpected, one, direction, separator, entriesFrom, entries, tuple}
+use Rattle.parser.specs.Meaning.{tokenOf, nothing, at, between, Sound, seen}
+use Rattle.parser.proofs.Views.{isSome}
+use Rattle.language.specs.Machine.{Located}
+use Rattle.assembler.proofs.Braces.{separator-done}
+use Rattle.assembler.proofs.Inside.{then-done}
 use Rattle.assembler.proofs.NamesMean.{seen-by, seen-none}
 use Rattle.assembler.proofs.EntriesMean.{Tokens, peek-map, between-none}
-use Rattle.sheet.specs.Wheels as S
 use Rattle.sheet.specs.Rules.{firstEntry}
-use Rattle.shown.proofs.Shows.{Both, no-members, members, SymbolShows, everySecond}
-use Rattle.shown.proofs.TokensShow.{none-some, symbol-shown}
+use Rattle.shown.proofs.Shows.{Both, no-members, members, everySecond}
 
 -- ---- entries of one token each, with a comma between two of them, up to a closing sign
 pub data Series (f : Token → Bool) (close : ℕ) (ts : List Token) : ℕ → ℕ → Type 0 where

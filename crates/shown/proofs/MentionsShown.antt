@@ -1,12 +1,10 @@
 -- Tokens of a text show what the language's views see in them: symbols, writes, read sets, states and strings.
 use mathlib.Core.Path.{_≡_, refl, sym, ap, subst, _∙_}
-use mathlib.Core.Bool.{Bool, true, false, cond}
-use mathlib.Core.List.{List, [], _∷_, _++_, map}
+use mathlib.Core.Bool.{Bool, true, false}
+use mathlib.Core.List.{List, [], _∷_, map}
 use mathlib.Core.Option.{Option, none, some}
-use Prim.Native.Nat.{ℕ, zero, suc, _+_, _-_, _≤_, _<_}
+use Prim.Native.Nat.{ℕ, _-_}
 use native.Mathlib.Omega.{arith}
-use borrow.Author.Tests.{ne-eqb, eqb-true}
-use lib.Dec.{eqb}
 use Rattle.lexer.specs.declared.Span.{Span as Place}
 use Rattle.lexer.specs.Tokens.{TokenKind, word, number, quoted, str, sign, comment, newline, unterminatedString, unterminatedQuote, Token as Lexed}
 use Rattle.lexer.proofs.Placed.{Placed, All}
@@ -16,21 +14,19 @@ use Rattle.parser.specs.Meaning.{tokenOf, located, orElse, textOf, Sound, seenO
 use Rattle.parser.proofs.Views.{isSome, names-star, sees-sign, sees-symbol, sees-state, sees-string}
 use Rattle.language.specs.Machine.{Located}
 use Rattle.language.specs.Parser.{isSign}
-use Rattle.language.specs.Lines.{RawSymbol, Text, stateIn, symbolIn, writeIn, stringIn}
+use Rattle.language.specs.Lines.{RawSymbol, stateIn, symbolIn, writeIn, stringIn}
 use Rattle.assembler.proofs.Braces.{balanced, false-true}
 use Rattle.assembler.proofs.SetsMean.{AllSound, Reads, read-by, balanced-by}
 use Rattle.assembler.proofs.NamesMean.{seen-by, state-word}
 use Rattle.assembler.proofs.EntriesMean.{Tokens}
-use Rattle.shown.proofs.Shows.{SymbolShows, StateShows, TextShows, SymbolsShow, no-symbols, no-symbol, one-symbol, WritesShow, no-writes, no-write, write-back, one-write, ReadsShow, no-reads, no-read, opens as opening, closes as closing, alone, member}
-use Rattle.shown.proofs.TokensShow.{some-of, none-some, symbol-shown}
-use Rattle.shown.proofs.ReadsShown.{reads-symbol, outside-by, inside-by}
+use Rattle.shown.proofs.Shows.{StateShows, TextShows, SymbolsShow, no-symbols, no-symbol, one-symbol, WritesShow, no-writes, no-write, write-back, one-write, ReadsShow, no-reads, no-read, opens as opening, closes as closing, alone, member}
+use Rattle.shown.proofs.TokensShow.{none-some, symbol-shown}
+use Rattle.shown.proofs.ReadsShown.{other-symbol, reads-symbol, outside-by, inside-by}
 
 -- `*` is no symbol
 star-symbol : (t : Lexed Place) → Sound t → isSome (isSign 0x2A (t .kind)) ≡ true → isSymbol (tokenOf t) ≡ false
-unfolding isSymbol isKind
-star-symbol t s e =
-    let k : tokenOf t .kind ≡ 10 = eqb-true (tokenOf t .kind) 10 (sees-sign 0x2A 10 names-star (t .kind) (t .place) (t .inner) s ∙ e) in
-    rw (ne-eqb (tokenOf t .kind) 0 (omega arith), ne-eqb (tokenOf t .kind) 1 (omega arith), ne-eqb (tokenOf t .kind) 2 (omega arith), ne-eqb (tokenOf t .kind) 11 (omega arith))
+unfolding isKind
+star-symbol t s e = other-symbol (tokenOf t) 10 (omega arith) (λ q. omega arith) (sees-sign 0x2A 10 names-star (t .kind) (t .place) (t .inner) s ∙ e)
 
 -- what is written, by its parts
 write-by : (k : TokenKind) (a : Option Bool) (c : Option RawSymbol) → isSign 0x2A k ≡ a → symbolIn k ≡ c

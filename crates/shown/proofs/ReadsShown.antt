@@ -1,21 +1,20 @@
 -- The read sets of a rule: the entries of the row, one after another, are the sets that the language sees in their tokens.
 use mathlib.Core.Path.{_≡_, refl, sym, ap, subst, _∙_}
-use mathlib.Core.Bool.{Bool, true, false, cond}
-use mathlib.Core.List.{List, [], _∷_, _++_, map}
+use mathlib.Core.Bool.{Bool, true, false}
+use mathlib.Core.List.{List, [], _∷_, map}
 use mathlib.Core.Option.{Option, none, some}
 use Prim.Native.Nat.{ℕ, zero, suc, _+_, _-_, _*_, _≤_, _<_}
 use native.Mathlib.Omega.{arith}
-use borrow.Author.Tests.{eq-eqb, ne-eqb, eqb-true, eqb-false}
+use borrow.Author.Tests.{ne-eqb, eqb-true, eqb-false}
 use lib.Dec.{eqb}
-use lib.ListN.{length, take, drop}
+use lib.ListN.{length, drop}
 use lib.Seq.{drop-cons, drop-drop}
 use Rattle.diag.proofs.Cases.{by-test}
 use Rattle.lexer.specs.declared.Span.{Span as Place}
 use Rattle.lexer.specs.Tokens.{TokenKind, Token as Lexed}
 use Rattle.lexer.proofs.Steps.{Good}
 use Rattle.tokens.specs.declared.Token.{Token}
-use Rattle.parser.specs.declared.Parsed.{Parsed}
-use Rattle.parser.specs.declared.Parsed.the-variants.{Done, Failed}
+use Rattle.parser.specs.declared.Parsed.the-variants.{Done}
 use Rattle.parser.specs.Row.{peek, ended}
 use Rattle.parser.specs.Views.{isSymbol}
 use Rattle.parser.specs.Lines.{then, unexpected, one, separator, entriesFrom, entries, tuple, readEntry}
@@ -27,7 +26,7 @@ use Rattle.language.specs.Lines.{RawSymbol, symbolIn}
 use Rattle.assembler.proofs.Braces.{false-true, symbol-brace, not-brace, one-done, separator-done}
 use Rattle.assembler.proofs.Inside.{then-done, done-within}
 use Rattle.assembler.proofs.SetsMean.{Reads, read-by}
-use Rattle.assembler.proofs.EntriesMean.{Tokens, between-none}
+use Rattle.assembler.proofs.EntriesMean.{Tokens}
 use Rattle.sheet.specs.Wheels as S
 use Rattle.sheet.specs.Rules.{firstEntry}
 use Rattle.shown.proofs.Shows.{Both, no-members, members, SymbolShows}
@@ -38,7 +37,7 @@ use Rattle.shown.proofs.ListsShown.{Series, last-one, one-more, series-
 abbrev Members : Type 0
 Members = List (Located Place RawSymbol)
 
-both-values : {X : Type 0} (t : Bool) → t ≡ true → t ≡ false → X
+pub both-values : {X : Type 0} (t : Bool) → t ≡ true → t ≡ false → X
 both-values t y n = false-true (sym n ∙ y)
 
 module _ (t : Token) where
@@ -60,12 +59,12 @@ module _ (t : Token) where
   part-pass (reads s) h n m e = both-values (isSymbol t) (h .2) e
   part-pass passes h n m e = refl
 
--- a sign between 3 and 10 that is no brace is passed over
-sign-symbol : (t : Token) (n : ℕ) → 3 < n → n < 10 → eqb (t .kind) n ≡ true → isSymbol t ≡ false
+-- a token of a kind that no symbol has
+pub other-symbol : (t : Token) (n : ℕ) → 2 < n → (n ≡ 11 → ⊥) → eqb (t .kind) n ≡ true → isSymbol t ≡ false
 unfolding isSymbol
-sign-symbol t n h g e =
+other-symbol t n h g e =
     let k : t .kind ≡ n = eqb-true (t .kind) n e in
-    rw (ne-eqb (t .kind) 0 (omega arith), ne-eqb (t .kind) 1 (omega arith), ne-eqb (t .kind) 2 (omega arith), ne-eqb (t .kind) 11 (omega arith))
+    rw (ne-eqb (t .kind) 0 (omega arith), ne-eqb (t .kind) 1 (omega arith), ne-eqb (t .kind) 2 (omega arith), ne-eqb (t .kind) 11 (λ q. g (sym k ∙ q)))
 
 pub reads-symbol : (k : TokenKind) (s : RawSymbol) → readPart k ≡ reads s → symbolIn k ≡ some s
 unfolding readPart
@@ -129,7 +128,7 @@ module _ (E : List Token) (o b : ℕ) (l : Tokens) (row : RowOf E o b l) where
   pass-part r n h a c f g e =
       let k : eqb (tokenOf (at l r) .kind) n ≡ true = token-is E o b l row (λ t. eqb (t .kind) n) true r e in
       let z = not-brace (tokenOf (at l r)) n k f g in
-      part-pass (tokenOf (at l r)) (readPart (at l r .kind)) (read-by (at l r) (row .sound r h)) (z .0) (z .1) (sign-symbol (tokenOf (at l r)) n a c k)
+      part-pass (tokenOf (at l r)) (readPart (at l r .kind)) (read-by (at l r) (row .sound r h)) (z .0) (z .1) (other-symbol (tokenOf (at l r)) n (omega arith) (λ q. omega arith) k)
 
   -- a sign is passed over
   pub passed : (r n k : ℕ) → r ≤ b → r < k → 3 < n → n < 10 → (n ≡ 6 → ⊥) → (n ≡ 7 → ⊥) → eqb (peek W r .kind) n ≡ true → readSets false (between l r k) ≡ readSets false (between l (r + 1) k)

@@ -28,7 +28,7 @@ use Rattle.assembler.specs.Finals.{namesOf}
 use Rattle.assembler.proofs.Means.{number}
 use Rattle.assembler.proofs.FinalsMean.{NameIs, AllNames}
 use Rattle.assembler.proofs.EntriesMean.{Lines}
-use Rattle.sheet.specs.Comments.{spanWords, textOf, textWords, between, next}
+use Rattle.sheet.specs.Comments.{spanWords, textWords, between, next}
 use Rattle.sheet.specs.Rules.{resolve, written, moveOf, firstEntry, setsOf, ownPlace, readTokens}
 
 -- two lists whose members correspond

@@ -2,21 +2,21 @@
 use mathlib.Core.Path.{_≡_, refl, sym, ap, subst, _∙_}
 use mathlib.Core.Bool.{Bool, true, false, _&&_}
 use mathlib.Core.List.{List, [], _∷_, _++_, map}
-use mathlib.Core.Option.{Option, none, some}
-use Prim.Native.Nat.{ℕ, zero, suc, _+_, _≤_, _<_, _^_}
+use mathlib.Core.Option.{Option}
+use Prim.Native.Nat.{ℕ, _+_, _≤_, _<_, _^_}
 use native.Mathlib.Omega.{arith}
 use borrow.Author.Tests.{eqb-true, leb-true}
 use lib.Dec.{eqb, leb}
 use lib.ListN.{length, getD}
 use Rattle.chars.specs.Utf8.{decode}
 use Rattle.lexer.specs.declared.Span.{Span as Place}
-use Rattle.lexer.specs.Tokens.{tokens, Token as Lexed}
+use Rattle.lexer.specs.Tokens.{tokens}
 use Rattle.lexer.proofs.Writes.{tokens-of-bytes}
 use Rattle.lexer.proofs.Placed.{Placed, All, placed}
 use Rattle.tokens.specs.declared.Token.{Token}
 use Rattle.parser.specs.Row.{peek}
 use Rattle.parser.specs.Lines.{line}
-use Rattle.parser.specs.Meaning.{tokenOf, lineMeans, AllLexed}
+use Rattle.parser.specs.Meaning.{tokenOf, AllLexed}
 use Rattle.parser.proofs.Lexed.{tokens-lexed}
 use Rattle.language.specs.Machine.{Located}
 use Rattle.language.specs.Lines.{RawTransition, Item, machineItem, inputItem, kindItem, outputItem, tapesItem, statesItem, finalItem, inputAlphabetItem, tapeAlphabetItem, blankItem, startItem, transitionItem, Line, blankLine, commentLine, itemLine, errorLine, lines, covering, readLines}
@@ -25,8 +25,8 @@ use Rattle.language.proofs.Every.{Every, every-any}
 use Rattle.language.proofs.Counts.{kept-every}
 use Rattle.assembler.specs.declared.Assembled.{Assembled}
 use Rattle.assembler.specs.Rows.{rows}
-use Rattle.assembler.specs.Entries.{Entry, entryAt, behind, entriesFrom, entries}
-use Rattle.assembler.specs.Entered.{enteredFrom, entered}
+use Rattle.assembler.specs.Entries.{Entry, entryAt, behind, entries}
+use Rattle.assembler.specs.Entered.{entered}
 use Rattle.assembler.specs.Declarations.{undeclared, declarations}
 use Rattle.assembler.specs.Assembled.{Tokenized, Outcome}
 use Rattle.assembler.proofs.Rows.{length-rows}
