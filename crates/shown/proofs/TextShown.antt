@@ -21,6 +21,8 @@ use Rattle.parser.proofs.Lexed.{tokens-lexed}
 use Rattle.language.specs.Machine.{Located}
 use Rattle.language.specs.Lines.{RawTransition, Item, machineItem, inputItem, kindItem, outputItem, tapesItem, statesItem, finalItem, inputAlphabetItem, tapeAlphabetItem, blankItem, startItem, transitionItem, Line, blankLine, commentLine, itemLine, errorLine, lines, covering, readLines}
 use Rattle.language.specs.Assembly as A
+use Rattle.language.specs.Infer.{machineOf}
+use Rattle.language.specs.Layout as L
 use Rattle.language.proofs.Every.{Every, every-any}
 use Rattle.language.proofs.Counts.{kept-every}
 use Rattle.assembler.specs.declared.Assembled.{Assembled}
@@ -32,8 +34,10 @@ use Rattle.assembler.specs.Assembled.{Tokenized, Outcome}
 use Rattle.assembler.proofs.Rows.{length-rows}
 use Rattle.assembler.proofs.Means.{number, Means, AllMean}
 use Rattle.assembler.proofs.EntriesMean.{Tokens, Lines, lines-end, lines-on, lines-mean, lines-from, line-means}
+use Rattle.sheet.specs.Comments.{textWords, header, trailing}
+use Rattle.sheet.specs.Rules.{rules, ruleLengths}
 use Rattle.shown.proofs.Shows.{Shows, Shown, Said}
-use Rattle.shown.proofs.BodyShown.{kept-all}
+use Rattle.shown.proofs.BodyShown.{header-shown, trailing-shown, rules-shown, lengths-shown, kept-all}
 use Rattle.shown.proofs.Declared.{Agrees, Declared, declared-part}
 use Rattle.shown.proofs.LineShown.{Expands, ExpandsItem, ExpandsLine, item-mentions, item-parsed, line-shows}
 
@@ -152,3 +156,28 @@ module _ (text : List ℕ) (count : ℕ) (w₀ w log₀ log : List ℕ) (r : Ass
       subst (λ (f : List ℕ). Declared (Said text (rows count w)) (rows count w) part (getD f k 0) (A.items (readLines (decode text))))
       (ap (λ (n : ℕ). declarations n undeclared es) size ∙ sym (o .first))
       (declared-part (Said text (rows count w)) (rows count w) part k low agrees (omega (arith, size, p .many, p .short, tokens-of-bytes text)) es (readLines (decode text)) outcome-said)
+
+  -- ---- the sheet's sections of comments and rules, where there is no diagnostic
+  module _ (fine : A.diagnosticsOf (readLines (decode text)) ≡ []) where
+    abbrev ls : List (Line Place)
+    ls = readLines (decode text)
+
+    all-kept : A.kept 0 (A.bodyOf ls .rules) ≡ A.bodyOf ls .rules
+    all-kept = kept-all 0 (A.bodyOf ls .rules) (no-rule-errors ls fine)
+
+    pub outcome-header : L.flat textWords (header (rows count w)) ≡ L.flat L.locatedWords (machineOf (readLines (decode text)) .header)
+    unfolding machineOf
+    outcome-header = header-shown 0 (rows count w) ls (outcome-shown fine)
+
+    pub outcome-trailing : L.flat textWords (trailing (rows count w)) ≡ L.flat L.locatedWords (machineOf (readLines (decode text)) .trailing)
+    unfolding machineOf
+    outcome-trailing = trailing-shown 0 (rows count w) ls (outcome-shown fine)
+
+    pub outcome-rules : rules (machineOf (readLines (decode text)) .blank) (rows count w) ≡ L.flat L.ruleWords (machineOf (readLines (decode text)) .rules)
+    unfolding machineOf
+    outcome-rules =
+        let c : ℕ = A.blankOf (A.items ls) in
+        rules-shown c (rows count w) ls (outcome-shown fine) ∙ ap (λ (l : List (A.RuleLine Place)). L.flat L.ruleWords (A.expandAll c l)) (sym all-kept)
+
+    pub outcome-lengths : ruleLengths (rows count w) ≡ L.ruleLengths (A.kept 0 (A.bodyOf (readLines (decode text)) .rules))
+    outcome-lengths = lengths-shown 0 (rows count w) ls (outcome-shown fine) ∙ ap L.ruleLengths (sym all-kept)
