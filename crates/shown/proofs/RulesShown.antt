@@ -15,11 +15,11 @@ use Rattle.language.specs.Lines.{RawSymbol, RawTransition}
 use Rattle.language.specs.Assembly as A
 use Rattle.language.specs.Layout as L
 use Rattle.assembler.specs.Rows.{placeOf}
 use Rattle.sheet.specs.declared.rules.Rule.{Rule}
 use Rattle.sheet.specs.Comments.{spanWords, textOf, textWords, between}
 use Rattle.sheet.specs.Rules.{noSpan, resolve, written, moveOf, firstEntry, ruleAt, setsOf, ownPlace, tapeWords, tapesWords, placesWords, headWords, ruleWords, dressed, expanded}
-use Rattle.sheet.proofs.Shows.{Both, no-members, members, SymbolShows, WriteShows, MoveShows, everySecond, RuleShows}
+use Rattle.shown.proofs.Shows.{Both, no-members, members, SymbolShows, WriteShows, MoveShows, everySecond, RuleShows}
 use Rattle.sheet.proofs.CommentLaws.{length-texts}
 
 -- ---- lists that correspond
 module _ {X Y : Type 0} (R : X → Y → Type 0) where

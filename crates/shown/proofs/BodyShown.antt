@@ -21,12 +21,12 @@ use Rattle.language.proofs.Counts.{flat-append}
 use Rattle.assembler.specs.Entries.{Entry, entryAt, behind, entries}
 use Rattle.assembler.proofs.Rows.{entriesAt, entries-step, entries-end}
 use Rattle.assembler.proofs.Means.{number}
 use Rattle.sheet.specs.declared.comments.Pending.{Pending}
 use Rattle.sheet.specs.Comments.{textWords, commentsIn, between, next, nothing, passed, passedAll, leadFrom, headerOf, headerFrom, header, trailing}
 use Rattle.sheet.specs.Rules.{expanded, lineRules, rulesFrom, rules, lineLength, lengthsFrom, ruleLengths}
 use Rattle.sheet.proofs.CommentLaws.{comments-append, comments-one, comments-no, between-none, between-on}
-use Rattle.sheet.proofs.Shows.{RuleShows, CommentShows, ItemShows, Shows, Shown, no-lines, one-line}
-use Rattle.sheet.proofs.RulesShown.{line-shown, leading-shown}
+use Rattle.shown.proofs.Shows.{RuleShows, CommentShows, ItemShows, Shows, Shown, no-lines, one-line}
+use Rattle.shown.proofs.RulesShown.{line-shown, leading-shown}
 
 abbrev Comments : Type 0
 Comments = List (Located Place (List ℕ))

@@ -27,9 +27,9 @@ use Rattle.language.specs.Assembly as A
 use Rattle.language.specs.Layout as L
 use Rattle.diag.proofs.Cases.{by-test}
 use Rattle.assembler.specs.Rows.{placeOf}
 use Rattle.sheet.specs.Comments.{spanWords, textOf, textWords}
 use Rattle.sheet.specs.Rules.{resolve, written, moveOf}
-use Rattle.sheet.proofs.Shows.{SymbolShows, WriteShows, MoveShows}
+use Rattle.shown.proofs.Shows.{SymbolShows, WriteShows, MoveShows}
 
 -- an option that is some
 module _ {X : Type 0} where
@@ -58,19 +58,35 @@ digit-code c h =
     ap (λ (n : ℕ). n % 2 ^ 32) e ∙ mod-eq-of-lt (omega arith)
 
 -- ---- symbols
--- a sign that is a symbol
-sign-code : (p q : Place) (b d : ℕ) → elim (symbolIn (sign d)) [ some s ↦ A.resolve b s | none ↦ 0 ] ≡ elim (symbolIn (sign d)) [ some s ↦ resolve b (tokenOf (tok (sign d) p q)) | none ↦ 0 ]
-unfolding symbolIn bracket resolve tokenOf kindNumber tokenValue signNumber
-sign-code p q b d =
-    sign-rule (λ d. elim (symbolIn (sign d)) [ some s ↦ A.resolve b s | none ↦ 0 ]) (λ d. elim (symbolIn (sign d)) [ some s ↦ resolve b (tokenOf (tok (sign d) p q)) | none ↦ 0 ])
-    refl refl refl refl refl refl refl
-    (λ d u. rw (unnamed-number d u, u .no-l-paren, u .no-r-paren, u .no-l-brace, u .no-r-brace, u .no-comma, u .no-eq, u .no-star) (go d (eqb d 0x3B))) d
-  where
-    go : (d : ℕ) (x : Bool) → elim (when (not x) (bare 0x2423 d)) [ some s ↦ A.resolve b s | none ↦ 0 ] ≡ elim (when (not x) (bare 0x2423 d)) [ some s ↦ cond (eqb d 0x2423) b d | none ↦ 0 ]
-    go d true = refl
-    go d false = bare-code b 0x2423 d
+-- what a symbol view says of a sign, by both
+module _ (b : ℕ) (p q : Place) where
+  abbrev signed : ℕ → Token
+  signed d = tokenOf (tok (sign d) p q)
 
-symbol-code : (k : TokenKind) (p q : Place) (s : RawSymbol) (b : ℕ) → Good k → symbolIn k ≡ some s → resolve b (tokenOf (tok k p q)) ≡ A.resolve b s
+  abbrev means : Option RawSymbol → Option ℕ
+  means none = none
+  means (some s) = some (A.resolve b s)
+
+  abbrev reads : Option RawSymbol → ℕ → Option ℕ
+  reads none n = none
+  reads (some s) n = some n
+
+  both : (t : Bool) (x : RawSymbol) → means (when t x) ≡ reads (when t x) (A.resolve b x)
+  both true x = refl
+  both false x = refl
+
+  other-code : (d : ℕ) → signNumber d ≡ 11 → resolve b (signed d) ≡ A.resolve b (bare 0x2423 d)
+  unfolding resolve tokenOf kindNumber tokenValue
+  other-code d h = rw h (sym (bare-code b 0x2423 d))
+
+  sign-code : (c : ℕ) → means (symbolIn (sign c)) ≡ reads (symbolIn (sign c)) (resolve b (signed c))
+  unfolding symbolIn bracket tokenOf kindNumber tokenValue
+  sign-code =
+      sign-rule (λ c. means (symbolIn (sign c))) (λ c. reads (symbolIn (sign c)) (resolve b (signed c))) refl refl refl refl refl refl refl
+      (λ d u.
+      both (not (bracket d || eqb d 0x2A || eqb d 0x3B)) (bare 0x2423 d) ∙ ap (reads (symbolIn (sign d))) (sym (other-code d (unnamed-number d u))))
+
+pub symbol-code : (k : TokenKind) (p q : Place) (s : RawSymbol) (b : ℕ) → Good k → symbolIn k ≡ some s → resolve b (tokenOf (tok k p q)) ≡ A.resolve b s
 unfolding symbolIn oneCharacter tokenOf kindNumber tokenValue wordValue resolve A.resolve
 symbol-code (word []) p q s b g e = none-some s e
 symbol-code (word (c ∷ [])) p q s b g e = sym (bare-code b 0x5F c) ∙ ap (A.resolve b) (some-of (bare 0x5F c) s e)
@@ -84,8 +100,8 @@ symbol-code (number (c ∷ [])) p q s b g e = digit-code c (and-true (isAsciiDig
 symbol-code (number (c ∷ d ∷ w)) p q s b g e = none-some s e
 symbol-code (quoted c) p q s b g e = ap (A.resolve b) (some-of (glyph c) s e)
 symbol-code (sign c) p q s b g e =
-    sym (ap (λ (o : Option RawSymbol). elim o [ some s ↦ resolve b (tokenOf (tok (sign c) p q)) | none ↦ 0 ]) e) ∙ sym (sign-code p q b c)
-    ∙ ap (λ (o : Option RawSymbol). elim o [ some s ↦ A.resolve b s | none ↦ 0 ]) e
+    some-of (resolve b (tokenOf (tok (sign c) p q))) (A.resolve b s)
+    (sym (ap (λ (o : Option RawSymbol). reads b p q o (resolve b (tokenOf (tok (sign c) p q)))) e) ∙ sym (sign-code b p q c) ∙ ap (means b p q) e)
 symbol-code (str v) p q s b g e = none-some s e
 symbol-code (comment v) p q s b g e = none-some s e
 symbol-code newline p q s b g e = none-some s e
