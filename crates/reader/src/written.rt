@@ -1,4 +1,10 @@
 // A machine in the sheet, and its head; or the words that it needs.
+ghost use mathlib.Core.Path.{_≡_};
+ghost use Prim.Native.Nat.{ℕ};
+ghost use lib.ListN.{length};
+ghost use Rattle.language.specs.Outcome.{zeros, readMachine};
+ghost use Rattle.answered.specs.Ready.{linesOf, Ready};
+ghost use Rattle.reader.specs.Answer.{readIn};
 use crate::Answer;
 use crate::Refusal;
 use crate::sections;
@@ -40,7 +46,10 @@ pub fn machine(
     count: usize,
     a: Assembled,
     sheet: &mut [u32],
-) -> Answer {
+) -> Answer
+    requires { ⌜ (Ready (now text) count (now work) (a .first) (a .rules)) × (now sheet ≡ zeros (length (now sheet))) ⌝ }
+    ensures { λ r. ⌜ (n : ℕ) → readIn r (zeros n) (now (sheet .exit)) ≡ readMachine (linesOf (now (text .entry))) n (length (now (sheet .entry))) ⌝ }
+{
     let first = a.first;
     let blank = head::blank_at(work, count, first[8]);
     let e = sections::sections(text, work, count, &first, blank, sheet);
