@@ -48,7 +48,7 @@ pub fn machine(
     sheet: &mut [u32],
 ) -> Answer
     requires { ⌜ (Ready (now text) count (now work) (a .first) (a .rules)) × (now sheet ≡ zeros (length (now sheet))) ⌝ }
-    ensures { λ r. ⌜ (n : ℕ) → readIn r (zeros n) (now (sheet .exit)) ≡ readMachine (linesOf (now (text .entry))) n (length (now (sheet .entry))) ⌝ }
+    ensures { λ r. ⌜ ((n : ℕ) → readIn r (zeros n) (now (sheet .exit)) ≡ readMachine (linesOf (now (text .entry))) n (length (now (sheet .entry)))) ⌝ }
 {
     let first = a.first;
     let blank = head::blank_at(work, count, first[8]);
