@@ -1,13 +1,15 @@
 // The states: the names in the order of inference, each once, or as often as a declared Q repeats it.
 ghost use mathlib.Core.Path.{_≡_};
-ghost use mathlib.Core.Bool.{false};
+ghost use mathlib.Core.Bool.{true, false};
 ghost use Prim.Native.Nat.{_+_, _*_, _<_, _≤_, _^_};
 ghost use lib.ListN.{length};
 ghost use Rattle.parser.specs.Row.{peek};
+ghost use Rattle.parser.specs.Views.{isState};
+ghost use Rattle.sheet.specs.Stored.{Stored};
 ghost use Rattle.assembler.specs.Rows.{rows};
 ghost use Rattle.assembler.specs.Entries.{entryAt, entries};
-ghost use Rattle.infer.specs.Page.{page, indicesIn};
-ghost use Rattle.infer.specs.States.{markAt, Scratch, unmarked, listFinal, listFinals, stateNamed, named, namedAll, mention, mentions, startName, inferred, states, finals};
+ghost use Rattle.infer.specs.Page.{page, Kept, indicesIn};
+ghost use Rattle.infer.specs.States.{markAt, Scratch, unmarked, listFinal, listFinals, stateNamed, named, namedAll, mention, mentions, startName, inferred, states, finals, stateSection};
 use crate::put;
 use assembler::entry;
 use lexer::kind;
@@ -25,7 +27,7 @@ const TRANSITION: u32 = 11;
 
 // Where the mark of the name at an index stands.
 fn mark_index(work: &[u32], count: usize, size: usize, x: usize) -> usize
-    requires { ⌜ Scratch size count (now work) × (x < count) ⌝ }
+    requires { ⌜ Scratch size count (now work) × (x < count) × (isState (peek (rows count (now work)) x) ≡ true) ⌝ }
     ensures { λ r. ⌜ r ≡ markAt size (now (work .entry)) x ⌝ }
 {
     5 * size + entry::wide(work[4 * size + x])
@@ -70,7 +72,7 @@ fn state(
     out: &mut [u32],
     at: usize,
 ) -> usize
-    requires { ⌜ Scratch size count (now work) × (x < count) × (at + 3 < 2 ^ 64) ⌝ }
+    requires { ⌜ Scratch size count (now work) × (x < count) × (isState (peek (rows count (now work)) x) ≡ true) × (at + 3 < 2 ^ 64) ⌝ }
     ensures { λ r. ⌜ page (now (work .exit)) (now (out .exit)) r ≡ stateNamed size t repeats (page (now (work .entry)) (now (out .entry)) at) x ⌝ }
 {
     let k = mark_index(work, count, size, x);
@@ -233,4 +235,20 @@ pub fn states(
     let s = crate::index(first[START]);
     let f = crate::index(first[FINAL]);
     inferred(work, count, size, s, f, out, at)
+}
+
+// The section of states from the index `at` on; of work only the marks change.
+pub fn section(
+    work: &mut [u32],
+    count: usize,
+    size: usize,
+    first: &[u32; 11],
+    out: &mut [u32],
+    at: usize,
+) -> usize
+    requires { ⌜ Scratch size count (now work) × (at + 9 * count + 3 < 2 ^ 64) ⌝ }
+    ensures { λ r. ⌜ Kept (5 * size) (now (work .entry)) (now (work .exit)) × Stored (stateSection size (rows count (now (work .entry))) (now (first .entry)) (now (work .entry))) (now (out .entry)) at (now (out .exit)) r ⌝ }
+{
+    finals(work, count, size, first);
+    states(work, count, size, first, out, at)
 }
