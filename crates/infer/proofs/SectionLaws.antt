@@ -10,13 +10,16 @@ use lib.Seq.{sets, take-at, length-take-le}
 use Rattle.tokens.specs.declared.Token.{Token}
 use Rattle.parser.specs.Row.{peek}
 use Rattle.parser.specs.Views.{isState}
-use Rattle.assembler.specs.Rows.{rows}
+use Rattle.assembler.specs.Rows.{rows, placeOf}
 use Rattle.assembler.specs.Entries.{entries}
+use Rattle.diag.specs.declared.Span.{Span}
+use Rattle.language.specs.Layout.{flat}
+use Rattle.sheet.specs.Comments.{spanWords}
 use Rattle.sheet.specs.Stored.{Stored}
-use Rattle.sheet.proofs.Writes.{stored-append, stored-none}
+use Rattle.sheet.proofs.Writes.{stored-append, stored-none, stored-as, Writing, writing-start, writing-on, writing-same, written}
 use Rattle.infer.specs.Page.{Page, page, Kept, indicesIn}
-use Rattle.infer.specs.States.{markAt, Scratch, listFinals, listFinal, nameWords, stateNamed, named, namedAll, mentions, startName, unmarked, inferred, finals, states, nameAdds, nameMarks, namesAdd, statesAdd, stateSection}
-use Rattle.infer.proofs.Pages.{kept-refl, kept-on}
+use Rattle.infer.specs.States.{markAt, Scratch, listFinals, listFinal, nameWords, stateNamed, named, namedAll, mentions, startName, unmarked, inferred, finals, states, nameAdds, nameMarks, namesAdd, statesAdd, stateSection, placeAt, finalSection}
+use Rattle.infer.proofs.Pages.{kept-refl, kept-on, indicesAt, indices-start, indices-stop, indices-on, indices-end}
 use Rattle.infer.proofs.NameLaws.{scratch-kept, scratch-rows, final-kept, Gone, named-gone}
 
 -- ---- names
@@ -121,3 +124,53 @@ module _ (size count : ℕ) (w first : List ℕ) (s : Scratch size count w) (w�
     section-stored =
         let there : Stored (statesAdd size (rows count w₁) first w₁) o n o₂ r = subst (λ (q : Page). Stored (statesAdd size (rows count w₁) first w₁) o n (q .out) (q .at)) (sym names) (all-stored size (rows count w₁) first (page w₁ o n)) in
         subst (λ (v : List ℕ). Stored (statesAdd size (rows count w) first v) o n o₂ r) marks (subst (λ (ts : List Token). Stored (statesAdd size ts first w₁) o n o₂ r) row₁ there)
+
+-- ---- the places of F
+module _ (t : Token) (o : List ℕ) (i : ℕ) (b : Bool) (test : b ≡ isState t) where
+  pub place-put : (p : Span) (o′ : List ℕ) (r : ℕ) → b ≡ true → p ≡ placeOf t → Stored (spanWords p) o i o′ r → Stored (cond (isState t) (spanWords (placeOf t)) []) o i o′ r
+  place-put p o′ r e f s = stored-as (cond (isState t) (spanWords (placeOf t)) []) (spanWords p) o o′ i r (rw (← test, e, ← f)) s
+
+  pub place-none : b ≡ false → Stored (cond (isState t) (spanWords (placeOf t)) []) o i o i
+  place-none e = stored-none (cond (isState t) (spanWords (placeOf t)) []) o i (rw (← test, e))
+
+-- the walk has come to the index i
+pub record Placing (ts : List Token) (f : ℕ) (o₀ : List ℕ) (n₀ : ℕ) (o : List ℕ) (n i : ℕ) : Type 0 where
+  pub writing : let ws = finalSection ts f in Writing (sets o₀ n₀ ws) (n₀ + length ws) o n (flat (placeAt ts) (indicesAt ts i))
+  pub near : n + 2 * (f + 1) ≤ n₀ + 2 * i
+
+pub placing-start : (ts : List Token) (f : ℕ) (o : List ℕ) (n : ℕ) → Placing ts f o n o n (f + 1)
+unfolding finalSection
+placing-start ts f o n = record { writing = subst (λ (xs : List ℕ). let ws = finalSection ts f in Writing (sets o n ws) (n + length ws) o n (flat (placeAt ts) xs)) (sym (indices-start ts f)) (writing-start o n (finalSection ts f)); near = omega arith }
+
+module _ (ts : List Token) (f : ℕ) (o₀ : List ℕ) (n₀ : ℕ) (o : List ℕ) (n i : ℕ) (p : Placing ts f o₀ n₀ o n i) where
+  done : indicesAt ts i ≡ [] → Stored (finalSection ts f) o₀ n₀ o n
+  unfolding flat
+  done e = written o₀ n₀ (finalSection ts f) o n (flat (placeAt ts) (indicesAt ts i)) (p .writing) (ap (flat (placeAt ts)) e)
+
+  module _ (count : ℕ) (many : length ts ≡ count) where
+    pub placing-end : count ≤ i → Stored (finalSection ts f) o₀ n₀ o n
+    placing-end h = done (indices-end ts i (omega arith))
+
+    module _ (t : Token) (low : i < count) (at : t ≡ peek ts i) where
+      kind-at : peek ts i .kind ≡ t .kind
+      kind-at = ap (λ (t : Token). t .kind) (sym at)
+
+      pub placing-stop : t .kind ≡ 13 → Stored (finalSection ts f) o₀ n₀ o n
+      placing-stop e = done (indices-stop ts i (omega arith) (kind-at ∙ e))
+
+      pub placing-on : (o′ : List ℕ) (n′ : ℕ) → (t .kind ≡ 13 → ⊥) → Stored (cond (isState t) (spanWords (placeOf t)) []) o n o′ n′ → Placing ts f o₀ n₀ o′ n′ (i + 1)
+      unfolding flat placeAt
+      placing-on o′ n′ e s =
+          let ws : List ℕ = finalSection ts f in
+          let here : placeAt ts i ≡ cond (isState t) (spanWords (placeOf t)) [] = ap (λ (t : Token). cond (isState t) (spanWords (placeOf t)) []) (sym at) in
+          let split : flat (placeAt ts) (indicesAt ts i) ≡ cond (isState t) (spanWords (placeOf t)) [] ++ flat (placeAt ts) (indicesAt ts (i + 1)) =
+          ap (flat (placeAt ts)) (indices-on ts i (omega arith) (λ q. e (sym kind-at ∙ q))) ∙ ap (λ (l : List ℕ). l ++ flat (placeAt ts) (indicesAt ts (i + 1))) here in
+          let few : length (cond (isState t) (spanWords (placeOf t)) []) ≤ 2 = two (isState t) in
+          record {
+            writing = writing-on (sets o₀ n₀ ws) (n₀ + length ws) o n (flat (placeAt ts) (indicesAt ts i)) (p .writing) (cond (isState t) (spanWords (placeOf t)) []) (flat (placeAt ts) (indicesAt ts (i + 1))) o′ n′ split s;
+            near = omega (arith, p .near, s .behind, few);
+          }
+        where
+          two : (b : Bool) → length (cond b (spanWords (placeOf t)) []) ≤ 2
+          two true = omega arith
+          two false = omega arith

@@ -8,10 +8,12 @@ use lib.Dec.{eqb, ltb}
 use lib.ListN.{length, getD, take, drop, set, replicate}
 use lib.Seq.{sets}
 use Rattle.tokens.specs.declared.Token.{Token}
+use Rattle.language.specs.Layout.{flat}
 use Rattle.parser.specs.Row.{peek}
 use Rattle.parser.specs.Views.{isState}
-use Rattle.assembler.specs.Rows.{rows}
+use Rattle.assembler.specs.Rows.{rows, placeOf}
 use Rattle.assembler.specs.Entries.{Entry, entries}
+use Rattle.sheet.specs.Comments.{spanWords}
 use Rattle.infer.specs.Page.{Page, page, indicesIn}
 
 -- the index of the mark of the name at x
@@ -117,3 +119,12 @@ statesAdd size ts first w =
 unfoldable pub stateSection : ℕ → List Token → List ℕ → List ℕ → List ℕ
 unfolding statesAdd finals
 stateSection size ts first w = statesAdd size ts first (finals size ts first w)
+
+-- the place of the token at x, if a state stands there
+unfoldable pub placeAt : List Token → ℕ → List ℕ
+placeAt ts x = cond (isState (peek ts x)) (spanWords (placeOf (peek ts x))) []
+
+-- the section of finals: the place of each name that the line at f lists
+unfoldable pub finalSection : List Token → ℕ → List ℕ
+unfolding flat placeAt indicesIn
+finalSection ts f = flat (placeAt ts) (indicesIn ts f)
