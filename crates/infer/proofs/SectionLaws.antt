@@ -4,8 +4,9 @@ use mathlib.Core.Bool.{Bool, true, false, cond}
 use mathlib.Core.List.{List, [], _∷_, _++_}
 use Prim.Native.Nat.{ℕ, _+_, _-_, _*_, _≤_, _<_, _^_}
 use native.Mathlib.Omega.{arith}
+use borrow.Author.Tests.{lt-ltb, le-ltb}
 use lib.Dec.{ltb}
-use lib.ListN.{length, getD, take, drop, set, replicate, length-append, length-drop, length-replicate}
+use lib.ListN.{length, getD, take, drop, set, replicate, length-append, length-drop, length-replicate, List·getD-eq-default}
 use lib.Seq.{sets, take-at, length-take-le}
 use Rattle.tokens.specs.declared.Token.{Token}
 use Rattle.parser.specs.Row.{peek}
@@ -18,7 +19,7 @@ use Rattle.sheet.specs.Comments.{spanWords}
 use Rattle.sheet.specs.Stored.{Stored}
 use Rattle.sheet.proofs.Writes.{stored-append, stored-none, stored-as, Writing, writing-start, writing-on, writing-same, written}
 use Rattle.infer.specs.Page.{Page, page, Kept, indicesIn}
-use Rattle.infer.specs.States.{markAt, Scratch, listFinals, listFinal, nameWords, stateNamed, named, namedAll, mentions, startName, unmarked, inferred, finals, states, nameAdds, nameMarks, namesAdd, statesAdd, stateSection, placeAt, finalSection}
+use Rattle.infer.specs.States.{markAt, Scratch, listFinals, listFinal, nameWords, stateNamed, named, namedAll, mentions, startName, unmarked, inferred, finals, states, nameAdds, nameMarks, namesAdd, statesAdd, stateSection, placeAt, finalSection, firstState}
 use Rattle.infer.proofs.Pages.{kept-refl, kept-on, indicesAt, indices-start, indices-stop, indices-on, indices-end}
 use Rattle.infer.proofs.NameLaws.{scratch-kept, scratch-rows, final-kept, Gone, named-gone}
 
@@ -174,3 +175,15 @@ module _ (ts : List Token) (f : ℕ) (o₀ : List ℕ) (n₀ : ℕ) (o : List �
           two : (b : Bool) → length (cond b (spanWords (placeOf t)) []) ≤ 2
           two true = omega arith
           two false = omega arith
+
+-- ---- the first state
+pub word-past : (o : List ℕ) (i : ℕ) → length o ≤ i → 0 ≡ getD o i 0
+word-past o i h = sym (List·getD-eq-default o 0 {n = i} h)
+
+pub first-there : (o : List ℕ) (i j x y : ℕ) → i < j → x ≡ getD o i 0 → y ≡ getD o (i + 1) 0 → _≡_ {A = Span} (record { start = x; end = y }) (firstState o i j)
+unfolding firstState
+first-there o i j x y h e f = rw (lt-ltb i j h, e, f)
+
+pub first-none : (o : List ℕ) (i j : ℕ) → j ≤ i → _≡_ {A = Span} (record { start = 0xffffffff; end = 0xffffffff }) (firstState o i j)
+unfolding firstState
+first-none o i j h = rw (le-ltb i j h)

@@ -13,6 +13,7 @@ use Rattle.parser.specs.Row.{peek}
 use Rattle.parser.specs.Views.{isState}
 use Rattle.assembler.specs.Rows.{rows, placeOf}
 use Rattle.assembler.specs.Entries.{Entry, entries}
+use Rattle.diag.specs.declared.Span.{Span}
 use Rattle.sheet.specs.Comments.{spanWords}
 use Rattle.infer.specs.Page.{Page, page, indicesIn}
 
@@ -128,3 +129,7 @@ placeAt ts x = cond (isState (peek ts x)) (spanWords (placeOf (peek ts x))) []
 unfoldable pub finalSection : List Token → ℕ → List ℕ
 unfolding flat placeAt indicesIn
 finalSection ts f = flat (placeAt ts) (indicesIn ts f)
+
+-- the place of the first state, whose section stands in the sheet from the index i to before j; 4294967295 twice if there is none
+unfoldable pub firstState : List ℕ → ℕ → ℕ → Span
+firstState o i j = cond (ltb i j) (record { start = getD o i 0; end = getD o (i + 1) 0 }) (record { start = 0xffffffff; end = 0xffffffff })

@@ -2,16 +2,17 @@
 ghost use mathlib.Core.Path.{_≡_};
 ghost use mathlib.Core.Bool.{true, false};
 ghost use Prim.Native.Nat.{_+_, _*_, _<_, _≤_, _^_};
-ghost use lib.ListN.{length};
+ghost use lib.ListN.{length, getD};
 ghost use Rattle.parser.specs.Row.{peek};
 ghost use Rattle.parser.specs.Views.{isState};
 ghost use Rattle.sheet.specs.Stored.{Stored};
 ghost use Rattle.assembler.specs.Rows.{rows};
 ghost use Rattle.assembler.specs.Entries.{entryAt, entries};
 ghost use Rattle.infer.specs.Page.{page, Kept, indicesIn};
-ghost use Rattle.infer.specs.States.{markAt, Scratch, unmarked, listFinal, listFinals, stateNamed, named, namedAll, mention, mentions, startName, inferred, states, finals, stateSection};
+ghost use Rattle.infer.specs.States.{markAt, Scratch, unmarked, listFinal, listFinals, stateNamed, named, namedAll, mention, mentions, startName, inferred, states, finals, stateSection, firstState};
 use crate::put;
 use assembler::entry;
+use diag::Span;
 use lexer::kind;
 use parser::view;
 use tokens::Token;
@@ -24,6 +25,9 @@ const START: usize = 9;
 const FINAL: usize = 10;
 
 const TRANSITION: u32 = 11;
+
+// A word of the place that says that there is none.
+const NONE: u32 = 0xFFFFFFFF;
 
 // Where the mark of the name at an index stands.
 fn mark_index(work: &[u32], count: usize, size: usize, x: usize) -> usize
@@ -251,4 +255,31 @@ pub fn section(
 {
     finals(work, count, size, first);
     states(work, count, size, first, out, at)
+}
+
+// The word at an index, 0 where there is none.
+fn word_at(out: &[u32], i: usize) -> u32
+    ensures { λ r. ⌜ r ≡ getD (now (out .entry)) i 0 ⌝ }
+{
+    if i < out.len() {
+        return out[i];
+    }
+    0
+}
+
+// The place of the first state, whose section stands from the index `at` to before `end`.
+pub fn first_state(out: &[u32], at: usize, end: usize) -> Span
+    requires { ⌜ at + 1 < 2 ^ 64 ⌝ }
+    ensures { λ r. ⌜ r ≡ firstState (now (out .entry)) at end ⌝ }
+{
+    if at < end {
+        return Span {
+            start: word_at(out, at),
+            end: word_at(out, at + 1),
+        };
+    }
+    Span {
+        start: NONE,
+        end: NONE,
+    }
 }
