@@ -21,11 +21,12 @@ use Rattle.language.proofs.Counts.{flat-append}
 use Rattle.assembler.specs.Entries.{Entry, entryAt, behind, entries}
 use Rattle.assembler.proofs.Rows.{entriesAt, entries-step, entries-end}
 use Rattle.assembler.proofs.Means.{number}
+use Rattle.assembler.proofs.EntriesMean.{lines-end, lines-on}
 use Rattle.sheet.specs.declared.comments.Pending.{Pending}
 use Rattle.sheet.specs.Comments.{textWords, commentsIn, between, next, nothing, passed, passedAll, leadFrom, headerOf, headerFrom, header, trailing}
 use Rattle.sheet.specs.Rules.{expanded, lineRules, rulesFrom, rules, lineLength, lengthsFrom, ruleLengths}
 use Rattle.sheet.proofs.CommentLaws.{comments-append, comments-one, comments-no, between-none, between-on}
-use Rattle.shown.proofs.Shows.{RuleShows, CommentShows, ItemShows, Shows, Shown, no-lines, one-line}
+use Rattle.shown.proofs.Shows.{RuleShows, CommentShows, ItemShows, Shows, Shown}
 use Rattle.shown.proofs.RulesShown.{line-shown, leading-shown}
 
 abbrev Comments : Type 0
@@ -196,7 +197,7 @@ module _ (b : ℕ) (ts : List Token) (p : Pending) (i : ℕ) (h : i < length ts)
   }
 
   -- a rule's line
-  module _ (r : RawTransition Place) (q : Place) (c : Option (Located Place (List ℕ))) (m : ItemShows ts i (transitionItem r) q c) (hs lead : Comments)
+  module _ {text : List ℕ} (r : RawTransition Place) (q : Place) (c : Option (Located Place (List ℕ))) (m : ItemShows text ts i (transitionItem r) q c) (hs lead : Comments)
       (heads : L.flat textWords (headerOf ts p t) ≡ L.flat L.locatedWords hs) (leads : wordsIn ts (leadFrom p) i ≡ L.flat L.locatedWords lead) where
     abbrev line : A.RuleLine Place
     line = record { raw = r; line = q; comment = c; leading = lead }
@@ -257,7 +258,7 @@ module _ (ts : List Token) (p : Pending) (i : ℕ) where
   header-failed h = rw (le-ltb (peek ts i .kind) 16 (omega arith), le-ltb (peek ts i .kind) 27 (omega arith), ne-eqb (peek ts i .kind) 27 (λ z. omega arith))
 
   module _ (seen : Bool) (old block : Comments) (g : Pends ts p i seen old block) where
-    header-declared : (k : Item Place) (q : Place) (c : Option (Located Place (List ℕ))) → number k < 11 → ItemShows ts i k q c
+    header-declared : {text : List ℕ} (k : Item Place) (q : Place) (c : Option (Located Place (List ℕ))) → number k < 11 → ItemShows text ts i k q c
         → L.flat textWords (headerOf ts p (peek ts i)) ≡ L.flat L.locatedWords (old ++ block ++ A.ofOption c)
     unfolding headerOf
     header-declared k q c n m =
@@ -282,8 +283,8 @@ unfolding leadFrom A.leads
 lead-rule ts p i true old block g = ap (λ (s : Bool). wordsIn ts (cond s (p .from) (p .block)) i) (g .seen-is) ∙ pends-all ts p i true old block g
 lead-rule ts p i false old block g = ap (λ (s : Bool). wordsIn ts (cond s (p .from) (p .block)) i) (g .seen-is) ∙ g .blocks
 
-item-tied : (b : ℕ) (ts : List Token) (p : Pending) (i : ℕ) (seen : Bool) (old block : Comments) (k : Item Place) (q : Place) (c : Option (Located Place (List ℕ))) (body : A.Body Place)
-    → i < length ts → Pends ts p i seen old block → ItemShows ts i k q c → Kinded k → Tied b ts (passed p i (peek ts i)) (next i (peek ts i)) body
+item-tied : {text : List ℕ} (b : ℕ) (ts : List Token) (p : Pending) (i : ℕ) (seen : Bool) (old block : Comments) (k : Item Place) (q : Place) (c : Option (Located Place (List ℕ))) (body : A.Body Place)
+    → i < length ts → Pends ts p i seen old block → ItemShows text ts i k q c → Kinded k → Tied b ts (passed p i (peek ts i)) (next i (peek ts i)) body
     → Tied b ts p i (A.attachItem (A.parts k .rule) seen old block q c body)
 unfolding A.attachItem A.parts number
 item-tied b ts p i seen old block k q c body h g m (declares n e) rest =
@@ -292,30 +293,30 @@ item-tied b ts p i seen old block k q c body h g m (declares n e) rest =
 item-tied b ts p i seen old block k q c body h g m (rule r) rest =
     tied-rule b ts p i h body rest r q c m (A.unled seen old) (A.leads seen old block) (header-rule ts p i seen old block g (kind-rule m)) (lead-rule ts p i seen old block g)
   where
-    kind-rule : ItemShows ts i (transitionItem r) q c → peek ts i .kind ≡ 27
+    kind-rule : {text : List ℕ} → ItemShows text ts i (transitionItem r) q c → peek ts i .kind ≡ 27
     kind-rule m = m .kind
 
 -- ---- all lines
-pub tied : (b : ℕ) (ts : List Token) (i : ℕ) (ls : List (Line Place)) (p : Pending) (seen : Bool) (old block : Comments) → Shown ts i ls → Pends ts p i seen old block
+pub tied : {text : List ℕ} (b : ℕ) (ts : List Token) (i : ℕ) (ls : List (Line Place)) (p : Pending) (seen : Bool) (old block : Comments) → Shown text ts i ls → Pends ts p i seen old block
     → Tied b ts p i (A.attach seen old block ls)
 unfolding A.attach A.addHeader L.flat
-tied b ts i [] p seen old block (no-lines e) g = tied-end b ts p i old block e seen g
-tied b ts i (blankLine ∷ ls) p seen old block (one-line h m s) g =
+tied b ts i [] p seen old block (lines-end e) g = tied-end b ts p i old block e seen g
+tied b ts i (blankLine ∷ ls) p seen old block (lines-on h m s) g =
     tied-other b ts p i h (A.attach seen (old ++ block) [] ls) (tied b ts (next i (peek ts i)) ls (passed p i (peek ts i)) seen (old ++ block) [] s (pends-blank ts p i seen old block g m)) []
     (λ z. omega arith) (header-low ts p i (omega arith))
-tied b ts i (commentLine c ∷ ls) p seen old block (one-line h m s) g =
+tied b ts i (commentLine c ∷ ls) p seen old block (lines-on h m s) g =
     tied-other b ts p i h (A.attach seen old (block ++ c ∷ []) ls)
     (tied b ts (next i (peek ts i)) ls (passed p i (peek ts i)) seen old (block ++ c ∷ []) s (pends-comment ts p i seen old block g c m)) [] (λ z. omega (arith, m .kind))
     (header-low ts p i (omega (arith, m .kind)))
-tied b ts i (errorLine n q ∷ ls) p seen old block (one-line h m s) g =
+tied b ts i (errorLine n q ∷ ls) p seen old block (lines-on h m s) g =
     tied-other b ts p i h (A.attach true [] [] ls) (tied b ts (next i (peek ts i)) ls (passed p i (peek ts i)) true [] [] s (pends-after ts p i (omega arith))) [] (λ z. omega arith)
     (header-failed ts p i m)
-tied b ts i (itemLine k q c ∷ ls) p seen old block (one-line h m s) g =
+tied b ts i (itemLine k q c ∷ ls) p seen old block (lines-on h m s) g =
     item-tied b ts p i seen old block k q c (A.attach true [] [] ls) h g m (kinded k)
     (tied b ts (next i (peek ts i)) ls (passed p i (peek ts i)) true [] [] s (pends-after ts p i (omega (arith, m .kind))))
 
 -- ---- the sections
-module _ (b : ℕ) (ts : List Token) (ls : List (Line Place)) (s : Shown ts 0 ls) where
+module _ {text : List ℕ} (b : ℕ) (ts : List Token) (ls : List (Line Place)) (s : Shown text ts 0 ls) where
   whole : Tied b ts nothing 0 (A.bodyOf ls)
   unfolding A.bodyOf
   whole = tied b ts 0 ls nothing false [] [] s (pends-start ts)
