@@ -61,6 +61,7 @@ one-of-two t = by-test (eqb (t .kind) 0)
     go : (b : Bool) → 0 + one b ≤ 1
     go true = omega arith
     go false = omega arith
+
     go′ : (b : Bool) → one b + 0 ≤ 1
     go′ true = omega arith
     go′ false = omega arith
@@ -139,8 +140,14 @@ lines-found ts first s [] = omega arith
 lines-found ts first s (e ∷ es) =
     let v : Verdict = verdict (s .rules) e in
     let f : List ℕ = declare (length ts) first e in
-    omega (arith, line-found ts first (s .rules) (s .cut) e, lines-found ts f (after s v) es, length-append (lineError (e .first)) (lineErrors es),
-    length-append (declarationError ts first e) (declarationErrors ts f es), length-append (ruleError v (s .cut) (placeOf (e .first))) (ruleErrors (after s v) es))
+    omega (
+      arith,
+      line-found ts first (s .rules) (s .cut) e,
+      lines-found ts f (after s v) es,
+      length-append (lineError (e .first)) (lineErrors es),
+      length-append (declarationError ts first e) (declarationErrors ts f es),
+      length-append (ruleError v (s .cut) (placeOf (e .first))) (ruleErrors (after s v) es),
+    )
 
 -- ---- the names that F lists
 names-of : (i : ℕ) (ts : List Token) → length (namesFrom i ts) ≤ many isState ts

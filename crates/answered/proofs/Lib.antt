@@ -1,1 +1,2 @@
 pub mod Few
+pub mod Bounds

@@ -3,3 +3,4 @@ pub mod StateNames
 pub mod AnswerWords
 pub mod Reports
 pub mod Outcomes
+pub mod Calls

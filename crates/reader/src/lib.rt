@@ -10,7 +10,6 @@ use admission::Admission;
 use machine::Head;
 
 pub mod admission;
-pub mod listed;
 pub mod name;
 pub mod report;
 pub mod sections;

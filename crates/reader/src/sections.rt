@@ -1,6 +1,6 @@
 // The sections of the sheet before the rules.
-use crate::listed;
 use assembler::entry;
+use infer::finals;
 use infer::states;
 use infer::symbols;
 use sheet::comments;
@@ -25,12 +25,11 @@ pub fn sections(
     sheet: &mut [u32],
 ) -> Ends {
     let size = text.len() + 1;
-    states::finals(work, count, size, first);
-    let q = states::states(work, count, size, first, sheet, 0);
+    let q = states::section(work, count, size, first, sheet, 0);
     let n = symbols::gamma_codes(text, work, count, 5 * size, first, blank);
     let s = symbols::sigma(work, count, 5 * size, n, first, blank, sheet, q);
     let g = symbols::gamma(work, count, 5 * size, n, first, blank, sheet, s);
-    let f = listed::names(work, count, entry::wide(first[10]), sheet, g);
+    let f = finals::section(work, count, entry::wide(first[10]), sheet, g);
     let h = comments::header(work, count, sheet, f);
     let t = comments::trailing(work, count, sheet, h);
     Ends {

@@ -10,6 +10,7 @@ use crate::Refusal;
 use crate::sections;
 use crate::sections::Ends;
 use assembler::Assembled;
+use infer::states;
 use machine::Counts;
 use machine::Span;
 use sheet::expand;
@@ -28,14 +29,14 @@ fn counts(e: Ends, rules: usize) -> Counts {
     }
 }
 
-// The place of the first state, if the states take any of the sheet's words.
-fn first_state(sheet: &[u32], states: usize) -> Span {
-    if states == 0 {
-        return head::NONE;
-    }
+// The place of the first state in the sheet, whose states end there.
+fn first_state(sheet: &[u32], end: usize) -> Span
+    ensures { λ r. ⌜ r ≡ spanOf (firstState (now (sheet .entry)) 0 end) ⌝ }
+{
+    let p = states::first_state(sheet, 0, end);
     Span {
-        start: sheet[0],
-        end: sheet[1],
+        start: p.start,
+        end: p.end,
     }
 }
 
