@@ -7,6 +7,7 @@ use Prim.Native.Nat.{ℕ, zero, suc, _+_, _≤_, _<_, _^_, min}
 use native.Mathlib.Omega.{arith}
 use lib.Dec.{eqb, leb}
 use lib.ListN.{length, getD, List·getD-map, length-map}
+use lib.Seq.{getD-drop}
 use Rattle.diag.proofs.Cases.{by-test}
 use Rattle.lexer.specs.declared.Span.{Span as Place}
 use Rattle.lexer.specs.Tokens.{TokenKind, word, number, quoted, str, sign, comment, newline, unterminatedString, unterminatedQuote, Token as Lexed}
@@ -26,7 +27,7 @@ use Rattle.parser.specs.declared.Value.the-variants.{Done as Ended, Failed as B
 use Rattle.parser.specs.declared.Item.{Item as Found}
 use Rattle.parser.specs.declared.Line.{Line}
 use Rattle.parser.specs.declared.Line.the-variants.{Blank as Empty, Comment, Item as Read, Error}
-use Rattle.parser.specs.Row.{peek}
+use Rattle.parser.specs.Row.{ended, peek}
 use Rattle.parser.specs.Views.{spanOf, isKind, isChoice, isState, isSymbol, keywordOf, leadOf}
 use Rattle.parser.specs.Lines as P
 use Rattle.parser.specs.Meaning.{tokenOf, nothing, at, orElse, located, textOf, decoderAt, itemMeans, SoundAs, Sound, AllLexed}
@@ -38,8 +39,9 @@ use Rattle.language.specs.Machine.{Located, transducer, asWord, asUnary, asBina
 use Rattle.language.specs.Lines.{RawSymbol, rawBlank, RawDecoder, rawWord, rawUnary, rawBinary, OutputWord, wordOutput, unaryOutput, binaryOutput, Text, Item, Spelled, meaningOf, stringIn, wordIn, numberIn, symbolIn, stateIn, kinds, outputs, orders}
 use Rattle.language.specs.Assembly as A
 use Rattle.language.specs.Infer.{tapesOf, resolveDecoder}
-use Rattle.assembler.specs.Entries.{Entry}
+use Rattle.assembler.specs.Entries.{Entry, entryAt}
 use Rattle.sheet.specs.Rules.{resolve}
+use Rattle.shown.proofs.Shows.{ItemParsed}
 use Rattle.head.specs.Meaning.{spanIn, kindIn, orderIn, decoderIn}
 use Rattle.head.specs.Heads as H
 use Rattle.head.specs.Heads.{kindOf, orderOf, decoderOf}
@@ -289,18 +291,6 @@ decoder-is l o q = by-word (located (wordIn outputs) wordOutput (at l 1) .value)
     by-word unaryOutput = refl
     by-word binaryOutput = refl
 
--- ---- the interface: what an upper layer needs to know of an entry and its item
--- the tokens of the language from the line's first on, what the parser read there, and that the tokens behind the entry of a declaration are as they were
-pub record Shown (text : List ℕ) (e : Entry) (k : Item Place) : Type 0 where
-  pub tokens : List (Lexed Place)
-  pub found : Found
-  pub read : P.line (map tokenOf tokens) 0 ≡ Read found
-  pub means : itemMeans tokens (found .kind) (found .value) (found .end) (found .parts) ≡ k
-  pub lexed : AllLexed tokens
-  pub placed : All (Placed text) tokens
-  pub low : found .end ≤ length tokens
-  pub plain : (found .kind ≡ Transition → ⊥) → (r : ℕ) → suc r ≤ found .newline → peek (e .rest) r ≡ tokenOf (at tokens (suc r))
-
 module _ (text : List ℕ) (short : length text < 2 ^ 32) (e : Entry) (l : Tokens) (x : Found) (lexed : AllLexed l) (placed : All (Placed text) l) (low : x .end ≤ length l)
     (plain : (r : ℕ) → suc r ≤ x .newline → peek (e .rest) r ≡ tokenOf (at l (suc r))) where
   abbrev W : List Token
@@ -468,9 +458,12 @@ by-rule Blank f g = g (λ e. absurd (let z : _≡_ {A = ℕ} 0 1 = cc in omega a
 by-rule Start f g = g (λ e. absurd (let z : _≡_ {A = ℕ} 0 1 = cc in omega arith))
 by-rule Final f g = g (λ e. absurd (let z : _≡_ {A = ℕ} 0 1 = cc in omega arith))
 
--- the tokens behind an entry that is shown say of the head what its item declares
-pub shown-says : (text : List ℕ) → length text < 2 ^ 32 → (e : Entry) (k : Item Place) → Shown text e k → HM.Says e (A.parts k)
-shown-says text short e k s =
+-- the tokens behind an entry whose item was parsed say of the head what the item declares
+pub parsed-says : (text : List ℕ) → length text < 2 ^ 32 → (ts : List Token) (f : ℕ) (e : Entry) (k : Item Place) → e ≡ entryAt ts f → ItemParsed text ts f k → HM.Says e (A.parts k)
+parsed-says text short ts f e k q s =
     let x = s .found in
+    let same : (r : ℕ) → peek (e .rest) r ≡ peek ts (f + suc r) = λ r.
+    let n : suc f + r ≡ f + suc r = omega arith in
+    ap (λ (e : Entry). peek (e .rest) r) q ∙ getD-drop (suc f) ts r ended ∙ ap (peek ts) n in
     subst (λ (k : Item Place). HM.Says e (A.parts k)) (s .means)
-    (by-rule (x .kind) (rule-says e (s .tokens) x) (λ n. says-as text short e (s .tokens) x (s .lexed) (s .placed) (s .low) (s .plain n) (s .read) (x .kind) refl))
+    (by-rule (x .kind) (rule-says e (s .tokens) x) (λ n. says-as text short e (s .tokens) x (s .lexed) (s .placed) (s .low) (λ r h. same r ∙ s .plain n r h) (s .read) (x .kind) refl))
