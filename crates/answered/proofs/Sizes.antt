@@ -83,8 +83,16 @@ states-few size ts first w =
     let f : List ℕ = indicesIn ts (getD first 10 0) in
     either (ltb (getD first 5 0) (length ts)) (namesAdd size ts true v q) (namesAdd size ts false v (s ++ (m ++ f))) (9 * length ts + 3)
     (omega (arith, names-few size ts true v q, indices-few ts (getD first 5 0)))
-    (omega (arith, names-few size ts false v (s ++ (m ++ f)), length-append s (m ++ f), length-append m f, mentions-few ts (entries ts), entries-few 0 0 ts, indices-few ts (getD first 10 0),
-    either (ltb (getD first 9 0) (length ts)) ((getD first 9 0 + 2) ∷ []) [] 1 (omega arith) (omega arith)))
+    (omega (
+      arith,
+      names-few size ts false v (s ++ (m ++ f)),
+      length-append s (m ++ f),
+      length-append m f,
+      mentions-few ts (entries ts),
+      entries-few 0 0 ts,
+      indices-few ts (getD first 10 0),
+      either (ltb (getD first 9 0) (length ts)) ((getD first 9 0 + 2) ∷ []) [] 1 (omega arith) (omega arith),
+    ))
 
 pub finals-few : (ts : List Token) (f : ℕ) → length (finalSection ts f) ≤ 3 * length ts
 unfolding finalSection placeAt

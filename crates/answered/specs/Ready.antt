@@ -16,6 +16,7 @@ use Rattle.assembler.specs.Entered.{entered}
 use Rattle.assembler.specs.Declarations.{undeclared, declarations}
 use Rattle.assembler.specs.Finals.{Interned}
 use Rattle.assembler.specs.Assembled.{wordsFrom}
+use Rattle.answered.specs.Tied.{Tied}
 
 -- the lines of a text
 abbrev pub linesOf : List ℕ → List (Line Span)
@@ -31,3 +32,4 @@ pub record Ready (text : List ℕ) (count : ℕ) (w first : List ℕ) (rules : �
   pub declared : first ≡ declarations count undeclared (entries (rows count w))
   pub number : rules ≡ length (machineOf (linesOf text) .rules)
   pub none-found : diagnosticsOf (linesOf text) ≡ []
+  pub tied : Tied text count w first
