@@ -64,7 +64,7 @@ state-word : (t : Token) → isState t ≡ true → isWord t ≡ true
 unfolding isState
 state-word t h = by-test (isWord t) (λ y. y) (λ n. let z : false ≡ true = rw n at h in cc)
 
-module _ (text : List ℕ) (count : ℕ) (w first : List ℕ) (number : ℕ) (r : Ready text count w first number) where
+module _ (text : List ℕ) (count : ℕ) (w first : List ℕ) (r : Ready text count w first) where
   abbrev ts : List Token
   ts = rows count w
 
@@ -168,7 +168,7 @@ first-place final known (q ∷ qs) rest =
     ap placed (sym (first-there (ws ++ rest) 0 (length ws) (q .place .start) (q .place .end) (omega arith) refl refl))
 
 -- ---- all of it
-module _ (text : List ℕ) (count : ℕ) (w first : List ℕ) (number : ℕ) (r : Ready text count w first number) (t : Tied text count w first) where
+module _ (text : List ℕ) (count : ℕ) (w first : List ℕ) (r : Ready text count w first) (t : Tied text count w first) where
   abbrev m : Machine Place
   m = I.machineOf (linesOf text)
 
@@ -184,11 +184,11 @@ module _ (text : List ℕ) (count : ℕ) (w first : List ℕ) (number : ℕ) (r 
 
   sigma-are : s .sigma ≡ L.flat L.symbolWords (m .sigma)
   unfolding sectionsOf
-  sigma-are = ap (λ (b : ℕ). sigmaWords b (rows count w) first (gammaCodes text b (rows count w) first)) (blank-is text count w first number r (t .said)) ∙ t .sigma
+  sigma-are = ap (λ (b : ℕ). sigmaWords b (rows count w) first (gammaCodes text b (rows count w) first)) (blank-is text count w first r (t .said)) ∙ t .sigma
 
   gamma-are : s .gamma ≡ L.flat L.symbolWords (m .gamma)
   unfolding sectionsOf
-  gamma-are = ap (λ (b : ℕ). gammaWords b (rows count w) first (gammaCodes text b (rows count w) first)) (blank-is text count w first number r (t .said)) ∙ t .gamma
+  gamma-are = ap (λ (b : ℕ). gammaWords b (rows count w) first (gammaCodes text b (rows count w) first)) (blank-is text count w first r (t .said)) ∙ t .gamma
 
   finals-are : s .finals ≡ L.flat L.placeWords (m .finals)
   unfolding sectionsOf
@@ -205,8 +205,8 @@ module _ (text : List ℕ) (count : ℕ) (w first : List ℕ) (number : ℕ) (r 
   rule-words : rules b (rows count w) ≡ L.flat L.ruleWords (m .rules)
   unfolding I.machineOf
   rule-words =
-      rules-are text count w first number r (t .shown) b
-      ∙ ap (λ (b : ℕ). L.flat L.ruleWords (A.expandAll b (A.kept 0 (A.bodyOf (linesOf text) .rules)))) (blank-is text count w first number r (t .said))
+      rules-are text count w first r (t .shown) b
+      ∙ ap (λ (b : ℕ). L.flat L.ruleWords (A.expandAll b (A.kept 0 (A.bodyOf (linesOf text) .rules)))) (blank-is text count w first r (t .said))
 
   -- the sheet
   pub sheet-is : joined s ++ rules b (rows count w) ≡ L.sheetWords m
@@ -220,7 +220,7 @@ module _ (text : List ℕ) (count : ℕ) (w first : List ℕ) (number : ℕ) (r 
   pub needed-is : length (joined s) + ruleLengths (rows count w) ≡ wordsNeeded (linesOf text)
   unfolding wordsNeeded readLines
   needed-is =
-      omega (arith, rules-words text count w first number r (t .shown) b, length-append (joined s) (rules b (rows count w)), ap length sheet-is, read-sheet-length (decode text))
+      omega (arith, rules-words text count w first r (t .shown) b, length-append (joined s) (rules b (rows count w)), ap length sheet-is, read-sheet-length (decode text))
 
   -- the head
   module _ (sheet rest : List ℕ) (e : sheet ≡ L.sheetWords m ++ rest) where
@@ -248,7 +248,7 @@ module _ (text : List ℕ) (count : ℕ) (w first : List ℕ) (number : ℕ) (r 
 
     pub head-of-sheet : (p : Span) (n : Counts) → p ≡ record { start = firstState sheet 0 (length (s .states)) .start; end = firstState sheet 0 (length (s .states)) .end }
         → countsIn n ≡ L.headOf m .counts → headIn (headAt (rows count w) first p n) ≡ L.headOf m
-    head-of-sheet p n q c = head-is text count w first number r (t .said) p n (λ z. ap spanIn q ∙ start-is z) c
+    head-of-sheet p n q c = head-is text count w first r (t .said) p n (λ z. ap spanIn q ∙ start-is z) c
 
   -- the counts
   pub states-three : length (s .states) ≡ 3 * length (m .states)

@@ -9,7 +9,6 @@ use Rattle.lexer.specs.declared.Span.{Span}
 use Rattle.parser.specs.Meaning.{tokenOf}
 use Rattle.language.specs.Lines.{Line, readLines}
 use Rattle.language.specs.Assembly.{diagnosticsOf}
-use Rattle.language.specs.Infer.{machineOf}
 use Rattle.assembler.specs.Rows.{rows}
 use Rattle.assembler.specs.Entries.{entries}
 use Rattle.assembler.specs.Entered.{entered}
@@ -22,14 +21,13 @@ use Rattle.answered.specs.Tied.{Tied}
 abbrev pub linesOf : List ℕ → List (Line Span)
 linesOf t = readLines (decode t)
 
--- the row with its lines entered, the row of first equal words behind it, the first declarations and the number of rules
-pub record Ready (text : List ℕ) (count : ℕ) (w first : List ℕ) (rules : ℕ) : Type 0 where
+-- the row with its lines entered, the row of first equal words behind it, and the first declarations
+pub record Ready (text : List ℕ) (count : ℕ) (w first : List ℕ) : Type 0 where
   pub short : length text ≤ 0x400000
   pub room : 6 * length text + 6 ≤ length w
   pub many : count ≡ length (tokens (decode text))
   pub row : rows count w ≡ entered (map tokenOf (tokens (decode text)))
   pub names : Interned text (rows count w) (wordsFrom (length text)) w
   pub declared : first ≡ declarations count undeclared (entries (rows count w))
-  pub number : rules ≡ length (machineOf (linesOf text) .rules)
   pub none-found : diagnosticsOf (linesOf text) ≡ []
   pub tied : Tied text count w first

@@ -1,6 +1,6 @@
 -- A reading call stage by stage: what each asks of those before it, and what it answers.
 use mathlib.Core.Path.{_≡_, refl, sym, ap, subst, _∙_}
-use mathlib.Core.Bool.{Bool, true, false}
+use mathlib.Core.Bool.{Bool, true, false, false≢true}
 use mathlib.Core.List.{List, [], _∷_, _++_, map}
 use mathlib.Core.Option.{Option, none, some}
 use Prim.Native.Nat.{ℕ, zero, suc, _+_, _*_, _/_, _≤_, _<_}
@@ -29,6 +29,7 @@ use Rattle.assembler.specs.Rows.{rows}
 use Rattle.assembler.specs.Entered.{entered}
 use Rattle.assembler.specs.Records.{recordsOf}
 use Rattle.assembler.specs.Assembled.{Tokenized, Outcome}
+use Rattle.answered.specs.Tied.{Tied}
 use Rattle.answered.specs.Ready.{linesOf, Ready}
 use Rattle.answered.proofs.Few.{diagnostics-few}
 use Rattle.reader.specs.declared.Refusal as R
@@ -70,8 +71,19 @@ machine-touches : (ls : List (Line Span)) (n k : ℕ) → untouched (readMachine
 unfolding readMachine
 machine-touches ls n k = by-test (ltb k (wordsNeeded ls)) (λ p. rw (readMachine, p)) (λ p. rw (readMachine, p))
 
-reply-of : {o : ReadOutcome} (x : Answer) (log sheet : List ℕ) → readIn x log sheet ≡ o → replyIn x ≡ o .reply
-reply-of x log sheet e = ap (λ (o : ReadOutcome). o .reply) e
+pub report-work : (x : Answer) (n k : ℕ) → replyIn x ≡ reportReply n k → untouched (replyIn x) ≡ false
+report-work x n k e = ap untouched e ∙ report-touches n k
+
+pub machine-work : (x : Answer) (ls : List (Line Span)) (sheet : List ℕ) (k : ℕ) → ((n : ℕ) → readIn x (zeros n) sheet ≡ readMachine ls n k) → untouched (replyIn x) ≡ false
+machine-work x ls sheet k e = ap (λ (o : ReadOutcome). untouched (o .reply)) (e 0) ∙ machine-touches ls 0 k
+
+-- a row of zeros
+pub zeros-again : (s s₀ : List ℕ) → s ≡ replicate (length s₀) 0 → s ≡ zeros (length s)
+zeros-again s s₀ e = e ∙ ap (λ (k : ℕ). replicate k 0) (sym (ap length e ∙ length-replicate (length s₀) 0))
+
+-- an answer that changes work is none that leaves it
+pub never : (x : Answer) (w w′ : List ℕ) → untouched (replyIn x) ≡ false → untouched (replyIn x) ≡ true → w′ ≡ w
+never x w w′ e f = absurd (false≢true (sym e ∙ f))
 
 module _ (t w : List ℕ) (a : refusalOf t (length w) ≡ none) where
   -- tokens at the front of work
@@ -111,9 +123,6 @@ module _ (t w : List ℕ) (a : refusalOf t (length w) ≡ none) where
       -- an answer that counts diagnostics
       module _ (some-errors : 0 < r .errors) (x : Answer) (log₃ sheet : List ℕ) (s : sheet ≡ replicate (length S) 0) (q : replyIn x ≡ reportReply (length log₂) (r .errors))
           (l : (ds : List Diagnostic) → D.logged log₂ (r .errors) ≡ D.appendAll (D.logged (replicate (length log₂) 0) 0) ds → log₃ ≡ D.logAfter (length log₂) (D.sort ds)) where
-        pub report-work : untouched (replyIn x) ≡ false
-        report-work = ap untouched q ∙ report-touches (length log₂) (r .errors)
-
         log-is : log₃ ≡ D.logAfter (length L) (D.sort (recordsOf (A.diagnosticsOf (linesOf t))))
         log-is =
             let zs : log₁ ≡ replicate (length log₂) 0 = z ∙ ap (λ (n : ℕ). replicate n 0) (sym long) in
@@ -140,16 +149,16 @@ module _ (t w : List ℕ) (a : refusalOf t (length w) ≡ none) where
             go [] e = refl
             go (d ∷ ds) e = absurd (omega (arith, o .errors, ap length e))
 
-        pub machine-ready : Ready t count w₂ (r .first) (r .rules)
-        machine-ready = record {
+        pub machine-ready : Tied t count w₂ (r .first) → Ready t count w₂ (r .first)
+        machine-ready tied = record {
           short = short t (length w) a;
           room = omega (arith, o .entered .size, size, room t (length w) a);
           many = n;
           row = o .entered .row ∙ ap entered (tokenized .row);
           names = o .entered .names;
           declared = o .first;
-          number = o .rules;
           none-found = none-found;
+          tied = tied;
         }
 
         log-same : log₂ ≡ zeros (length L)
@@ -163,9 +172,6 @@ module _ (t w : List ℕ) (a : refusalOf t (length w) ≡ none) where
 
           pub machine-is : readIn x log₂ sheet ≡ readOutcome t (length w) L S
           machine-is = ap (λ (l : List ℕ). readIn x l sheet) log-same ∙ answer-is ∙ sym (machine-outcome t (length w) L S a none-found)
-
-          pub machine-work : untouched (replyIn x) ≡ false
-          machine-work = ap (λ (o : ReadOutcome). untouched (o .reply)) answer-is ∙ machine-touches (linesOf t) (length L) (length S)
 
 -- ---- for callers in other languages
 number-leaves : (r : Reply) → leavesWorkNumber (replyNumber r) ≡ true → untouched r ≡ true

@@ -4,3 +4,4 @@ pub mod AnswerWords
 pub mod Reports
 pub mod Outcomes
 pub mod Calls
+pub mod SheetLaws
