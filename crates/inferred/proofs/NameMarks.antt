@@ -7,7 +7,7 @@ use native.Mathlib.Omega.{arith}
 use native.Mathlib.Decide.{decLt}
 use borrow.Author.Tests.{lt-ltb, le-ltb, eqb-true}
 use lib.Dec.{eqb, ltb}
-use lib.ListN.{length, getD, take, drop, set, replicate, List·getD-append, getD-replicate, List·getD-eq-default}
+use lib.ListN.{length, getD, take, drop, set, replicate, List·getD-append, getD-replicate, length-replicate, List·getD-eq-default}
 use lib.Seq.{getD-append-add, length-take-le}
 use Rattle.diag.proofs.Cases.{by-test}
 use Rattle.diag.specs.declared.Span.{Span}
@@ -272,3 +272,146 @@ module _ (text : List ℕ) (ts : List Token) where
           (sets (m .names) i (omega (arith, low, many)) word 1 (marking fs seen) (marking (fs ++ i ∷ []) seen) (λ x h g. m .marks x h g)
           (λ x p. ap₂ (λ (a b : Bool). L.flag a + 2 * L.flag b) (among-last fs i x ∙ ap (λ (b : Bool). b || among fs x) (same-part x p)) (none x))
           (λ x s. ap (λ (b : Bool). L.flag b + 2 * L.flag (among seen x)) (among-last fs i x ∙ ap (λ (b : Bool). b || among fs x) s)))
+
+-- ---- the words of states
+-- a state of the language, in words
+state-words : (text : List ℕ) (t : Token) (l : Located Place (List ℕ)) (f : Bool) → NameIs text t l → nameWords t (L.flag f) ≡ L.stateWords (record { name = l; final = f })
+unfolding L.stateWords
+state-words text t l f n =
+    ap₂ (λ (a b : ℕ). a ∷ b ∷ L.flag f ∷ []) (ap (λ (p : Span). p .start) (name-place text t l n)) (ap (λ (p : Span). p .end) (name-place text t l n))
+
+not-known : (a b : Bool) → b ≡ false → (a && not b) ≡ a
+not-known true false e = refl
+not-known false false e = refl
+not-known a true e = absurd (false≢true (sym e))
+
+is-known : (a b : Bool) → b ≡ true → (a && not b) ≡ false
+is-known true true e = refl
+is-known false b e = refl
+is-known true false e = absurd (false≢true e)
+
+module _ (text : List ℕ) (ts : List Token) (size count : ℕ) (fs : List ℕ) (F : List (Located Place (List ℕ))) (finals-are : AllNames text ts fs F) where
+  abbrev Names : Type 0
+  Names = List (Located Place (List ℕ))
+
+  abbrev isFinal : Located Place (List ℕ) → Bool
+  isFinal = I.member I.sameName F
+
+  abbrev seenIn : Names → Located Place (List ℕ) → Bool
+  seenIn S = I.member I.sameName S
+
+  fresh-there : (S : Names) (l : Located Place (List ℕ)) (ls : Names) → seenIn S l ≡ true → I.fresh I.sameName (seenIn S) (l ∷ ls) ≡ I.fresh I.sameName (seenIn S) ls
+  unfolding I.fresh
+  fresh-there S l ls e = rw (e, I.fresh)
+
+  fresh-new : (S : Names) (l : Located Place (List ℕ)) (ls : Names) → seenIn S l ≡ false → I.fresh I.sameName (seenIn S) (l ∷ ls) ≡ l ∷ I.fresh I.sameName (seenIn (l ∷ S)) ls
+  unfolding I.fresh I.member
+  fresh-new S l ls e = rw (e, I.fresh)
+
+  marked-on : (S : Names) (l : Located Place (List ℕ)) (ls : Names) (f : Bool) → (isFinal l && not (seenIn S l)) ≡ f
+      → L.flat L.stateWords (I.marked isFinal (seenIn S) (l ∷ ls)) ≡ L.stateWords (record { name = l; final = f }) ++ L.flat L.stateWords (I.marked isFinal (seenIn (l ∷ S)) ls)
+  unfolding I.marked L.flat I.member
+  marked-on S l ls f e = ap (λ (b : Bool). L.stateWords (record { name = l; final = b }) ++ L.flat L.stateWords (I.marked isFinal (λ y. I.sameName l y || seenIn S y) ls)) e
+
+  -- what one name adds
+  module _ (w seen : List ℕ) (S : Names) (m : Marked text ts size count w fs seen) (seen-are : AllNames text ts seen S) (x : ℕ) (l : Located Place (List ℕ)) (state : isState (peek ts x) ≡ true) (name : NameIs text (peek ts x) l) where
+    seen-is : among text ts seen x ≡ seenIn S l
+    seen-is = among-mean text ts seen S x l seen-are name
+
+    final-is : among text ts fs x ≡ isFinal l
+    final-is = among-mean text ts fs F x l finals-are name
+
+    low-mark : seenIn S l ≡ false → mark size ts w x ≡ L.flag (isFinal l)
+    low-mark e = mark-is text ts size count w fs seen m x state ∙ ap₂ (λ (a b : Bool). L.flag a + 2 * L.flag b) final-is (seen-is ∙ e) ∙ plain (isFinal l)
+      where
+        plain : (a : Bool) → L.flag a + 2 * 0 ≡ L.flag a
+        plain true = refl
+        plain false = refl
+
+    high-mark : seenIn S l ≡ true → 2 ≤ mark size ts w x
+    high-mark e = omega (arith, mark-is text ts size count w fs seen m x state ∙ ap (λ (b : Bool). L.flag (among text ts fs x) + 2 * L.flag b) (seen-is ∙ e))
+
+    flag-low : (b : Bool) → L.flag b < 2
+    flag-low true = omega arith
+    flag-low false = omega arith
+
+    new-words : (repeats : Bool) → seenIn S l ≡ false → nameAdds size ts repeats w x ≡ L.stateWords (record { name = l; final = isFinal l })
+    new-words repeats e = adds-new size ts w x repeats (L.flag (isFinal l)) state (low-mark e) (flag-low (isFinal l)) ∙ state-words text (peek ts x) l (isFinal l) name
+
+    new-marks : seenIn S l ≡ false → Marked text ts size count (nameMarks size ts w x) fs (x ∷ seen)
+    new-marks e = subst (λ (v : List ℕ). Marked text ts size count v fs (x ∷ seen)) (sym (marks-new size ts w x (L.flag (isFinal l)) state (low-mark e) (flag-low (isFinal l))))
+        (marked-new text ts size count w fs seen m x state (seen-is ∙ e) (L.flag (isFinal l)) (ap (λ (b : Bool). L.flag b) (sym final-is)))
+
+    old-marks : seenIn S l ≡ true → nameMarks size ts w x ≡ w
+    old-marks e = marks-again size ts w x state (high-mark e)
+
+  -- each name once
+  pub once-mean : (xs seen : List ℕ) (ls S : Names) (w : List ℕ) → AllStates ts xs → AllNames text ts xs ls → AllNames text ts seen S → Marked text ts size count w fs seen
+      → namesAdd size ts false w xs ≡ L.flat L.stateWords (I.marked isFinal (seenIn S) (I.fresh I.sameName (seenIn S) ls))
+  unfolding namesAdd I.fresh I.marked L.flat
+  once-mean [] seen [] S w a no-names b m = refl
+  once-mean (x ∷ xs) seen (l ∷ ls) S w (one-state s a) (one-name n r) b m = by-test (seenIn S l)
+      (λ y.
+      ap₂ (λ (l v : List ℕ). l ++ namesAdd size ts false v xs) (adds-again size ts w x false s (high-mark w seen S m b x l s n y)) (old-marks w seen S m b x l s n y)
+      ∙ once-mean xs seen ls S w a r b m ∙ ap (λ (q : Names). L.flat L.stateWords (I.marked isFinal (seenIn S) q)) (sym (fresh-there S l ls y)))
+      (λ z.
+      ap₂ (λ (p q : List ℕ). p ++ q) (new-words w seen S m b x l s n false z) (once-mean xs (x ∷ seen) ls (l ∷ S) (nameMarks size ts w x) a r (one-name n b) (new-marks w seen S m b x l s n z))
+      ∙ sym (marked-on S l (I.fresh I.sameName (seenIn (l ∷ S)) ls) (isFinal l) (not-known (isFinal l) (seenIn S l) z)) ∙ ap (λ (q : Names). L.flat L.stateWords (I.marked isFinal (seenIn S) q)) (sym (fresh-new S l ls z)))
+
+  -- each name as often as Q has it
+  pub each-mean : (xs seen : List ℕ) (ls S : Names) (w : List ℕ) → AllStates ts xs → AllNames text ts xs ls → AllNames text ts seen S → Marked text ts size count w fs seen
+      → namesAdd size ts true w xs ≡ L.flat L.stateWords (I.marked isFinal (seenIn S) ls)
+  unfolding namesAdd I.marked L.flat
+  each-mean [] seen [] S w a no-names b m = refl
+  each-mean (x ∷ xs) seen (l ∷ ls) S w (one-state s a) (one-name n r) b m = by-test (seenIn S l)
+      (λ y.
+      ap₂ (λ (p v : List ℕ). p ++ namesAdd size ts true v xs) (adds-again size ts w x true s (high-mark w seen S m b x l s n y) ∙ state-words text (peek ts x) l false n) (old-marks w seen S m b x l s n y)
+      ∙ ap (λ (q : List ℕ). L.stateWords (record { name = l; final = false }) ++ q) (each-mean xs (x ∷ seen) ls (l ∷ S) w a r (one-name n b) (marked-again text ts size count w fs seen m x s (seen-is w seen S m b x l s n ∙ y)))
+      ∙ sym (marked-on S l ls false (is-known (isFinal l) (seenIn S l) y)))
+      (λ z.
+      ap₂ (λ (p q : List ℕ). p ++ q) (new-words w seen S m b x l s n true z) (each-mean xs (x ∷ seen) ls (l ∷ S) (nameMarks size ts w x) a r (one-name n b) (new-marks w seen S m b x l s n z))
+      ∙ sym (marked-on S l ls (isFinal l) (not-known (isFinal l) (seenIn S l) z)))
+
+-- ---- the marks of F
+module _ (text : List ℕ) (ts : List Token) (size count : ℕ) where
+  listing : (xs fs w : List ℕ) → AllStates ts xs → Marked text ts size count w fs [] → Marked text ts size count (listFinals size ts w xs) (fs ++ xs) []
+  unfolding listFinals I.member
+  listing [] fs w no-states m = subst (λ (l : List ℕ). Marked text ts size count w l []) (sym (append-nil fs)) m
+  listing (x ∷ xs) fs w (one-state s a) m =
+      let one : Marked text ts size count (listFinal size ts w x) (fs ++ x ∷ []) [] = subst (λ (v : List ℕ). Marked text ts size count v (fs ++ x ∷ []) []) (sym (list-yes size ts w x s)) (marked-final text ts size count w fs [] m x s (λ y. refl)) in
+      subst (λ (l : List ℕ). Marked text ts size count (listFinals size ts (listFinal size ts w x) xs) l []) (append-assoc fs (x ∷ []) xs) (listing xs (fs ++ x ∷ []) (listFinal size ts w x) a one)
+
+  -- no name is marked
+  module _ (w : List ℕ) (row : rows count w ≡ ts) (names : Interned text ts (4 * size) w) (few : count ≤ size) (room : 6 * size ≤ length w) (short : count < 2 ^ 31) where
+    long : length ts ≡ count
+    long = ap length (sym row) ∙ length-rows count w (omega arith)
+
+    unmarked-at : (k : ℕ) → k < size → getD (unmarked size w) (5 * size + k) 0 ≡ 0
+    unfolding unmarked
+    unmarked-at k h =
+        let n : length (take (5 * size) w) ≡ 5 * size = length-take-le (5 * size) w (omega arith) in
+        ap (λ (j : ℕ). getD (take (5 * size) w ++ (replicate size 0 ++ drop (6 * size) w)) (j + k) 0) (sym n)
+        ∙ getD-append-add (take (5 * size) w) (replicate size 0 ++ drop (6 * size) w) k 0
+        ∙ List·getD-append (replicate size 0) (drop (6 * size) w) 0 k (omega (arith, length-replicate {A = ℕ} size 0))
+        ∙ getD-replicate size k 0 0 h
+
+    clear : Marked text ts size count (unmarked size w) [] []
+    unfolding I.member
+    clear =
+        let k : Kept (5 * size) w (unmarked size w) = unmarked-kept size w room in
+        record {
+          row = kept-rows count (5 * size) w (unmarked size w) k (omega arith) (omega arith) ∙ row;
+          laid = record { tokens = omega arith; words = omega arith; marks = omega (arith, k .size); few = short };
+          names = record { interned = λ x h e. kept-at (5 * size) w (unmarked size w) (4 * size + x) k (omega (arith, long)) ∙ names .interned x h e };
+          marks = λ x h e.
+              let at : getD (unmarked size w) (4 * size + x) 0 ≡ firstEqual text (peek ts x) 0 ts = kept-at (5 * size) w (unmarked size w) (4 * size + x) k (omega (arith, long)) ∙ names .interned x h e in
+              ap (λ (j : ℕ). getD (unmarked size w) (5 * size + j) 0) at ∙ unmarked-at (firstEqual text (peek ts x) 0 ts) (omega (arith, first-low text ts x h e, long));
+        }
+
+    pub finals-marked : (first : List ℕ) → Marked text ts size count (finals size ts first w) (namesOf ts (getD first 10 0)) []
+    unfolding finals
+    finals-marked first =
+        let f : ℕ = getD first 10 0 in
+        let here : Marked text ts size count (listFinals size ts (unmarked size w) (statesOf ts (indicesIn ts f))) (statesOf ts (indicesIn ts f)) [] = listing (statesOf ts (indicesIn ts f)) [] (unmarked size w) (all-states ts (indicesIn ts f)) clear in
+        subst (λ (l : List ℕ). Marked text ts size count (listFinals size ts (unmarked size w) (indicesIn ts f)) l []) (line-names ts f)
+        (subst (λ (v : List ℕ). Marked text ts size count v (statesOf ts (indicesIn ts f)) []) (sym (lists-states size ts (unmarked size w) (indicesIn ts f))) here)
