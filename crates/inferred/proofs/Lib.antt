@@ -1,1 +1,4 @@
 pub mod NameMarks
+pub mod Firsts
+pub mod RuleLines
+pub mod StatesInferred

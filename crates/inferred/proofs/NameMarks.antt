@@ -83,11 +83,11 @@ module _ (ts : List Token) where
       go r true e = one-state e r
       go r false e = r
 
-  states-yes : (x : ℕ) (xs : List ℕ) → isState (peek ts x) ≡ true → statesOf ts (x ∷ xs) ≡ x ∷ statesOf ts xs
+  pub states-yes : (x : ℕ) (xs : List ℕ) → isState (peek ts x) ≡ true → statesOf ts (x ∷ xs) ≡ x ∷ statesOf ts xs
   unfolding statesOf
   states-yes x xs e = rw e
 
-  states-no : (x : ℕ) (xs : List ℕ) → isState (peek ts x) ≡ false → statesOf ts (x ∷ xs) ≡ statesOf ts xs
+  pub states-no : (x : ℕ) (xs : List ℕ) → isState (peek ts x) ≡ false → statesOf ts (x ∷ xs) ≡ statesOf ts xs
   unfolding statesOf
   states-no x xs e = rw e
 
