@@ -7,7 +7,8 @@ use Prim.Native.Nat.{ℕ, suc, _+_, _*_, _≤_, _<_, _^_}
 use native.Mathlib.Omega.{arith}
 use borrow.Author.Tests.{le-ltb, lt-ltb, ltb-false}
 use lib.Dec.{eqb, ltb}
-use lib.ListN.{length, getD, drop, drop-of-length-le}
+use lib.ListN.{length, getD, take, drop, drop-of-length-le, length-append, List·getD-append}
+use lib.Seq.{sets, sets-eq, getD-append-add, length-take-le}
 use Rattle.diag.proofs.Cases.{by-test}
 use Rattle.diag.specs.declared.Span.{Span}
 use Rattle.lexer.specs.declared.Span.{Span as Place}
@@ -30,7 +31,8 @@ use Rattle.assembler.proofs.Means.{AllMean}
 use Rattle.assembler.proofs.FinalsMean.{NameIs, name-place, AllNames, no-names, one-name}
 use Rattle.sheet.specs.Comments.{spanWords}
 use Rattle.infer.specs.Page.{indicesIn}
-use Rattle.infer.specs.States.{mention, mentions, startName, namesAdd, finals, statesAdd, stateSection, placeAt, finalSection}
+use Rattle.infer.specs.States.{mention, mentions, startName, namesAdd, finals, statesAdd, stateSection, placeAt, finalSection, firstState}
+use Rattle.infer.proofs.SectionLaws.{first-there, first-none}
 use Rattle.shown.proofs.Shows.{StateShows, MentionsShow, Mentions}
 use Rattle.shown.proofs.BodyShown.{kept-all}
 use Rattle.inferred.proofs.NameMarks.{statesOf, AllStates, no-states, one-state, states-append, states-yes, states-no, states-all, all-append, all-states, line-names, adds-states, Marked, once-mean, each-mean, finals-marked}
@@ -268,3 +270,37 @@ module _ (text : List ℕ) (X : Entry → Item Place → Type 0) (ts : List Toke
     states-inferred =
         by-first (A.first (λ p. p .states) is) (states-at text X ts says few ls all)
         ∙ ap (λ (f : Names). L.flat L.stateWords (I.marked (I.member I.sameName f) I.nothing (A.orElse (A.found (A.first (λ p. p .states) is)) (I.inferStates start (I.machineOf ls .rules) f)))) (sym same-finals)
+
+-- ---- the first state
+-- a word that was stored
+word-stored : (o : List ℕ) (i : ℕ) (vs : List ℕ) (k : ℕ) → i + length vs ≤ length o → k < length vs → getD (sets o i vs) (i + k) 0 ≡ getD vs k 0
+word-stored o i vs k h g =
+    let n : length (take i o) ≡ i = length-take-le i o (omega arith) in
+    ap (λ (l : List ℕ). getD l (i + k) 0) (sets-eq vs o i h)
+    ∙ List·getD-append (take i o ++ vs) (drop (i + length vs) o) 0 (i + k) (omega (arith, length-append (take i o) vs))
+    ∙ ap (λ (j : ℕ). getD (take i o ++ vs) (j + k) 0) (sym n) ∙ getD-append-add (take i o) vs k 0
+
+-- a place of the row as one of the language
+abbrev pub placeFrom : Span → Place
+placeFrom p = record { start = p .start; end = p .end }
+
+first-place : (final known : Located Place (List ℕ) → Bool) (names : Names) (o more : List ℕ) (i : ℕ) → let ws = L.flat L.stateWords (I.marked final known names) in
+    i + length (ws ++ more) ≤ length o → placeFrom (firstState (sets o i (ws ++ more)) i (i + length ws)) ≡ L.placeOrNone (I.head names)
+unfolding I.marked L.flat L.stateWords I.head L.placeOrNone
+first-place final known [] o more i h = ap placeFrom (sym (first-none (sets o i more) i (i + 0) (omega arith)))
+first-place final known (q ∷ qs) o more i h =
+    let ws : List ℕ = L.flat L.stateWords (I.marked final known (q ∷ qs)) in
+    let z : i + 0 ≡ i = omega arith in
+    let a : q .place .start ≡ getD (sets o i (ws ++ more)) i 0 = sym (ap (λ (j : ℕ). getD (sets o i (ws ++ more)) j 0) (sym z) ∙ word-stored o i (ws ++ more) 0 h (omega arith)) in
+    let b : q .place .end ≡ getD (sets o i (ws ++ more)) (i + 1) 0 = sym (word-stored o i (ws ++ more) 1 h (omega arith)) in
+    ap placeFrom (sym (first-there (sets o i (ws ++ more)) i (i + length ws) (q .place .start) (q .place .end) (omega arith) a b))
+
+-- where no start is declared, the machine starts in the first state
+pub first-state : (ls : List (Line Place)) (o more : List ℕ) (i : ℕ) → A.first (λ p. p .start) (A.items ls) ≡ none → let ws = L.flat L.stateWords (I.machineOf ls .states) in
+    i + length (ws ++ more) ≤ length o → placeFrom (firstState (sets o i (ws ++ more)) i (i + length ws)) ≡ L.placeOrNone (I.machineOf ls .start)
+unfolding I.machineOf A.ofOption A.found
+first-state ls o more i e h =
+    let is : List (Located Place (Item Place)) = A.items ls in
+    let finals : Names = I.fresh I.sameName I.nothing (A.finalsIn is) in
+    let names : Names = A.orElse (A.statesIn is) (I.inferStates (A.found (A.first (λ p. p .start) is)) (I.machineOf ls .rules) finals) in
+    first-place (I.member I.sameName finals) I.nothing names o more i h ∙ sym (ap (λ (x : Option (Located Place (Located Place (List ℕ)))). L.placeOrNone (I.head (A.ofOption (A.found x) ++ names))) e)
