@@ -2,3 +2,5 @@ pub mod NameMarks
 pub mod Firsts
 pub mod RuleLines
 pub mod StatesInferred
+pub mod RuleSymbols
+pub mod AlphabetsInferred
