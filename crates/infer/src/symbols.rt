@@ -8,7 +8,7 @@ ghost use lib.ListN.{length};
 ghost use Rattle.language.specs.Layout.{flat};
 ghost use Rattle.assembler.specs.Rows.{rows};
 ghost use Rattle.sheet.specs.Stored.{Stored};
-ghost use Rattle.infer.specs.Codes.{notedAll, held, Codes};
+ghost use Rattle.infer.specs.Codes.{notedAll, held, Codes, Room};
 ghost use Rattle.infer.specs.Symbols.{range, blankOf, symbols, symbolsIn, isBlank, hasBlank, codesOf};
 ghost use Rattle.infer.specs.Alphabets.{listedWords, inferredWords, otherWords, lineCodes, candidates, gammaCodes, declaredGamma, gammaWords, inferredSigma, sigmaWords};
 use crate::codes;
@@ -156,7 +156,7 @@ fn has_blank(work: &[u32], count: usize, from: usize, to: usize, blank: u32) -> 
 
 // Notes the symbols of the line at an index.
 fn note_line(work: &mut [u32], count: usize, base: usize, n: usize, f: usize, blank: u32) -> usize
-    requires { ⌜ (4 * count ≤ base) × (f < 2 ^ 32) × (base + n + length (lineCodes blank (rows count (now work)) f) ≤ length (now work)) ⌝ }
+    requires { ⌜ (4 * count ≤ base) × (f < 2 ^ 32) × (Room base n (now work) (lineCodes blank (rows count (now work)) f)) ⌝ }
     ensures { λ r. ⌜ Codes base (now (work .entry)) (notedAll (held base n (now (work .entry))) (lineCodes blank (rows count (now (work .entry))) f)) (now (work .exit)) r ⌝ }
 {
     let t = entry::token_at(work, count, f);
@@ -173,7 +173,7 @@ fn note_candidates(
     first: &[u32; 11],
     blank: u32,
 ) -> usize
-    requires { ⌜ (4 * count ≤ base) × (base + n + length (candidates (now text) blank (rows count (now work)) (now first)) ≤ length (now work)) ⌝ }
+    requires { ⌜ (4 * count ≤ base) × (Room base n (now work) (candidates (now text) blank (rows count (now work)) (now first))) ⌝ }
     ensures { λ r. ⌜ Codes base (now (work .entry)) (notedAll (held base n (now (work .entry))) (candidates (now (text .entry)) blank (rows count (now (work .entry))) (now (first .entry)))) (now (work .exit)) r ⌝ }
 {
     let s = crate::index(first[INPUT_ALPHABET]);
@@ -194,7 +194,7 @@ pub fn gamma_codes(
     first: &[u32; 11],
     blank: u32,
 ) -> usize
-    requires { ⌜ (4 * count ≤ base) × (base + 1 + length (candidates (now text) blank (rows count (now work)) (now first)) ≤ length (now work)) ⌝ }
+    requires { ⌜ (4 * count ≤ base) × (Room base 0 (now work) (blank ∷ candidates (now text) blank (rows count (now work)) (now first))) ⌝ }
     ensures { λ r. ⌜ Codes base (now (work .entry)) (gammaCodes (now (text .entry)) blank (rows count (now (work .entry))) (now (first .entry))) (now (work .exit)) r ⌝ }
 {
     let n = codes::note(work, base, 0, blank);
