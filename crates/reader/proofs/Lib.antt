@@ -1,9 +1,7 @@
 pub mod Admissions
 pub mod StateNames
 pub mod AnswerWords
-pub mod HeadLaws
 pub mod Reports
 pub mod Outcomes
-pub mod HeadMeans
-pub mod TokenSays
-pub mod ItemSays
+pub mod Calls
+pub mod SheetLaws

@@ -1,4 +1,4 @@
 pub mod Answer
 pub mod Words
-pub mod Heads
 pub mod Reading
+pub mod Sheet
