@@ -6,8 +6,9 @@ use mathlib.Core.List.{List, [], _∷_, map}
 use lib.Dec.{eqb, ltb}
 use lib.ListN.{length, drop}
 use Rattle.lexer.specs.Tokens.{Span}
-use Rattle.language.specs.Layout.{Head}
-use Rattle.language.specs.Outcome.{refusalNumber, refusalValue, Reply, machine, diagnosed, refused, ReadOutcome, readOutcome, part}
+use Rattle.lexer.specs.Places.{part}
+use Rattle.language.specs.Layout.{Counts}
+use Rattle.language.specs.Outcome.{refusalNumber, refusalValue, Reply, machine, diagnosed, refused, ReadOutcome, readOutcome}
 use Rattle.language.specs.Agreement.{groups, records, at, placeAt, dirOf}
 use Rattle.language.specs.Plain.{Piece, _⨾_, nothing, say, verbatim, end, each, direction}
 use Rattle.emit.specs.Decimal.{digitsFrom}
@@ -84,33 +85,31 @@ transition text r =
     say "transition=" ⨾ named text (placeAt r 1) ⨾ say " " ⨾ parted 0x2C (codes 0 actions) ⨾ say " " ⨾ named text (placeAt r 3)
     ⨾ say " " ⨾ parted 0x2C (codes 3 actions) ⨾ say " " ⨾ parted 0x2C (moves actions) ⨾ end
 
--- states, final states and start
-unfoldable pub stateLines : List ℕ → Head → List ℕ → Piece
+-- n states: all, the final ones, and the start
+unfoldable pub stateLines : List ℕ → ℕ → Span → List ℕ → Piece
 unfolding names named parted groups
-stateLines text h states =
-    let ss = groups 3 (h .counts .states) states in
-    say "states=" ⨾ parted 0x20 (names text true ss) ⨾ end ⨾ say "finals=" ⨾ parted 0x20 (names text false ss) ⨾ end ⨾ say "start=" ⨾ named text (h .start) ⨾ end
+stateLines text n start states =
+    let ss = groups 3 n states in
+    say "states=" ⨾ parted 0x20 (names text true ss) ⨾ end ⨾ say "finals=" ⨾ parted 0x20 (names text false ss) ⨾ end ⨾ say "start=" ⨾ named text start ⨾ end
 
--- Σ and Γ
-unfoldable pub symbolLines : Head → List ℕ → List ℕ → Piece
+-- n symbols of Σ and m of Γ
+unfoldable pub symbolLines : ℕ → List ℕ → ℕ → List ℕ → Piece
 unfolding codes parted groups
-symbolLines h sigma gamma =
-    say "sigma=" ⨾ parted 0x20 (codes 0 (groups 3 (h .counts .sigma) sigma)) ⨾ end ⨾ say "gamma=" ⨾ parted 0x20 (codes 0 (groups 3 (h .counts .gamma) gamma)) ⨾ end
+symbolLines n sigma m gamma = say "sigma=" ⨾ parted 0x20 (codes 0 (groups 3 n sigma)) ⨾ end ⨾ say "gamma=" ⨾ parted 0x20 (codes 0 (groups 3 m gamma)) ⨾ end
 
--- how many transitions there are, and each
-unfoldable pub transitionLines : List ℕ → Head → List ℕ → Piece
+-- n transitions
+unfoldable pub transitionLines : List ℕ → ℕ → List ℕ → Piece
 unfolding number each transition records
-transitionLines text h rules = say "transitions=" ⨾ number (h .counts .rules) ⨾ end ⨾ each (transition text) (records (h .counts .rules) rules)
+transitionLines text n rules = say "transitions=" ⨾ number n ⨾ end ⨾ each (transition text) (records n rules)
 
 -- the lines of a machine, from the sections of its sheet
-unfoldable pub machineLines : List ℕ → Head → List ℕ → Piece
+unfoldable pub machineLines : List ℕ → Counts → Span → List ℕ → Piece
 unfolding stateLines symbolLines transitionLines
-machineLines text h sheet =
-    let n = h .counts in
+machineLines text n start sheet =
     let sigma = drop (3 * n .states) sheet in
     let gamma = drop (3 * n .sigma) sigma in
     let rules = drop (3 * n .gamma + 2 * n .finals + 2 * n .header + 2 * n .trailing) gamma in
-    say "diagnostics=0" ⨾ end ⨾ stateLines text h sheet ⨾ symbolLines h sigma gamma ⨾ transitionLines text h rules
+    say "diagnostics=0" ⨾ end ⨾ stateLines text (n .states) start sheet ⨾ symbolLines (n .sigma) sigma (n .gamma) gamma ⨾ transitionLines text (n .rules) rules
 
 -- ---- the whole
 
@@ -128,7 +127,7 @@ bytesLine text = say "bytes=" ⨾ number (length text) ⨾ end
 unfoldable pub lines : List ℕ → ReadOutcome → Piece
 unfolding refusedLine bytesLine diagnosticLines machineLines
 lines text r = elim (r .reply) [
-  | machine h ↦ bytesLine text ⨾ machineLines text h (r .sheet)
+  | machine h ↦ bytesLine text ⨾ machineLines text (h .counts) (h .start) (r .sheet)
   | diagnosed n ↦ bytesLine text ⨾ diagnosticLines text n (r .log)
   | refused x ↦ refusedLine (refusalNumber x) (refusalValue x)
 ]
