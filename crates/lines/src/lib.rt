@@ -86,14 +86,7 @@ struct Listed {
 }
 
 // The name of the state whose words begin at j, if it is due.
-fn state_name(
-    out: &mut [u8],
-    l: Listed,
-    text: &[u8],
-    words: &[u32],
-    j: usize,
-    all: bool,
-) -> Listed
+fn state_name(out: &mut [u8], l: Listed, text: &[u8], words: &[u32], j: usize, all: bool) -> Listed
     requires { ⌜ (j + 2 < 18446744073709551616) × (l .count < 4294967295) ⌝ }
     ensures { λ r. ⌜ NamePut (all || eqb (getD (now (words .entry)) (j + 2) 0) 1) (named (now (text .entry)) (placeAt (now (words .entry)) j))
         (output (now (out .entry)) (l .at)) (l .count) (output (now (out .exit)) (r .at)) (r .count) ⌝ }
@@ -125,15 +118,7 @@ fn names(out: &mut [u8], at: usize, text: &[u8], words: &[u32], n: u32, all: boo
 }
 
 // The codes in word o of n records of k words.
-fn codes(
-    out: &mut [u8],
-    at: usize,
-    words: &[u32],
-    k: usize,
-    o: usize,
-    n: u32,
-    sep: u8,
-) -> usize
+fn codes(out: &mut [u8], at: usize, words: &[u32], k: usize, o: usize, n: u32, sep: u8) -> usize
     requires { ⌜ (o < k) × (k ≤ 7) ⌝ }
     ensures { λ r. ⌜ Puts (parted sep (codes o (groups k n (now (words .entry))))) (output (now (out .entry)) at) (output (now (out .exit)) r) ⌝ }
 {
@@ -333,14 +318,7 @@ fn transitions(out: &mut [u8], at: usize, text: &[u8], words: &[u32], n: u32) ->
 }
 
 // n states: all, the final ones, and the start.
-fn state_lines(
-    out: &mut [u8],
-    at: usize,
-    text: &[u8],
-    n: u32,
-    start: Span,
-    states: &[u32],
-) -> usize
+fn state_lines(out: &mut [u8], at: usize, text: &[u8], n: u32, start: Span, states: &[u32]) -> usize
     ensures { λ r. ⌜ Puts (stateLines (now (text .entry)) n (spanIn start) (now (states .entry))) (output (now (out .entry)) at) (output (now (out .exit)) r) ⌝ }
 {
     let a = say(out, at, b"states=");
@@ -353,14 +331,7 @@ fn state_lines(
 }
 
 // n symbols of Σ and m of Γ.
-fn symbol_lines(
-    out: &mut [u8],
-    at: usize,
-    n: u32,
-    sigma: &[u32],
-    m: u32,
-    gamma: &[u32],
-) -> usize
+fn symbol_lines(out: &mut [u8], at: usize, n: u32, sigma: &[u32], m: u32, gamma: &[u32]) -> usize
     ensures { λ r. ⌜ Puts (symbolLines n (now (sigma .entry)) m (now (gamma .entry))) (output (now (out .entry)) at) (output (now (out .exit)) r) ⌝ }
 {
     let a = say(out, at, b"sigma=");
@@ -395,7 +366,9 @@ fn machine_lines(
     let gamma = after(sigma, 3 * (n.sigma as usize));
     let rules = after(
         gamma,
-        3 * (n.gamma as usize) + 2 * (n.finals as usize) + 2 * (n.header as usize)
+        3 * (n.gamma as usize)
+            + 2 * (n.finals as usize)
+            + 2 * (n.header as usize)
             + 2 * (n.trailing as usize),
     );
     let a = say(out, at, b"diagnostics=0\n");
