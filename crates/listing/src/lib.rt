@@ -8,7 +8,7 @@ ghost use Rattle.reader.specs.Answer.{readIn};
 ghost use Rattle.emit.specs.Output.{output, appended};
 ghost use Rattle.list_lines.specs.Listing.{listing, listed};
 
-// The longest text that is taken; the words of work that it needs, of the log (1,024 records) and of the sheet.
+// The longest text that is taken.
 pub const MAX_INPUT: usize = 2048;
 
 // Lists an answer with its log and sheet at the front of `out`, as far as there is room; the listing's length.
