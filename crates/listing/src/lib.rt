@@ -74,7 +74,7 @@ fn print_through(text: &[u8], out: &mut [u8]) {
     io::write_all(1, &out[..m]);
 }
 
-// The same through an output that is longer than every listing (docs/DECISIONS.md, D20).
+// The same through an output that is longer than every listing (docs/DECISIONS.md, "The list program").
 fn print_whole(text: &[u8], out: &mut [u8; 2097152]) {
     print_through(text, out);
 }
