@@ -12,10 +12,10 @@ ghost use Rattle.infer.specs.Codes.{notedAll, held, Codes};
 ghost use Rattle.infer.specs.Symbols.{range, symbols, takes, walked, firsts, outside, others, further, ruleSymbols, rulesSymbols, codesOf};
 use crate::codes;
 use assembler::entry;
-use sheet::rules;
-use tokens::Token;
 use lexer::kind;
 use parser::view;
+use sheet::rules;
+use tokens::Token;
 
 // The number of a rule's item.
 const TRANSITION: u32 = 11;
@@ -227,14 +227,7 @@ fn note_further(
 }
 
 // The symbols of the line at an index, if it is a rule: the first choice of each tape, what is written, the further choices.
-fn note_rule(
-    work: &mut [u32],
-    count: usize,
-    base: usize,
-    n: usize,
-    e: usize,
-    blank: u32,
-) -> usize
+fn note_rule(work: &mut [u32], count: usize, base: usize, n: usize, e: usize, blank: u32) -> usize
     requires { ⌜ (4 * count ≤ base) × (e < count) × (base + n + length (codesOf blank (ruleSymbols (rows count (now work)) (entryAt (rows count (now work)) e))) ≤ length (now work)) ⌝ }
     ensures { λ r. ⌜ Codes base (now (work .entry)) (notedAll (held base n (now (work .entry))) (codesOf blank (ruleSymbols (rows count (now (work .entry))) (entryAt (rows count (now (work .entry))) e)))) (now (work .exit)) r ⌝ }
 {

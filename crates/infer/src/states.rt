@@ -10,9 +10,9 @@ ghost use Rattle.infer.specs.Page.{page, indicesIn};
 ghost use Rattle.infer.specs.States.{markAt, Scratch, unmarked, listFinal, listFinals, stateNamed, named, namedAll, mention, mentions, startName, inferred, states, finals};
 use crate::put;
 use assembler::entry;
-use tokens::Token;
 use lexer::kind;
 use parser::view;
+use tokens::Token;
 
 // The numbers of items.
 const STATES: usize = 5;

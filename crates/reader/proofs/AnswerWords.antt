@@ -18,7 +18,8 @@ use Rattle.machine.specs.declared.Head.{Head}
 use Rattle.reader.specs.declared.Refusal.{Refusal}
 use Rattle.reader.specs.declared.Answer.{Answer}
 use Rattle.reader.specs.declared.Answer.the-variants.{Machine, Diagnostics, Refused}
-use Rattle.reader.specs.Answer.{spanIn, kindIn, decoderIn, declaredIn, countsIn, headIn, replyIn}
+use Rattle.head.specs.Meaning.{spanIn, kindIn, decoderIn, declaredIn, countsIn, headIn}
+use Rattle.reader.specs.Answer.{replyIn}
 use Rattle.reader.specs.Reading.{answerRow}
 use Rattle.reader.specs.Words.{decoderTag, decoderValue, mapWords}
 

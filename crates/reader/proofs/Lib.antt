@@ -1,10 +1,5 @@
 pub mod Admissions
 pub mod StateNames
 pub mod AnswerWords
-pub mod HeadLaws
 pub mod Reports
 pub mod Outcomes
-pub mod Declared
-pub mod HeadMeans
-pub mod TokenSays
-pub mod ItemSays

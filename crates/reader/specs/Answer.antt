@@ -1,79 +1,16 @@
 -- What the code answers, as the definition's reply: paper 01's number and value of each case are those of the reply.
 use Prim.Native.Nat.{ℕ}
+use mathlib.Core.Bool.{Bool, false}
+use mathlib.Core.List.{List}
 use mathlib.Core.Option.{Option, none, some}
-use Rattle.lexer.specs.declared.Span as T
-use Rattle.language.specs.Machine as M
-use Rattle.language.specs.Layout as L
 use Rattle.language.specs.Outcome as O
-use Rattle.machine.specs.declared.Span.{Span}
-use Rattle.machine.specs.declared.Kind.{Kind}
-use Rattle.machine.specs.declared.Kind.the-variants.{Acceptor, Transducer, Enumerator, Beaver}
-use Rattle.machine.specs.declared.BitOrder.{BitOrder}
-use Rattle.machine.specs.declared.BitOrder.the-variants.{Lsb, Msb}
-use Rattle.machine.specs.declared.Decoder.{Decoder}
-use Rattle.machine.specs.declared.Decoder.the-variants.{Word, Unary, Binary}
-use Rattle.machine.specs.declared.Declared.{Declared}
-use Rattle.machine.specs.declared.Counts.{Counts}
-use Rattle.machine.specs.declared.Head.{Head}
+use Rattle.head.specs.Meaning.{headIn}
 use Rattle.reader.specs.declared.Refusal.{Refusal}
 use Rattle.reader.specs.declared.Refusal.the-variants.{TextTooLong, WorkTooShort, InvalidUtf8, OutsideSet, LogTooShort, SheetTooShort}
 use Rattle.reader.specs.declared.Answer.{Answer}
 use Rattle.reader.specs.declared.Answer.the-variants.{Machine, Diagnostics, Refused}
 use Rattle.reader.specs.declared.admission.Admission.{Admission}
 use Rattle.reader.specs.declared.admission.Admission.the-variants.{Admitted, Refused as NotAdmitted}
-
--- ---- the head
-
--- a place
-abbrev pub spanIn : Span → T.Span
-spanIn p = record { start = p .start; end = p .end }
-
--- the kind
-abbrev pub kindIn : Kind → M.Kind
-kindIn Acceptor = M.acceptor
-kindIn Transducer = M.transducer
-kindIn Enumerator = M.enumerator
-kindIn Beaver = M.beaver
-
--- the order of bits
-abbrev pub orderIn : BitOrder → M.BitOrder
-orderIn Lsb = M.lsb
-orderIn Msb = M.msb
-
--- the decoder
-abbrev pub decoderIn : Decoder → M.Decoder
-decoderIn Word = M.asWord
-decoderIn (Unary c) = M.asUnary c
-decoderIn (Binary o) = M.asBinary (orderIn o)
-
--- the flags
-abbrev pub declaredIn : Declared → M.Declared
-declaredIn d = record { states = d .states; inputAlphabet = d .«input_alphabet»; tapeAlphabet = d .«tape_alphabet»; start = d .start; blank = d .blank }
-
--- the section counts
-abbrev pub countsIn : Counts → L.Counts
-countsIn n = record { states = n .states; sigma = n .sigma; gamma = n .gamma; finals = n .finals; header = n .header; trailing = n .trailing; rules = n .rules }
-
--- the head
-unfoldable pub headIn : Head → L.Head
-headIn h = record {
-  name = spanIn (h .name);
-  input = spanIn (h .input);
-  kind = kindIn (h .kind);
-  output = decoderIn (h .output);
-  tapes = h .tapes;
-  blank = h .blank;
-  declared = declaredIn (h .declared);
-  start = spanIn (h .start);
-  kindPlace = spanIn (h .map .kind);
-  inputPlace = spanIn (h .map .input);
-  tapesPlace = spanIn (h .map .tapes);
-  startPlace = spanIn (h .map .start);
-  statesPlace = spanIn (h .map .states);
-  counts = countsIn (h .counts);
-}
-
--- ---- the answer
 
 -- a refusal: rows 1 to 6
 abbrev pub refusalIn : Refusal → O.Refusal
@@ -102,3 +39,13 @@ abbrev pub replyIn : Answer → O.Reply
 replyIn (Machine h) = O.machine (headIn h)
 replyIn (Diagnostics n) = O.diagnosed n
 replyIn (Refused r) = O.refused (refusalIn r)
+
+-- the answer, and the log and the sheet that are left with it
+abbrev pub readIn : Answer → List ℕ → List ℕ → O.ReadOutcome
+readIn a log sheet = record { reply = replyIn a; log = log; sheet = sheet }
+
+-- whether an answer leaves work untouched: rows 1 and 2
+abbrev pub leavesWork : Answer → Bool
+leavesWork (Machine h) = false
+leavesWork (Diagnostics n) = false
+leavesWork (Refused r) = O.leavesWork (refusalIn r)

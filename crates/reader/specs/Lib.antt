@@ -1,4 +1,3 @@
 pub mod Answer
 pub mod Words
-pub mod Heads
 pub mod Reading

@@ -6,7 +6,7 @@ use Rattle.machine.specs.declared.BitOrder.the-variants.{Lsb, Msb}
 use Rattle.machine.specs.declared.Decoder.{Decoder}
 use Rattle.machine.specs.declared.Decoder.the-variants.{Word, Unary, Binary}
 use Rattle.machine.specs.declared.SourceMap.{SourceMap}
-use Rattle.reader.specs.Answer.{spanIn}
+use Rattle.head.specs.Meaning.{spanIn}
 
 -- the first word of a decoder
 abbrev pub decoderTag : Decoder → ℕ

@@ -1,11 +1,20 @@
 // Reading a description: what a call answers, and the name of a state.
+ghost use mathlib.Core.Path.{_≡_};
+ghost use mathlib.Core.Bool.{true};
+ghost use lib.ListN.{length};
+ghost use Rattle.language.specs.Outcome.{readOutcome};
+ghost use Rattle.reader.specs.Answer.{readIn, leavesWork};
+ghost use Rattle.reader.specs.Reading.{given, givenBy, leavesWorkNumber};
+use admission::Admission;
+use machine::Head;
+
 pub mod admission;
-pub mod head;
+pub mod listed;
 pub mod name;
 pub mod report;
+pub mod sections;
 pub mod words;
-
-use machine::Head;
+pub mod written;
 
 // Why a call is refused (paper 01, "What a call returns").
 pub enum Refusal {
@@ -26,4 +35,42 @@ pub enum Answer {
     Machine(Head),
     Diagnostics(usize),
     Refused(Refusal),
+}
+
+// Reads a text that is not refused.
+fn admitted(text: &[u8], work: &mut [u32], log: &mut [u32], sheet: &mut [u32]) -> Answer {
+    diag::clear(log);
+    diag::clear(sheet);
+    let count = lexer::tokenize(text, work);
+    let a = assembler::assemble(text, work, count, log);
+    if 0 < a.errors {
+        return report::report(log, a.errors, work);
+    }
+    written::machine(text, work, count, a, sheet)
+}
+
+// Reads a text: answers its machine's head, the sheet filled; or the number of its diagnostics, which the log holds; or a refusal.
+pub fn read(text: &[u8], work: &mut [u32], log: &mut [u32], sheet: &mut [u32]) -> Answer
+    ensures { λ r. ⌜ (readIn r (now (log .exit)) (now (sheet .exit)) ≡ readOutcome (now (text .entry)) (length (now (work .entry))) (now (log .entry)) (now (sheet .entry))) × (leavesWork r ≡ true → now (work .exit) ≡ now (work .entry)) ⌝ }
+{
+    let a = admission::refusal(text, work.len());
+    match a {
+        Admission::Refused(r) => Answer::Refused(r),
+        Admission::Admitted => admitted(text, work, log, sheet),
+    }
+}
+
+// The same for callers in other languages: the answer in 36 words, and its number.
+#[no_mangle]
+pub extern "C" fn pevzoncs_read(
+    text: &[u8],
+    work: &mut [u32],
+    log: &mut [u32],
+    sheet: &mut [u32],
+    answer: &mut [u32],
+) -> u32
+    ensures { λ n. ⌜ (given n (now (answer .exit)) (now (log .exit)) (now (sheet .exit)) ≡ givenBy (readOutcome (now (text .entry)) (length (now (work .entry))) (now (log .entry)) (now (sheet .entry))) (now (answer .entry))) × (leavesWorkNumber n ≡ true → now (work .exit) ≡ now (work .entry)) ⌝ }
+{
+    let a = read(text, work, log, sheet);
+    words::give(a, answer)
 }

@@ -1,0 +1,5 @@
+pub mod HeadLaws
+pub mod Declared
+pub mod HeadMeans
+pub mod TokenSays
+pub mod ItemSays

@@ -1,0 +1,4 @@
+pub mod Shows
+pub mod TokensShow
+pub mod RulesShown
+pub mod BodyShown
