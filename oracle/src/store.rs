@@ -139,16 +139,17 @@ impl Stored {
         ))
     }
 
-    /// A case with exact lengths and one with others.
+    /// A case with exact lengths and one with others; of a buffer that the answer leaves empty some is lent.
     fn push(&mut self, family: Family, text: &[u8], random: &mut Random) {
         let before = self.cases.len();
         let chosen = 1 + random.below(5);
         let (mut which, mut exact, mut pushed) = (0, None, false);
-        let done = for_lengths(text, random, |reading, lengths, _| {
+        let done = for_lengths(text, random, |reading, lengths, random| {
             let lengths = within(lengths);
             let other = which >= chosen && !pushed && exact != Some(lengths);
             if which == 0 || other {
-                self.push_case(family, text, reading, lengths);
+                let lent = with_some(lengths, exact.unwrap_or(lengths), random);
+                self.push_case(family, text, reading, lent);
             }
             exact = exact.or(Some(lengths));
             pushed |= other;
@@ -184,6 +185,20 @@ fn within(lengths: Lengths) -> Lengths {
         log: lengths.log.min(ROOM.log),
         sheet: lengths.sheet.min(ROOM.sheet),
         output: lengths.output.min(ROOM.output),
+    }
+}
+
+/// Some words or bytes of each buffer of which none is needed and none lent: dirt to be cleared or left.
+fn with_some(lengths: Lengths, exact: Lengths, random: &mut Random) -> Lengths {
+    let mut some = |length, needed| match (length, needed) {
+        (0, 0) => 1 + random.below(8),
+        _ => length,
+    };
+    Lengths {
+        work: lengths.work,
+        log: some(lengths.log, exact.log),
+        sheet: some(lengths.sheet, exact.sheet),
+        output: some(lengths.output, exact.output),
     }
 }
 
