@@ -1,12 +1,12 @@
 //! Stored answers, for a program that replays them without any Rust.
 //!
-//! The file is a row of little-endian 32-bit words: the number of cases, then the cases. A case is
-//! a text with the lengths of lent buffers, and what both calls answer and leave behind (the
-//! writing call leaves in log and sheet what the reading call does):
+//! The file is the number of cases, as a little-endian 32-bit word, then the cases. A case is a text
+//! with the lengths of lent buffers, and what both calls answer and leave behind (the writing call
+//! leaves in log and sheet what the reading call does), in such words and at the end in bytes:
 //!
 //! | words | what |
 //! |---|---|
-//! | 1 | bytes of the case behind the `HEAD` words of this table's first part |
+//! | 1 | bytes of the case behind its first `HEAD` words, which end where the log's begin |
 //! | 1 | bytes of the text |
 //! | 4 | lengths lent: work, log and sheet in words, output in bytes |
 //! | 1 | log: n words at the front, the rest zero; n is 4294967295 for untouched |
@@ -18,8 +18,6 @@
 //! | n | the sheet's words |
 //! | n bytes | the output |
 //! | n bytes | the text |
-//!
-//! Bytes are padded with zero to whole words.
 
 use crate::compare::{
     for_lengths, read_answer, read_kind, read_outcome, write_answer, write_kind, write_outcome,
@@ -67,7 +65,7 @@ const WRITE_KINDS: [&str; 8] = [
 
 /// What is stored, and how much of it.
 pub struct Stored {
-    cases: Vec<Vec<u32>>,
+    cases: Vec<Vec<u8>>,
     texts: u64,
     read: Tally,
     write: Tally,
@@ -109,9 +107,8 @@ fn stride(family: Family) -> u64 {
 impl Stored {
     /// The file's bytes.
     pub fn bytes(&self) -> Vec<u8> {
-        let count = [self.cases.len() as u32];
-        let words = count.iter().chain(self.cases.iter().flatten());
-        words.flat_map(|word| word.to_le_bytes()).collect()
+        let count = (self.cases.len() as u32).to_le_bytes();
+        [&count[..], &self.cases.concat()].concat()
     }
 
     /// The tables of what is stored, and the kinds of answers that are missing.
@@ -170,7 +167,7 @@ impl Stored {
         let read = read_outcome(text, reading, lengths);
         let write = write_outcome(text, reading, lengths);
         let case = case(text, lengths, &read, &write);
-        if 4 * case.len() <= MAX_CASE_BYTES {
+        if case.len() <= MAX_CASE_BYTES {
             self.read.count(family, read_kind(&read.reply));
             self.write.count(family, write_kind(&write.reply));
             self.cases.push(case);
@@ -202,8 +199,8 @@ fn with_some(lengths: Lengths, exact: Lengths, random: &mut Random) -> Lengths {
     }
 }
 
-/// The words of one case.
-fn case(text: &[u8], lengths: Lengths, read: &ReadOutcome, write: &WriteOutcome) -> Vec<u32> {
+/// The bytes of one case.
+fn case(text: &[u8], lengths: Lengths, read: &ReadOutcome, write: &WriteOutcome) -> Vec<u8> {
     assert!(read.log == write.log && read.sheet == write.sheet);
     let lent = [lengths.work, lengths.log, lengths.sheet, lengths.output];
     let mut words = vec![0, text.len() as u32];
@@ -222,10 +219,9 @@ fn case(text: &[u8], lengths: Lengths, read: &ReadOutcome, write: &WriteOutcome)
     assert!(words.len() == HEAD);
     words.extend(left(&read.log).1);
     words.extend(left(&read.sheet).1);
-    words.extend(packed(output));
-    words.extend(packed(text));
-    words[0] = 4 * (words.len() - HEAD) as u32;
-    words
+    words[0] = (4 * (words.len() - HEAD) + output.len() + text.len()) as u32;
+    let words = words.into_iter().flat_map(u32::to_le_bytes);
+    words.chain(output.iter().chain(text).copied()).collect()
 }
 
 /// How many words are left at the front of a row, and which.
@@ -234,13 +230,4 @@ fn left(row: &LeftWords) -> (u32, &[u32]) {
         LeftWords::Untouched => (UNTOUCHED, &[]),
         LeftWords::Written(front) => (front.len() as u32, front),
     }
-}
-
-/// Bytes as words, the last one padded with zero.
-fn packed(bytes: &[u8]) -> impl Iterator<Item = u32> {
-    bytes.chunks(4).map(|chunk| {
-        let mut four = [0; 4];
-        four[..chunk.len()].copy_from_slice(chunk);
-        u32::from_le_bytes(four)
-    })
 }

@@ -1,86 +1,160 @@
 // Replays the oracle's stored answers. Cases come from standard input (oracle/src/store.rs says how they are laid out); each is read with
 // dirty buffers of the lengths that it says, and every word of the answer and of what the call leaves behind is compared. Written are a line
 // for each case that differs, and how many of each kind of answer agreed.
+ghost use mathlib.Core.Path.{_≡_};
+ghost use Prim.Native.Nat.{_<_, _≤_};
+ghost use lib.ListN.{length, take};
+ghost use Rattle.language.specs.Outcome.{readOutcome};
+ghost use Rattle.replay.specs.Case.{wordAt, marked, wanted, left, agrees};
 
-// The word that says that a row is left untouched.
+// The mark that says that a row is left untouched.
 const UNTOUCHED: u32 = 0xffff_ffff;
-// Bytes of a case's head.
+// Bytes of a case in front of the log's words.
 const HEAD: usize = 192;
-// The most bytes behind it.
-const BODY: usize = 32_768;
+// Bytes of a case.
+const CASE: usize = 32_768;
 // Words of work, and of log and sheet: the most that is lent.
 const WORK: usize = 40_960;
 
 const ROW: usize = 16_384;
 
 // A byte as a word.
-fn wide(x: u8) -> u32 {
+fn wide(x: u8) -> u32
+    ensures { λ r. ⌜ (r ≡ x) × (r < 256) ⌝ }
+{
     x as u32
 }
 
 // A word as a length.
-fn length(x: u32) -> usize {
+fn size(x: u32) -> usize
+    ensures { λ r. ⌜ (r ≡ x) × (r < 4294967296) ⌝ }
+{
     x as usize
 }
 
-// The little-endian word at an offset.
-fn word(bytes: &[u8], at: usize) -> u32 {
-    let low = wide(bytes[at]) + 256 * wide(bytes[at + 1]);
-    let high = wide(bytes[at + 2]) + 256 * wide(bytes[at + 3]);
-    low + 65_536 * high
-}
-
-// The word i of stored bytes, 0 behind the last.
-fn word_at(stored: &[u8], i: usize) -> u32 {
-    if i < stored.len() / 4 {
-        word(stored, 4 * i)
+// The little-endian word at an index of stored bytes, 0 behind the last.
+fn word_at(case: &[u8], i: usize) -> u32
+    ensures { λ r. ⌜ r ≡ wordAt (now (case .entry)) i ⌝ }
+{
+    if i < case.len() / 4 {
+        let low = wide(case[4 * i]) + 256 * wide(case[4 * i + 1]);
+        let high = wide(case[4 * i + 2]) + 256 * wide(case[4 * i + 3]);
+        low + 65_536 * high
     } else {
         0
     }
 }
 
-// Whether a row holds all the stored words at its front, and zero behind them.
-fn holds(row: &[u32], stored: &[u8]) -> bool {
-    if row.len() < stored.len() / 4 {
-        return false;
-    }
-    let mut i = 0;
-    while i < row.len() {
-        if row[i] != word_at(stored, i) {
-            return false;
-        }
-        i += 1;
-    }
-    true
+// How many words or bytes a mark says are stored.
+fn marked(mark: u32) -> usize
+    ensures { λ r. ⌜ (r ≡ marked mark) × (r < 4294967296) ⌝ }
+{
+    if mark == UNTOUCHED { 0 } else { size(mark) }
 }
 
-// Whether a row is the front of another.
-fn begins(row: &[u32], whole: &[u32]) -> bool {
-    if whole.len() < row.len() {
-        return false;
-    }
-    let mut i = 0;
-    while i < row.len() {
-        if row[i] != whole[i] {
-            return false;
-        }
-        i += 1;
-    }
-    true
-}
-
-// Whether a row is left as stored: untouched, or the stored words and zero behind them.
-fn left(row: &[u32], dirt: &[u32], mark: u32, stored: &[u8]) -> bool {
+// The word that is to stand at i.
+fn wanted(before: &[u32], case: &[u8], from: usize, mark: u32, i: usize) -> u32
+    requires { ⌜ (i < length (now before)) × (from < 8589934592) ⌝ }
+    ensures { λ r. ⌜ r ≡ wanted (now (before .entry)) (now (case .entry)) from mark i ⌝ }
+{
     if mark == UNTOUCHED {
-        begins(row, dirt)
+        before[i]
+    } else if i < size(mark) {
+        word_at(case, from + i)
     } else {
-        holds(row, stored)
+        0
     }
 }
 
-// How many stored words or bytes a mark says.
-fn count(mark: u32) -> usize {
-    if mark == UNTOUCHED { 0 } else { length(mark) }
+// Whether a row is left as stored.
+fn left(before: &[u32], case: &[u8], from: usize, mark: u32, row: &[u32]) -> bool
+    requires { ⌜ (length (now row) ≤ length (now before)) × (from < 8589934592) ⌝ }
+    ensures { λ r. ⌜ r ≡ left (now (before .entry)) (now (case .entry)) from mark (now (row .entry)) ⌝ }
+{
+    if row.len() < marked(mark) {
+        return false;
+    }
+    let mut i = 0;
+    while i < row.len() {
+        if row[i] != wanted(before, case, from, mark, i) {
+            return false;
+        }
+        i += 1;
+    }
+    true
+}
+
+// Whether work is as an answer of this number leaves it: untouched by refusals 1 and 2.
+fn work_left(number: u32, before: &[u32], case: &[u8], work: &[u32]) -> bool
+    requires { ⌜ length (now work) ≤ length (now before) ⌝ }
+{
+    if number == 1 {
+        return left(before, case, 0, UNTOUCHED, work);
+    }
+    if number == 2 {
+        return left(before, case, 0, UNTOUCHED, work);
+    }
+    true
+}
+
+// Whether log and sheet are left as stored.
+fn rows_left(before: &[u32], case: &[u8], log: &[u32], sheet: &[u32]) -> bool
+    requires { ⌜ (length (now log) ≤ length (now before)) × (length (now sheet) ≤ length (now before)) ⌝ }
+{
+    let m = word_at(case, 6);
+    let from = 48 + marked(m);
+    if left(before, case, 48, m, log) {
+        left(before, case, from, word_at(case, 7), sheet)
+    } else {
+        false
+    }
+}
+
+// Whether a reading call of a text, with buffers that hold the front of `before`, agrees with what is stored.
+fn read_agrees(
+    before: &[u32],
+    case: &[u8],
+    text: &[u8],
+    work: &mut [u32],
+    log: &mut [u32],
+    sheet: &mut [u32],
+) -> bool
+    requires { ⌜ (36 ≤ length (now before)) × (length (now work) ≤ length (now before)) × (length (now log) ≤ length (now before)) × (length (now sheet) ≤ length (now before)) ⌝ }
+{
+    diag::copy(before, work, work.len());
+    diag::copy(before, log, log.len());
+    diag::copy(before, sheet, sheet.len());
+    let answer = reader::words::answer_words(reader::read(text, work, log, sheet));
+    if !left(before, case, 9, 36, &answer) {
+        return false;
+    }
+    if !rows_left(before, case, log, sheet) {
+        return false;
+    }
+    work_left(answer[0], before, case, work)
+}
+
+// Whether a case agrees; one whose lengths are beyond the rooms does not.
+fn case_agrees(before: &[u32], case: &[u8]) -> bool {
+    let w = size(word_at(case, 2));
+    let l = size(word_at(case, 3));
+    let s = size(word_at(case, 4));
+    let e = case.len();
+    let n = size(word_at(case, 1));
+    if WORK < w || ROW < l || ROW < s || e < n {
+        return false;
+    }
+    let mut work = [0u32; 40_960];
+    let mut log = [0u32; 16_384];
+    let mut sheet = [0u32; 16_384];
+    read_agrees(
+        before,
+        case,
+        &case[e - n..e],
+        &mut work[..w],
+        &mut log[..l],
+        &mut sheet[..s],
+    )
 }
 
 // Words that no answer is likely to hold, all different.
@@ -94,93 +168,32 @@ fn soil(row: &mut [u32]) {
     }
 }
 
-// Whether work is as it has to be: untouched by refusals 1 and 2.
-fn work_left(number: u32, work: &[u32], dirt: &[u32]) -> bool {
-    if number == 1 || number == 2 {
-        begins(work, dirt)
-    } else {
-        true
-    }
+// The place of an answer's number in the tally: a machine 0, refusals by their number, diagnostics 8.
+fn kind(number: u32) -> usize
+    ensures { λ r. ⌜ r < 9 ⌝ }
+{
+    if number < 8 { size(number) } else { 8 }
 }
 
-// Whether a reading call agrees with what is stored.
-fn read_agrees(
-    head: &[u8],
-    stored_log: &[u8],
-    stored_sheet: &[u8],
-    text: &[u8],
-    dirt: &[u32],
-    work: &mut [u32],
-    log: &mut [u32],
-    sheet: &mut [u32],
-) -> bool {
-    diag::copy(dirt, work, work.len());
-    diag::copy(dirt, log, log.len());
-    diag::copy(dirt, sheet, sheet.len());
-    let answer = reader::words::answer_words(reader::read(text, work, log, sheet));
-    if !holds(&answer, &head[36..180]) {
-        return false;
-    }
-    if !left(log, dirt, word(head, 24), stored_log) {
-        return false;
-    }
-    if !left(sheet, dirt, word(head, 28), stored_sheet) {
-        return false;
-    }
-    work_left(answer[0], work, dirt)
-}
-
-// Whether the case agrees, if its lengths are within the rooms and its parts within the body.
-fn case_agrees(head: &[u8], body: &[u8], dirt: &[u32]) -> bool {
-    let w = length(word(head, 8));
-    let l = length(word(head, 12));
-    let s = length(word(head, 16));
-    if w > WORK || l > ROW || s > ROW {
-        return false;
-    }
-    let a = 4 * count(word(head, 24));
-    let b = a + 4 * count(word(head, 28));
-    let c = b + (count(word(head, 32)) + 3) / 4 * 4;
-    let e = c + length(word(head, 4));
-    if e > body.len() {
-        return false;
-    }
-    let mut work = [0u32; 40_960];
-    let mut log = [0u32; 16_384];
-    let mut sheet = [0u32; 16_384];
-    read_agrees(
-        head,
-        &body[..a],
-        &body[a..b],
-        &body[c..e],
-        dirt,
-        &mut work[..w],
-        &mut log[..l],
-        &mut sheet[..s],
-    )
-}
-
-// The place of an answer's number in the tally: refusals by their number, 0 a machine, 8 diagnostics.
-fn kind(number: u32) -> usize {
-    if number < 8 { length(number) } else { 8 }
-}
-
-// Replays the next case: the place of its answer in the tally if it agrees, 9 if it does not.
-fn next(dirt: &[u32]) -> usize {
-    let mut head = [0u8; 192];
-    let mut body = [0u8; 32_768];
-    if io::read_full(0, &mut head) < HEAD {
+// Replays the next case: the place of its answer in the tally if it agrees, else 9.
+fn next(before: &[u32]) -> usize
+    requires { ⌜ 40960 ≤ length (now before) ⌝ }
+    ensures { λ r. ⌜ r < 10 ⌝ }
+{
+    let mut case = [0u8; 32_768];
+    if io::read_full(0, &mut case[..HEAD]) < HEAD {
         return 9;
     }
-    let size = length(word(&head, 0));
-    if size > BODY {
+    let n = size(word_at(&case, 0));
+    if CASE - HEAD < n {
         return 9;
     }
-    if io::read_full(0, &mut body[..size]) < size {
+    let e = HEAD + n;
+    if io::read_full(0, &mut case[HEAD..e]) < n {
         return 9;
     }
-    if case_agrees(&head, &body[..size], dirt) {
-        kind(word(&head, 36))
+    if case_agrees(before, &case[..e]) {
+        kind(word_at(&case, 9))
     } else {
         9
     }
@@ -189,7 +202,6 @@ fn next(dirt: &[u32]) -> usize {
 // Writes a number behind a word, as a line.
 fn say(what: &[u8], n: u32) {
     io::write_all(1, what);
-    io::write_all(1, b" ");
     io::print_decimal(1, n as u64);
     io::write_all(1, b"\n");
 }
@@ -197,29 +209,29 @@ fn say(what: &[u8], n: u32) {
 // Writes how many cases of a kind agreed.
 fn say_kind(k: usize, n: u32) {
     if k == 0 {
-        say(b"machine", n);
+        say(b"machine: ", n);
     } else if k == 8 {
-        say(b"diagnostics", n);
+        say(b"diagnostics: ", n);
     } else {
         io::write_all(1, b"refused ");
         io::print_decimal(1, k as u64);
-        say(b":", n);
+        say(b": ", n);
     }
 }
 
 fn main() {
-    let mut dirt = [0u32; 40_960];
-    soil(&mut dirt);
-    let mut four = [0u8; 4];
-    io::read_full(0, &mut four);
-    let n = word(&four, 0);
+    let mut before = [0u32; 40_960];
+    soil(&mut before);
+    let mut first = [0u8; 4];
+    io::read_full(0, &mut first);
+    let n = word_at(&first, 0);
     let mut tally = [0u32; 10];
     let mut i = 0;
     while i < n {
-        let k = next(&dirt);
+        let k = next(&before);
         tally[k] = std::num::wrapping_add_u32(tally[k], 1);
         if k == 9 {
-            say(b"differs: case", i);
+            say(b"differs: case ", i);
         }
         i += 1;
     }
