@@ -5,7 +5,7 @@ ghost use mathlib.Core.Path.{_≡_};
 ghost use Prim.Native.Nat.{_<_, _≤_};
 ghost use lib.ListN.{length, take};
 ghost use Rattle.language.specs.Outcome.{readOutcome};
-ghost use Rattle.replay.specs.Case.{wordAt, marked, wanted, left, agrees};
+ghost use Rattle.replay.specs.Case.{wordAt, marked, wanted, left, rowsLeft, workLeft, agrees, Rooms, caseAgrees};
 
 // The mark that says that a row is left untouched.
 const UNTOUCHED: u32 = 0xffff_ffff;
@@ -43,6 +43,13 @@ fn word_at(case: &[u8], i: usize) -> u32
     } else {
         0
     }
+}
+
+// The length at an index of a case.
+fn size_at(case: &[u8], i: usize) -> usize
+    ensures { λ r. ⌜ (r ≡ wordAt (now (case .entry)) i) × (r < 4294967296) ⌝ }
+{
+    size(word_at(case, i))
 }
 
 // How many words or bytes a mark says are stored.
@@ -87,6 +94,7 @@ fn left(before: &[u32], case: &[u8], from: usize, mark: u32, row: &[u32]) -> boo
 // Whether work is as an answer of this number leaves it: untouched by refusals 1 and 2.
 fn work_left(number: u32, before: &[u32], case: &[u8], work: &[u32]) -> bool
     requires { ⌜ length (now work) ≤ length (now before) ⌝ }
+    ensures { λ r. ⌜ r ≡ workLeft number (now (before .entry)) (now (case .entry)) (now (work .entry)) ⌝ }
 {
     if number == 1 {
         return left(before, case, 0, UNTOUCHED, work);
@@ -100,6 +108,7 @@ fn work_left(number: u32, before: &[u32], case: &[u8], work: &[u32]) -> bool
 // Whether log and sheet are left as stored.
 fn rows_left(before: &[u32], case: &[u8], log: &[u32], sheet: &[u32]) -> bool
     requires { ⌜ (length (now log) ≤ length (now before)) × (length (now sheet) ≤ length (now before)) ⌝ }
+    ensures { λ r. ⌜ r ≡ rowsLeft (now (before .entry)) (now (case .entry)) (now (log .entry)) (now (sheet .entry)) ⌝ }
 {
     let m = word_at(case, 6);
     let from = 48 + marked(m);
@@ -110,7 +119,39 @@ fn rows_left(before: &[u32], case: &[u8], log: &[u32], sheet: &[u32]) -> bool
     }
 }
 
-// Whether a reading call of a text, with buffers that hold the front of `before`, agrees with what is stored.
+// Fills a row with the front of another.
+fn soil(before: &[u32], row: &mut [u32])
+    requires { ⌜ length (now row) ≤ length (now before) ⌝ }
+    ensures { λ _. ⌜ now (row .exit) ≡ take (length (now (row .entry))) (now (before .entry)) ⌝ }
+{
+    diag::copy(before, row, row.len());
+}
+
+// Whether a reading call of a text, with dirty buffers, agrees with what is stored.
+fn answer_agrees(
+    before: &[u32],
+    case: &[u8],
+    text: &[u8],
+    work: &mut [u32],
+    log: &mut [u32],
+    sheet: &mut [u32],
+) -> bool
+    requires { ⌜ (40960 ≤ length (now before)) × (now work ≡ take (length (now work)) (now before)) × (length (now work) ≤ length (now before)) × (length (now log) ≤ length (now before)) × (length (now sheet) ≤ length (now before)) ⌝ }
+    ensures { λ r. ⌜ r ≡ agrees (now (before .entry)) (now (case .entry)) (readOutcome (now (text .entry)) (length (now (work .entry))) (now (log .entry)) (now (sheet .entry))) ⌝ }
+{
+    let answer = reader::words::answer_words(reader::read(text, work, log, sheet));
+    if left(before, case, 9, 36, &answer) {
+        if rows_left(before, case, log, sheet) {
+            work_left(answer[0], before, case, work)
+        } else {
+            false
+        }
+    } else {
+        false
+    }
+}
+
+// The same with any buffers, which are filled with the front of `before` first.
 fn read_agrees(
     before: &[u32],
     case: &[u8],
@@ -119,34 +160,43 @@ fn read_agrees(
     log: &mut [u32],
     sheet: &mut [u32],
 ) -> bool
-    requires { ⌜ (36 ≤ length (now before)) × (length (now work) ≤ length (now before)) × (length (now log) ≤ length (now before)) × (length (now sheet) ≤ length (now before)) ⌝ }
+    requires { ⌜ (40960 ≤ length (now before)) × (length (now work) ≤ length (now before)) × (length (now log) ≤ length (now before)) × (length (now sheet) ≤ length (now before)) ⌝ }
+    ensures { λ r. ⌜ r ≡ agrees (now (before .entry)) (now (case .entry)) (readOutcome (now (text .entry)) (length (now (work .entry))) (take (length (now (log .entry))) (now (before .entry))) (take (length (now (sheet .entry))) (now (before .entry)))) ⌝ }
 {
-    diag::copy(before, work, work.len());
-    diag::copy(before, log, log.len());
-    diag::copy(before, sheet, sheet.len());
-    let answer = reader::words::answer_words(reader::read(text, work, log, sheet));
-    if !left(before, case, 9, 36, &answer) {
-        return false;
-    }
-    if !rows_left(before, case, log, sheet) {
-        return false;
-    }
-    work_left(answer[0], before, case, work)
+    soil(before, work);
+    soil(before, log);
+    soil(before, sheet);
+    answer_agrees(before, case, text, work, log, sheet)
 }
 
-// Whether a case agrees; one whose lengths are beyond the rooms does not.
-fn case_agrees(before: &[u32], case: &[u8]) -> bool {
-    let w = size(word_at(case, 2));
-    let l = size(word_at(case, 3));
-    let s = size(word_at(case, 4));
+// Whether a case agrees; one whose lengths are beyond the program's buffers does not.
+fn case_agrees(
+    before: &[u32],
+    case: &[u8],
+    work: &mut [u32],
+    log: &mut [u32],
+    sheet: &mut [u32],
+) -> bool
+    requires { ⌜ Rooms (now before) (now work) (now log) (now sheet) ⌝ }
+    ensures { λ r. ⌜ r ≡ caseAgrees (now (before .entry)) (now (case .entry)) ⌝ }
+{
+    let w = size_at(case, 2);
+    let l = size_at(case, 3);
+    let s = size_at(case, 4);
+    let n = size_at(case, 1);
     let e = case.len();
-    let n = size(word_at(case, 1));
-    if WORK < w || ROW < l || ROW < s || e < n {
+    if WORK < w {
         return false;
     }
-    let mut work = [0u32; 40_960];
-    let mut log = [0u32; 16_384];
-    let mut sheet = [0u32; 16_384];
+    if ROW < l {
+        return false;
+    }
+    if ROW < s {
+        return false;
+    }
+    if e < n {
+        return false;
+    }
     read_agrees(
         before,
         case,
@@ -158,7 +208,7 @@ fn case_agrees(before: &[u32], case: &[u8]) -> bool {
 }
 
 // Words that no answer is likely to hold, all different.
-fn soil(row: &mut [u32]) {
+fn scatter(row: &mut [u32]) {
     let mut dirt = 0xa5a5_a5a5;
     let mut i = 0;
     while i < row.len() {
@@ -176,15 +226,20 @@ fn kind(number: u32) -> usize
 }
 
 // Replays the next case: the place of its answer in the tally if it agrees, else 9.
-fn next(before: &[u32]) -> usize
-    requires { ⌜ 40960 ≤ length (now before) ⌝ }
+fn next(
+    before: &[u32],
+    case: &mut [u8],
+    work: &mut [u32],
+    log: &mut [u32],
+    sheet: &mut [u32],
+) -> usize
+    requires { ⌜ (32768 ≤ length (now case)) × Rooms (now before) (now work) (now log) (now sheet) ⌝ }
     ensures { λ r. ⌜ r < 10 ⌝ }
 {
-    let mut case = [0u8; 32_768];
     if io::read_full(0, &mut case[..HEAD]) < HEAD {
         return 9;
     }
-    let n = size(word_at(&case, 0));
+    let n = size_at(case, 0);
     if CASE - HEAD < n {
         return 9;
     }
@@ -192,8 +247,8 @@ fn next(before: &[u32]) -> usize
     if io::read_full(0, &mut case[HEAD..e]) < n {
         return 9;
     }
-    if case_agrees(before, &case[..e]) {
-        kind(word_at(&case, 9))
+    if case_agrees(before, &case[..e], work, log, sheet) {
+        kind(word_at(case, 9))
     } else {
         9
     }
@@ -219,23 +274,57 @@ fn say_kind(k: usize, n: u32) {
     }
 }
 
-fn main() {
-    let mut before = [0u32; 40_960];
-    soil(&mut before);
-    let mut first = [0u8; 4];
-    io::read_full(0, &mut first);
-    let n = word_at(&first, 0);
-    let mut tally = [0u32; 10];
+// Replays n cases, and says which do not agree.
+fn replay(
+    n: u32,
+    before: &[u32],
+    case: &mut [u8],
+    work: &mut [u32],
+    log: &mut [u32],
+    sheet: &mut [u32],
+    tally: &mut [u32; 10],
+)
+    requires { ⌜ (32768 ≤ length (now case)) × Rooms (now before) (now work) (now log) (now sheet) ⌝ }
+{
     let mut i = 0;
     while i < n {
-        let k = next(&before);
+        let k = next(before, case, work, log, sheet);
         tally[k] = std::num::wrapping_add_u32(tally[k], 1);
         if k == 9 {
             say(b"differs: case ", i);
         }
         i += 1;
     }
-    for k in 0..9 {
+}
+
+// Says how many cases of each kind agreed.
+fn say_kinds(tally: &[u32; 10]) {
+    let mut k = 0;
+    while k < 9 {
         say_kind(k, tally[k]);
+        k += 1;
     }
+}
+
+fn main() {
+    let mut before = [0u32; 40_960];
+    let mut case = [0u8; 32_768];
+    let mut work = [0u32; 40_960];
+    let mut log = [0u32; 16_384];
+    let mut sheet = [0u32; 16_384];
+    let mut tally = [0u32; 10];
+    let mut first = [0u8; 4];
+    scatter(&mut before);
+    io::read_full(0, &mut first);
+    let n = word_at(&first, 0);
+    replay(
+        n,
+        &before,
+        &mut case,
+        &mut work,
+        &mut log,
+        &mut sheet,
+        &mut tally,
+    );
+    say_kinds(&tally);
 }
