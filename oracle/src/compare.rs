@@ -55,7 +55,7 @@ fn over_families(
             }
         }
     }
-    tally.print("calls");
+    print!("{}", tally.table("calls"));
     println!(
         "texts: {texts}, differences: {differences}, seconds: {:.1}",
         started.elapsed().as_secs_f64()
@@ -373,7 +373,7 @@ pub fn write_answer(reply: &WriteReply) -> AnswerRow {
     }
 }
 
-fn read_kind(reply: &ReadReply) -> &'static str {
+pub fn read_kind(reply: &ReadReply) -> &'static str {
     match reply {
         ReadReply::Head(_) => "machine",
         ReadReply::Diagnostics(_) => "diagnostics",
@@ -381,7 +381,7 @@ fn read_kind(reply: &ReadReply) -> &'static str {
     }
 }
 
-fn write_kind(reply: &WriteReply) -> &'static str {
+pub fn write_kind(reply: &WriteReply) -> &'static str {
     match reply {
         WriteReply::Length(_) => "machine",
         WriteReply::Diagnostics(_) => "diagnostics",

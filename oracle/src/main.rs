@@ -86,7 +86,7 @@ fn run(arguments: &[&str]) -> Result<bool, String> {
         ["list", file] => print(list::listing(&read_file(file)?).as_bytes()),
         ["gen", family, count, seed] => generate(family, count, seed, None),
         ["gen", family, count, seed, directory] => generate(family, count, seed, Some(directory)),
-        ["store", count, seed] => print(&store::cases(number(count)?, number(seed)?)),
+        ["store", count, seed] => store(number(count)?, number(seed)?),
         ["self", rest @ ..] => self_check(rest),
         [
             "compare",
@@ -101,6 +101,21 @@ fn run(arguments: &[&str]) -> Result<bool, String> {
 fn print(bytes: &[u8]) -> Result<bool, String> {
     let written = io::stdout().write_all(bytes);
     written.map(|()| true).map_err(|e| e.to_string())
+}
+
+/// Stored answers to standard output and what they are to standard error; false if a kind is missing.
+fn store(count: u64, seed: u64) -> Result<bool, String> {
+    let stored = store::cases(count, seed);
+    match stored.report() {
+        Ok(report) => {
+            eprint!("{report}");
+            print(&stored.bytes())
+        }
+        Err(missing) => {
+            eprintln!("{missing}");
+            Ok(false)
+        }
+    }
 }
 
 fn read_file(name: &str) -> Result<Vec<u8>, String> {
