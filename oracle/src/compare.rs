@@ -1,14 +1,19 @@
-//! `oracle compare`: the port, through its static libraries, against the original.
+//! `oracle compare`: the port, through its static libraries and the list program, against the
+//! original.
 //!
 //! Every text is tried with buffers of exact, shorter and longer lengths, empty ones among them,
 //! all with dirty contents, and every word of every buffer is compared.
 
+use std::io::Write;
+use std::path::Path;
+use std::process::{Command, Stdio};
 use std::time::Instant;
 
 use crate::chars::{first_outside, utf8_beginning};
 use crate::families::{Family, Random, Selection};
 use crate::foreign::{ANSWER_WORDS, AnswerRow, Buffers, Call, DIAGNOSTICS, Tokenize};
 use crate::head::head_words;
+use crate::list::{MAX_INPUT, listing};
 use crate::log::RECORD_WORDS;
 use crate::outcome::{
     self, LeftBytes, LeftWords, Lengths, MAX_TEXT, ReadOutcome, ReadReply, Refusal, WriteOutcome,
@@ -50,7 +55,7 @@ fn over_families(
             }
         }
     }
-    tally.print("calls");
+    print!("{}", tally.table("calls"));
     println!(
         "texts: {texts}, differences: {differences}, seconds: {:.1}",
         started.elapsed().as_secs_f64()
@@ -182,6 +187,49 @@ pub fn compare_write(write: Call, selection: Selection) -> bool {
             call_agrees(write, text, lengths, &expected, random)
         })
     })
+}
+
+/// Compares what the list program prints. A text that is longer than it takes is cut, but for the
+/// limits, which are meant to be too long.
+pub fn compare_list(program: &Path, selection: Selection) -> bool {
+    over_families(selection, |family, text, _, tally| {
+        let end = match family {
+            Family::Limits => text.len(),
+            _ => text.len().min(MAX_INPUT),
+        };
+        let expected = listing(&text[..end]);
+        tally.count(family, list_kind(&expected));
+        let found = printed(program, &text[..end]).map_err(|e| e.to_string())?;
+        same("the listing", &found, expected.as_bytes())
+    })
+}
+
+/// What a program prints for a text on its standard input. It may end before it has read all of it.
+fn printed(program: &Path, text: &[u8]) -> std::io::Result<Vec<u8>> {
+    let mut child = Command::new(program)
+        .stdin(Stdio::piped())
+        .stdout(Stdio::piped())
+        .spawn()?;
+    if let Some(mut stdin) = child.stdin.take() {
+        let _ = stdin.write_all(text);
+    }
+    child.wait_with_output().map(|output| output.stdout)
+}
+
+/// The kind of a listing, from its first two lines.
+fn list_kind(listing: &str) -> &'static str {
+    let mut lines = listing.lines();
+    match (lines.next(), lines.next()) {
+        (Some(line), None) => match line.as_bytes().get("refused=".len()) {
+            Some(b'1') => "refused 1",
+            Some(b'3') => "refused 3",
+            Some(b'4') => "refused 4",
+            Some(b'5') => "refused 5",
+            _ => "refused 6",
+        },
+        (_, Some("diagnostics=0")) => "machine",
+        _ => "diagnostics",
+    }
 }
 
 /// The outcome of reading; a text that is too long was not read.
@@ -325,7 +373,7 @@ pub fn write_answer(reply: &WriteReply) -> AnswerRow {
     }
 }
 
-fn read_kind(reply: &ReadReply) -> &'static str {
+pub fn read_kind(reply: &ReadReply) -> &'static str {
     match reply {
         ReadReply::Head(_) => "machine",
         ReadReply::Diagnostics(_) => "diagnostics",
@@ -333,7 +381,7 @@ fn read_kind(reply: &ReadReply) -> &'static str {
     }
 }
 
-fn write_kind(reply: &WriteReply) -> &'static str {
+pub fn write_kind(reply: &WriteReply) -> &'static str {
     match reply {
         WriteReply::Length(_) => "machine",
         WriteReply::Diagnostics(_) => "diagnostics",

@@ -86,7 +86,7 @@ mod linked {
             sheet_len: usize,
             answer: *mut u32,
             answer_len: usize,
-        );
+        ) -> u32;
 
         #[cfg(have_writer)]
         fn pevzoncs_write(
@@ -115,7 +115,7 @@ mod linked {
     pub fn read(text: &[u8], buffers: &mut Buffers) -> AnswerRow {
         let mut answer = DIRTY_ROW;
         // SAFETY: all slices are valid for their lengths, and don't overlap.
-        unsafe {
+        let number = unsafe {
             pevzoncs_read(
                 text.as_ptr(),
                 text.len(),
@@ -127,8 +127,9 @@ mod linked {
                 buffers.sheet.len(),
                 answer.as_mut_ptr(),
                 answer.len(),
-            );
-        }
+            )
+        };
+        assert_eq!(number, answer[0], "the number that pevzoncs_read answers");
         answer
     }
 

@@ -41,7 +41,7 @@ use dsl::parser::trace;
 use dsl::tokens;
 
 use std::io::{self, Read, Write};
-use std::path::Path;
+use std::path::{Path, PathBuf};
 use std::process::ExitCode;
 
 use families::{Family, Selection};
@@ -57,7 +57,7 @@ usage:
   oracle gen FAMILY COUNT SEED [DIR]   texts, to standard output or one file each into DIR
   oracle store COUNT SEED              stored answers for COUNT texts of each family
   oracle self [COUNT [SEED [FAMILY]]] [--plant layout|form|leading|sizes]
-  oracle compare [tokens|read|write] [COUNT [SEED [FAMILY]]]
+  oracle compare [tokens|read|write|list] [COUNT [SEED [FAMILY]]]
 families: grammar damaged soup short lines limits";
 
 /// Texts that `self` and `compare` run over unless told otherwise.
@@ -86,10 +86,14 @@ fn run(arguments: &[&str]) -> Result<bool, String> {
         ["list", file] => print(list::listing(&read_file(file)?).as_bytes()),
         ["gen", family, count, seed] => generate(family, count, seed, None),
         ["gen", family, count, seed, directory] => generate(family, count, seed, Some(directory)),
-        ["store", count, seed] => print(&store::cases(number(count)?, number(seed)?)),
+        ["store", count, seed] => store(number(count)?, number(seed)?),
         ["self", rest @ ..] => self_check(rest),
-        ["compare", which @ ("tokens" | "read" | "write"), rest @ ..] => compare(&[which], rest),
-        ["compare", rest @ ..] => compare(&["tokens", "read", "write"], rest),
+        [
+            "compare",
+            which @ ("tokens" | "read" | "write" | "list"),
+            rest @ ..,
+        ] => compare(&[which], rest),
+        ["compare", rest @ ..] => compare(&["tokens", "read", "write", "list"], rest),
         _ => Err(USAGE.into()),
     }
 }
@@ -97,6 +101,21 @@ fn run(arguments: &[&str]) -> Result<bool, String> {
 fn print(bytes: &[u8]) -> Result<bool, String> {
     let written = io::stdout().write_all(bytes);
     written.map(|()| true).map_err(|e| e.to_string())
+}
+
+/// Stored answers to standard output and what they are to standard error; false if a kind is missing.
+fn store(count: u64, seed: u64) -> Result<bool, String> {
+    let stored = store::cases(count, seed);
+    match stored.report() {
+        Ok(report) => {
+            eprint!("{report}");
+            print(&stored.bytes())
+        }
+        Err(missing) => {
+            eprintln!("{missing}");
+            Ok(false)
+        }
+    }
 }
 
 fn read_file(name: &str) -> Result<Vec<u8>, String> {
@@ -179,28 +198,41 @@ fn family(name: &str) -> Result<Family, String> {
     Family::named(name).ok_or_else(|| format!("{name} is no family"))
 }
 
-/// Compares what is linked; what is not linked is said and is no failure.
+/// The list program: where `rt check` leaves it, or what the variable `PEVZONCS_LIST` names.
+fn list_program() -> Option<PathBuf> {
+    let program = std::env::var_os("PEVZONCS_LIST").map_or_else(
+        || Path::new(env!("CARGO_MANIFEST_DIR")).join("../target/bin/list"),
+        PathBuf::from,
+    );
+    program.is_file().then_some(program)
+}
+
+/// Compares what is linked or built; what is not there is said and is no failure.
 fn compare(which: &[&str], arguments: &[&str]) -> Result<bool, String> {
     let selection = selection(arguments)?;
     let mut same = true;
     for what in which {
-        let (library, result) = match *what {
+        let (missing, result) = match *what {
             "tokens" => (
-                "lexer",
+                "liblexer.a",
                 foreign::tokenize().map(|f| compare::compare_tokens(f, selection)),
             ),
             "read" => (
-                "reader",
+                "libreader.a",
                 foreign::read().map(|f| compare::compare_read(f, selection)),
             ),
-            _ => (
-                "writer",
+            "write" => (
+                "libwriter.a",
                 foreign::write().map(|f| compare::compare_write(f, selection)),
+            ),
+            _ => (
+                "list program",
+                list_program().map(|p| compare::compare_list(&p, selection)),
             ),
         };
         match result {
             Some(held) => same &= held,
-            None => println!("{what}: no lib{library}.a to link yet, nothing compared"),
+            None => println!("{what}: no {missing} yet, nothing compared"),
         }
     }
     Ok(same)

@@ -80,7 +80,7 @@ pub fn run(selection: Selection, fault: Option<Fault>) -> bool {
         run.family(family, count, seed);
     }
     let _ = panic::take_hook();
-    run.tally.print("texts");
+    print!("{}", run.tally.table("texts"));
     println!(
         "pairs: {} that agree, {} that differ; too large to expand: {}",
         run.agreeing_pairs, run.differing_pairs, run.too_large

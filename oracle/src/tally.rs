@@ -45,28 +45,39 @@ impl Tally {
         self.0.values().sum()
     }
 
-    /// A table with a line for each family and a column for each kind; `what` is counted.
-    pub fn print(&self, what: &str) {
-        let kinds: BTreeSet<&str> = self.0.keys().map(|&(_, kind)| kind).collect();
-        let kinds: Vec<&str> = kinds.into_iter().collect();
-        println!("| family | {what} | {} |", kinds.join(" | "));
-        println!("|---|---|{}", "---|".repeat(kinds.len()));
-        for family in Family::ALL.map(Family::name) {
-            self.print_row(family, &kinds, |name| name == family);
-        }
-        self.print_row("all", &kinds, |_| true);
+    /// Whether there was any of a kind.
+    pub fn has(&self, kind: &str) -> bool {
+        self.0.keys().any(|&(_, k)| k == kind)
     }
 
-    fn print_row(&self, title: &str, kinds: &[&str], family: impl Fn(&str) -> bool) {
+    /// Whether there was any of a family.
+    pub fn has_family(&self, family: Family) -> bool {
+        self.0.keys().any(|&(f, _)| f == family.name())
+    }
+
+    /// A table with a line for each family and a column for each kind; `what` is counted.
+    pub fn table(&self, what: &str) -> String {
+        let kinds: BTreeSet<&str> = self.0.keys().map(|&(_, kind)| kind).collect();
+        let kinds: Vec<&str> = kinds.into_iter().collect();
+        let mut lines = format!("| family | {what} | {} |\n", kinds.join(" | "));
+        lines.push_str(&format!("|---|---|{}\n", "---|".repeat(kinds.len())));
+        for family in Family::ALL.map(Family::name) {
+            lines.push_str(&self.row(family, &kinds, |name| name == family));
+        }
+        lines + &self.row("all", &kinds, |_| true)
+    }
+
+    fn row(&self, title: &str, kinds: &[&str], family: impl Fn(&str) -> bool) -> String {
         let count = |kind: &str| -> u64 {
             let matching = self.0.iter().filter(|((f, k), _)| family(f) && *k == kind);
             matching.map(|(_, count)| count).sum()
         };
         let counts: Vec<u64> = kinds.iter().map(|kind| count(kind)).collect();
         let total: u64 = counts.iter().sum();
-        if total > 0 {
-            let cells: Vec<String> = counts.iter().map(u64::to_string).collect();
-            println!("| {title} | {total} | {} |", cells.join(" | "));
+        if total == 0 {
+            return String::new();
         }
+        let cells: Vec<String> = counts.iter().map(u64::to_string).collect();
+        format!("| {title} | {total} | {} |\n", cells.join(" | "))
     }
 }

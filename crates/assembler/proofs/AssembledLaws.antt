@@ -58,7 +58,7 @@ length-entered-from ps i [] = refl
 length-entered-from (p ∷ ps) i (t ∷ ts) = ap suc (length-entered-from ps (suc i) ts)
 length-entered-from [] i (t ∷ ts) = ap suc (length-entered-from _ (suc i) ts)
 
-length-entered : (ts : List Token) → length (entered ts) ≡ length ts
+pub length-entered : (ts : List Token) → length (entered ts) ≡ length ts
 unfolding entered
 length-entered ts = length-entered-from [] 0 ts
 
@@ -283,7 +283,7 @@ module _ (text : List ℕ) (few : length (entered (map tokenOf (tokens (decode t
   all-mean : AllMean (λ e k. RulesOf e k × NamesIn text (E text) e k) (E text) (entries (E text)) ls
   all-mean = entries-mean text (tokens (decode text)) (tokens-lexed text) (placed text)
 
-  row-mean : S.rowDiagnostics text (E text) ≡ recordsOf (A.diagnosticsOf (readLines (decode text)))
+  pub row-mean : S.rowDiagnostics text (E text) ≡ recordsOf (A.diagnosticsOf (readLines (decode text)))
   unfolding S.rowDiagnostics A.diagnosticsOf readLines
   row-mean =
       let a = line-errors-mean (λ e k. RulesOf e k × NamesIn text (E text) e k) (E text) (entries (E text)) ls all-mean in

@@ -214,7 +214,7 @@ module _ (text : List ℕ) (E : List Token) (i : ℕ) (t : Lexed Place) (l′ : 
   abbrev pub b : ℕ
   b = behind i (peek L 0)
 
-  abbrev R : List Token
+  abbrev pub R : List Token
   R = enteredFrom [] (i + suc b) (drop (suc b) L)
 
   pub parsed : LineAt l W 0
@@ -227,17 +227,20 @@ module _ (text : List ℕ) (E : List Token) (i : ℕ) (t : Lexed Place) (l′ : 
   pub short : suc b ≤ length l
   short = omega (arith, ends, parsed .within)
 
-  size-L : length L ≡ length l
+  pub size-L : length L ≡ length l
   size-L = enter-length i W ∙ length-map l tokenOf
 
-  split : drop i E ≡ take (suc b) L ++ R
+  pub split : drop i E ≡ take (suc b) L ++ R
   split = row ∙ entered-one i (tokenOf t) (map tokenOf l′)
 
-  size-line : length (take (suc b) L) ≡ suc b
+  pub size-line : length (take (suc b) L) ≡ suc b
   size-line = length-take-le (suc b) L (omega (arith, short, size-L))
 
-  pub low : i < length E
-  low = omega (arith, length-drop i E, ap length split, length-append (take (suc b) L) R, size-line)
+  pub fits : i + suc b ≤ length E
+  fits = omega (arith, length-drop i E, ap length split, length-append (take (suc b) L) R, size-line)
+
+  pub below : i < length E
+  below = omega (arith, fits)
 
   pub row-at : (r : ℕ) → r ≤ b → peek E (i + r) ≡ peek L r
   row-at r h =
@@ -246,12 +249,12 @@ module _ (text : List ℕ) (E : List Token) (i : ℕ) (t : Lexed Place) (l′ : 
   pub first-is : peek E i ≡ peek L 0
   first-is = let z : i + 0 ≡ i = omega arith in ap (peek E) (sym z) ∙ row-at 0 (omega arith)
 
-  rest-is : drop (suc i) E ≡ take b (drop 1 L) ++ R
+  pub rest-is : drop (suc i) E ≡ take b (drop 1 L) ++ R
   rest-is =
       let z : i + 1 ≡ suc i = omega arith in
       ap (λ (k : ℕ). drop k E) (sym z) ∙ sym (drop-drop 1 i E) ∙ ap (drop 1) split ∙ tail-of b L R (omega (arith, size-L))
 
-  rest-at : (r : ℕ) → suc r ≤ b → peek (drop (suc i) E) r ≡ peek L (suc r)
+  pub rest-at : (r : ℕ) → suc r ≤ b → peek (drop (suc i) E) r ≡ peek L (suc r)
   rest-at r h = let z : suc i + r ≡ i + suc r = omega arith in getD-drop (suc i) E r ended ∙ ap (peek E) z ∙ row-at (suc r) h
 
   -- the next line
@@ -273,7 +276,7 @@ module _ (text : List ℕ) (E : List Token) (i : ℕ) (t : Lexed Place) (l′ : 
   pub sound : AllSound l
   sound = lexed-sound l lexed
 
-  abbrev entry : Entry
+  abbrev pub entry : Entry
   entry = entryAt E i
 
   -- ---- an item
@@ -296,43 +299,43 @@ module _ (text : List ℕ) (E : List Token) (i : ℕ) (t : Lexed Place) (l′ : 
 
     -- of a declaration only the first token changes
     module _ (plain : itemNumber (x .kind) ≡ 11 → ⊥) where
-      plain-L : L ≡ itemEntry i x ∷ map tokenOf l′
+      pub plain-L : L ≡ itemEntry i x ∷ map tokenOf l′
       plain-L = L-is ∙ parts-other (x .kind) i (x .parts) (itemEntry i x ∷ map tokenOf l′) plain
 
-      plain-at : (r : ℕ) → suc r ≤ b → peek (drop (suc i) E) r ≡ tokenOf (at l (suc r))
+      pub plain-at : (r : ℕ) → suc r ≤ b → peek (drop (suc i) E) r ≡ tokenOf (at l (suc r))
       plain-at r h = rest-at r h ∙ ap (λ (y : List Token). peek y (suc r)) plain-L ∙ peek-map l′ r
 
       -- the tokens behind the entry, up to the line feed at b
       module _ (n : ℕ) (more : b ≡ suc n) where
-        abbrev body : Tokens
+        abbrev pub body : Tokens
         body = take n l′
 
-        plain-rest : drop (suc i) E ≡ map tokenOf body ++ (tokenOf (at l b) ∷ R)
+        pub plain-rest : drop (suc i) E ≡ map tokenOf body ++ (tokenOf (at l b) ∷ R)
         plain-rest =
             let k : n < length l′ = omega (arith, short, more) in
             rest-is ∙ ap (λ (y : List Token). take b (drop 1 y) ++ R) plain-L ∙ ap (λ (m : ℕ). take m (map tokenOf l′) ++ R) more ∙ ap (λ (y : List Token). y ++ R) (take-map (suc n) l′)
             ∙ ap (λ (y : Tokens). map tokenOf y ++ R) (take-suc l′ n nothing k) ∙ ap (λ (y : List Token). y ++ R) (map-append (take n l′) (at l′ n ∷ []))
             ∙ append-assoc (map tokenOf (take n l′)) (tokenOf (at l′ n) ∷ []) R ∙ ap (λ (m : ℕ). map tokenOf (take n l′) ++ (tokenOf (at l m) ∷ R)) (sym more)
 
-        body-free : AllFree body
+        pub body-free : AllFree body
         body-free =
             let z : lineLength W ≡ suc n = sym (end-is W) ∙ sym ends ∙ more in
             subst (λ (m : ℕ). AllFree (take m l)) z (free-before l) .1
 
-        feed-kind : eqb (tokenOf (at l b) .kind) 13 ≡ true
+        pub feed-kind : eqb (tokenOf (at l b) .kind) 13 ≡ true
         feed-kind =
             let z : lineLength W ≡ b = sym (end-is W) ∙ sym ends in
             ap (λ (w : Token). eqb (w .kind) 13) (sym (peek-map l b)) ∙ ap (λ (m : ℕ). eqb (peek W m .kind) 13) (sym z) ∙ feed-there W (omega (arith, short, length-map l tokenOf))
 
-        names-found : AllNames text E (namesFrom (suc i) (drop (suc i) E)) (seen stateIn body)
+        pub names-found : AllNames text E (namesFrom (suc i) (drop (suc i) E)) (seen stateIn body)
         names-found =
             walk-mean text E body (suc i) (tokenOf (at l b)) R body-free (all-sound body (all-take Sound n l′ (sound-all l′ (sound .1)))) (all-take (Placed text) n l′ (placed .1)) feed-kind plain-rest
 
-      sound-at : (r : ℕ) → r < length l → Sound (at l r)
+      pub sound-at : (r : ℕ) → r < length l → Sound (at l r)
       sound-at r h = all-at Sound l r nothing (sound-all l sound) h
 
       -- behind the item nothing, or its comment, before the line feed
-      remark : (e : ℕ) → e ≡ x .end → seen stateIn (between l e b) ≡ []
+      pub remark : (e : ℕ) → e ≡ x .end → seen stateIn (between l e b) ≡ []
       unfolding newlineAt seen
       remark e q =
           by-test (eqb (peek W e .kind) 12)
@@ -345,7 +348,7 @@ module _ (text : List ℕ) (E : List Token) (i : ℕ) (t : Lexed Place) (l′ : 
           ap (λ (m : ℕ). seen stateIn (between l e m)) z ∙ ap (seen stateIn) (between-none l e))
 
       -- the names of a set
-      names-in : leadOf (x .kind) ≡ Equals → AllNames text E (namesFrom (suc i) (drop (suc i) E)) (seen stateIn (between l (x .value) (x .end)))
+      pub names-in : leadOf (x .kind) ≡ Equals → AllNames text E (namesFrom (suc i) (drop (suc i) E)) (seen stateIn (between l (x .value) (x .end)))
       names-in lead =
           let a = inside .assigned lead in
           let e : ℕ = x .end in
@@ -365,7 +368,7 @@ module _ (text : List ℕ) (E : List Token) (i : ℕ) (t : Lexed Place) (l′ : 
           subst (AllNames text E (namesFrom (suc i) (drop (suc i) E))) shown (names-found n more)
 
       -- the value of `tapes`
-      tapes-in : x .kind ≡ Tapes → TapesMean entry (located numberIn 0 (at l (x .value)))
+      pub tapes-in : x .kind ≡ Tapes → TapesMean entry (located numberIn 0 (at l (x .value)))
       unfolding leadOf
       tapes-in k =
           let a = inside .assigned (ap leadOf k) in
@@ -380,10 +383,10 @@ module _ (text : List ℕ) (E : List Token) (i : ℕ) (t : Lexed Place) (l′ : 
 
     -- of a rule the tokens behind δ and behind its state change too
     module _ (rule : x .kind ≡ Transition) where
-      abbrev q : Parts
+      abbrev pub q : Parts
       q = x .parts
 
-      abbrev base : List Token
+      abbrev pub base : List Token
       base = itemEntry i x ∷ map tokenOf l′
 
       pub rule-L : L ≡ set (set base 1 (countsOf q)) 3 (partsOf i q)
@@ -396,7 +399,7 @@ module _ (text : List ℕ) (E : List Token) (i : ℕ) (t : Lexed Place) (l′ : 
       pub rule-counted : Counted l x
       rule-counted = subst (λ (k : ItemKind). CountedAs l k x) rule counted
 
-      size-base : length base ≡ length l
+      pub size-base : length base ≡ length l
       size-base = ap suc (length-map l′ tokenOf)
 
       pub long : 3 < b
@@ -421,10 +424,10 @@ module _ (text : List ℕ) (E : List Token) (i : ℕ) (t : Lexed Place) (l′ : 
           behind-first r = let z : 4 + r ≡ suc (3 + r) = omega arith in ap (peek base) z ∙ ap (peek W) (sym z)
 
       -- what it reads
-      abbrev m : ℕ
+      abbrev pub m : ℕ
       m = q .to - 4
 
-      read-size : length (readPart entry) ≡ m
+      pub read-size : length (readPart entry) ≡ m
       unfolding readPart
       read-size =
           let e : length (drop i E) ≡ length E - i = length-drop i E in
@@ -462,7 +465,7 @@ module _ (text : List ℕ) (E : List Token) (i : ℕ) (t : Lexed Place) (l′ : 
           }
 
     -- ---- what the item's entry means
-    abbrev meant : Item Place
+    abbrev pub meant : Item Place
     meant = itemMeans l (x .kind) (x .value) (x .end) (x .parts)
 
     pub order-is : (k : ItemKind) → itemOrder (itemMeans l k (x .value) (x .end) (x .parts)) ≡ itemNumber k
@@ -480,10 +483,10 @@ module _ (text : List ℕ) (E : List Token) (i : ℕ) (t : Lexed Place) (l′ : 
     order-is Final = refl
     order-is Transition = refl
 
-    plain-kind : (k : ItemKind) → x .kind ≡ k → (itemNumber k ≡ 11 → ⊥) → itemNumber (x .kind) ≡ 11 → ⊥
+    pub plain-kind : (k : ItemKind) → x .kind ≡ k → (itemNumber k ≡ 11 → ⊥) → itemNumber (x .kind) ≡ 11 → ⊥
     plain-kind k e h z = h (ap itemNumber (sym e) ∙ z)
 
-    tapes-of : (k : ItemKind) → x .kind ≡ k → TapesOf entry (itemMeans l k (x .value) (x .end) (x .parts))
+    pub tapes-of : (k : ItemKind) → x .kind ≡ k → TapesOf entry (itemMeans l k (x .value) (x .end) (x .parts))
     unfolding itemMeans itemNumber
     tapes-of Machine e = tt
     tapes-of Kind e = tt
@@ -498,7 +501,7 @@ module _ (text : List ℕ) (E : List Token) (i : ℕ) (t : Lexed Place) (l′ : 
     tapes-of Final e = tt
     tapes-of Transition e = tt
 
-    names-of : (k : ItemKind) → x .kind ≡ k → NamesIn text E entry (itemMeans l k (x .value) (x .end) (x .parts))
+    pub names-of : (k : ItemKind) → x .kind ≡ k → NamesIn text E entry (itemMeans l k (x .value) (x .end) (x .parts))
     unfolding itemMeans itemNumber leadOf
     names-of Machine e = tt
     names-of Kind e = tt
@@ -513,7 +516,7 @@ module _ (text : List ℕ) (E : List Token) (i : ℕ) (t : Lexed Place) (l′ : 
     names-of Final e = names-in (plain-kind Final e (λ z. omega arith)) (ap leadOf e)
     names-of Transition e = tt
 
-    rules-of : (k : ItemKind) → x .kind ≡ k → RulesOf entry (itemMeans l k (x .value) (x .end) (x .parts))
+    pub rules-of : (k : ItemKind) → x .kind ≡ k → RulesOf entry (itemMeans l k (x .value) (x .end) (x .parts))
     unfolding itemMeans
     rules-of Machine e = tt
     rules-of Kind e = tt
@@ -528,67 +531,85 @@ module _ (text : List ℕ) (E : List Token) (i : ℕ) (t : Lexed Place) (l′ : 
     rules-of Final e = tt
     rules-of Transition e = rule-in e
 
-    item-means : ItemMeans (λ e k. RulesOf e k × NamesIn text E e k) entry meant (x .span)
+    pub asked : RulesOf entry meant × NamesIn text E entry meant
+    asked = (rules-of (x .kind) refl, names-of (x .kind) refl)
+
+    item-means : (X : Entry → Item Place → Type 0) → X entry meant → ItemMeans X entry meant (x .span)
     unfolding itemEntry
-    item-means = record {
+    item-means X more = record {
       kind = ap (λ (w : Token). w .kind) entry-is ∙ ap (λ (n : ℕ). 16 + n) (sym (order-is (x .kind)));
       place = ap placeOf entry-is;
       tapes = tapes-of (x .kind) refl;
-      more = (rules-of (x .kind) refl, names-of (x .kind) refl);
+      more = more;
     }
 
   -- ---- what the line's entry means
-  line-means : (y : Parsed) → line W 0 ≡ y → Means (λ e k. RulesOf e k × NamesIn text E e k) entry (lineMeans l y)
+  pub line-means : (X : Entry → Item Place → Type 0) → ((x : Found) → line W 0 ≡ Read x → X entry (itemMeans l (x .kind) (x .value) (x .end) (x .parts))) → (y : Parsed) → line W 0 ≡ y
+      → Means X entry (lineMeans l y)
   unfolding lineMeans enterLine enterAs failedEntry
-  line-means Empty e =
+  line-means X of Empty e =
       let h : eqb (peek W 0 .kind) 13 ≡ true = subst (LineIn W) e (line-in W) in
       let w : peek E i ≡ tokenOf t = first-is ∙ ap (λ (y : Parsed). peek (enterAs y i W) 0) e in
       omega (arith, ap (λ (w : Token). w .kind) w, eqb-true (tokenOf t .kind) 13 h)
-  line-means (Comment k) e =
+  line-means X of (Comment k) e =
       let h : (eqb (peek W 0 .kind) 12 ≡ true) × (eqb (peek W 1 .kind) 13 ≡ true) = subst (LineIn W) e (line-in W) in
       let w : peek E i ≡ tokenOf t = first-is ∙ ap (λ (y : Parsed). peek (enterAs y i W) 0) e in
       omega (arith, ap (λ (w : Token). w .kind) w, eqb-true (tokenOf t .kind) 12 (h .0))
-  line-means (Read x) e = item-means x e
-  line-means (Error c s) e =
+  line-means X of (Read x) e = item-means x e X (of x e)
+  line-means X of (Error c s) e =
       let w : peek E i ≡ failedEntry i c s (lineEnd W 0) = first-is ∙ ap (λ (y : Parsed). peek (enterAs y i W) 0) e in
       (ap (λ (w : Token). w .kind) w, ap placeOf w)
 
 -- ---- all lines
-nothing-left : (i : ℕ) → entriesFrom 0 i [] ≡ []
-unfolding entriesFrom
-nothing-left i = refl
+-- what P says of each line of the row from an index on, and of the index where it begins
+pub data Lines (P : ℕ → Line Place → Type 0) (ts : List Token) : ℕ → List (Line Place) → Type 0 where
+  lines-end : {i : ℕ} → i ≡ length ts → Lines P ts i []
+  lines-on : {i : ℕ} {l : Line Place} {ls : List (Line Place)} → i < length ts → P i l → Lines P ts (i + 1 + behind i (peek ts i)) ls → Lines P ts i (l ∷ ls)
 
-module _ (text : List ℕ) (E : List Token) where
-  abbrev Asked : Entry → Item Place → Type 0
-  Asked e k = RulesOf e k × NamesIn text E e k
+-- so its entries mean what P says
+pub lines-mean : (X : Entry → Item Place → Type 0) (P : ℕ → Line Place → Type 0) (ts : List Token) → ((i : ℕ) (l : Line Place) → P i l → Means X (entryAt ts i) l)
+    → (i : ℕ) (ls : List (Line Place)) → Lines P ts i ls → AllMean X ts (entriesAt ts i) ls
+lines-mean X P ts f i [] (lines-end h) = subst (λ (es : List Entry). AllMean X ts es []) (sym (entries-end ts i (omega arith))) no-lines
+lines-mean X P ts f i (l ∷ ls) (lines-on h p r) =
+    subst (λ (es : List Entry). AllMean X ts es (l ∷ ls)) (sym (entries-step ts i h)) (one-line h refl (f i l p) (lines-mean X P ts f (i + 1 + behind i (peek ts i)) ls r))
 
+module _ (text : List ℕ) (E : List Token) (P : ℕ → Line Place → Type 0)
+    (of : (i : ℕ) (t : Lexed Place) (l : Tokens) → AllLexed (t ∷ l) → All (Placed text) (t ∷ l) → drop i E ≡ enteredFrom [] i (map tokenOf (t ∷ l)) → P i (lineMeans (t ∷ l) (line (map tokenOf (t ∷ l)) 0))) where
   -- the lines of the tokens l, from the index i on, where there are no more than n tokens
-  abbrev Mean : ℕ → Type 0
-  Mean n = (i : ℕ) (l : Tokens) → length l ≤ n → AllLexed l → All (Placed text) l → drop i E ≡ enteredFrom [] i (map tokenOf l) → AllMean Asked E (entriesAt E i) (lines covering l)
+  abbrev From : ℕ → Type 0
+  From n = (i : ℕ) (l : Tokens) → length l ≤ n → AllLexed l → All (Placed text) l → i ≤ length E → drop i E ≡ enteredFrom [] i (map tokenOf l) → Lines P E i (lines covering l)
 
-  none-mean : (i : ℕ) → drop i E ≡ enteredFrom [] i [] → AllMean Asked E (entriesAt E i) (lines covering [])
+  none-from : (i : ℕ) → i ≤ length E → drop i E ≡ enteredFrom [] i [] → Lines P E i (lines covering [])
   unfolding lines rows enteredFrom
-  none-mean i d = subst (λ (es : List Entry). AllMean Asked E es []) (sym (ap (entriesFrom 0 i) d ∙ nothing-left i)) no-lines
+  none-from i h d = let e : i ≡ length E = omega (arith, length-drop i E, ap length d) in lines-end e
 
-  more-mean : (n : ℕ) → Mean n → Mean (suc n)
-  more-mean n ih i [] h a p d = none-mean i d
-  more-mean n ih i (t ∷ l) h a p d =
+  more-from : (n : ℕ) → From n → From (suc n)
+  more-from n ih i [] h a p low d = none-from i low d
+  more-from n ih i (t ∷ l) h a p low d =
       let k : ℕ = suc (b text E i t l a p d) in
       let few : length (drop k (t ∷ l)) ≤ n = omega (arith, length-drop k (t ∷ l)) in
-      let rest = ih (i + k) (drop k (t ∷ l)) few (lexed-drop k (t ∷ l) a) (all-drop (Placed text) k (t ∷ l) p) (next-row text E i t l a p d) in
-      let es : entriesAt E i ≡ entryAt E i ∷ entriesAt E (i + k) = entries-step E i (low text E i t l a p d) ∙ ap (λ (j : ℕ). entryAt E i ∷ entriesAt E j) (next-at text E i t l a p d) in
-      rw (es, next-lines text E i t l a p d) (one-line (low text E i t l a p d) refl (line-means text E i t l a p d (line (map tokenOf (t ∷ l)) 0) refl) rest)
+      let rest = ih (i + k) (drop k (t ∷ l)) few (lexed-drop k (t ∷ l) a) (all-drop (Placed text) k (t ∷ l) p) (fits text E i t l a p d) (next-row text E i t l a p d) in
+      rw (next-lines text E i t l a p d) (lines-on (below text E i t l a p d) (of i t l a p d) (subst (λ (j : ℕ). Lines P E j (lines covering (drop k (t ∷ l)))) (sym (next-at text E i t l a p d)) rest))
 
-  few-mean : (i : ℕ) (l : Tokens) → length l ≤ 0 → drop i E ≡ enteredFrom [] i (map tokenOf l) → AllMean Asked E (entriesAt E i) (lines covering l)
-  few-mean i [] h d = none-mean i d
-  few-mean i (t ∷ l) h d = absurd (omega arith)
+  few-from : (i : ℕ) (l : Tokens) → length l ≤ 0 → i ≤ length E → drop i E ≡ enteredFrom [] i (map tokenOf l) → Lines P E i (lines covering l)
+  few-from i [] h low d = none-from i low d
+  few-from i (t ∷ l) h low d = absurd (omega arith)
 
-  from-mean : (n : ℕ) → Mean n
-  from-mean zero = λ i l h a p d. few-mean i l h d
-  from-mean (suc n) = more-mean n (from-mean n)
+  pub lines-from : (n : ℕ) → From n
+  lines-from zero = λ i l h a p low d. few-from i l h low d
+  lines-from (suc n) = more-from n (lines-from n)
 
 -- the entries of the row of a text's tokens
-pub entries-mean : (text : List ℕ) (l : Tokens) → AllLexed l → All (Placed text) l
-    → AllMean (λ e k. RulesOf e k × NamesIn text (entered (map tokenOf l)) e k) (entered (map tokenOf l)) (entries (entered (map tokenOf l))) (lines covering l)
-unfolding entries entered
-entries-mean text l a p = from-mean text (enteredFrom [] 0 (map tokenOf l)) (length l) 0 l (omega arith) a p refl
+module _ (text : List ℕ) (l : Tokens) (a : AllLexed l) (p : All (Placed text) l) where
+  abbrev row-of : List Token
+  row-of = entered (map tokenOf l)
+
+  abbrev Asked : Entry → Item Place → Type 0
+  Asked e k = RulesOf e k × NamesIn text (entered (map tokenOf l)) e k
+
+  pub entries-mean : AllMean (λ e k. RulesOf e k × NamesIn text (entered (map tokenOf l)) e k) (entered (map tokenOf l)) (entries (entered (map tokenOf l))) (lines covering l)
+  unfolding entries entered
+  entries-mean =
+      lines-mean Asked (λ i y. Means Asked (entryAt row-of i) y) row-of (λ i y m. m) 0 (lines covering l)
+      (lines-from text row-of (λ i y. Means Asked (entryAt row-of i) y) (λ i t r a p d. line-means text row-of i t r a p d Asked (asked text row-of i t r a p d) (line (map tokenOf (t ∷ r)) 0) refl)
+      (length l) 0 l (omega arith) a p (omega arith) refl)

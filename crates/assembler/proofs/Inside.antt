@@ -38,20 +38,20 @@ use Rattle.parser.proofs.Rules.{side-steps, kind-steps, choice-steps, set-steps
 abbrev pub Free : List Token → ℕ → ℕ → Type 0
 Free ts i j = (k : ℕ) → i ≤ k → k < j → eqb (peek ts k .kind) 13 ≡ false
 
-free-one : (ts : List Token) (i : ℕ) → eqb (peek ts i .kind) 13 ≡ false → Free ts i (i + 1)
+pub free-one : (ts : List Token) (i : ℕ) → eqb (peek ts i .kind) 13 ≡ false → Free ts i (i + 1)
 free-one ts i e k a b = let z : k ≡ i = omega arith in ap (λ (k : ℕ). eqb (peek ts k .kind) 13) z ∙ e
 
-free-on : (ts : List Token) (i j k : ℕ) → Free ts i j → Free ts j k → Free ts i k
+pub free-on : (ts : List Token) (i j k : ℕ) → Free ts i j → Free ts j k → Free ts i k
 free-on ts i j k f g n a b = by-test (ltb n j) (λ y. f n a (ltb-true n j y)) (λ y. g n (ltb-false n j y) b)
 
 -- a test that no line feed passes
-abbrev Solid : (Token → Bool) → Type 0
+abbrev pub Solid : (Token → Bool) → Type 0
 Solid f = (t : Token) → f t ≡ true → eqb (t .kind) 13 ≡ false
 
 off : {X : Type 0} → false ≡ true → X
 off e = absurd (let z : _≡_ {A = ℕ} 0 1 = cc in omega arith)
 
-kind-solid : (t : Token) (n : ℕ) → n < 13 → eqb (t .kind) n ≡ true → eqb (t .kind) 13 ≡ false
+pub kind-solid : (t : Token) (n : ℕ) → n < 13 → eqb (t .kind) n ≡ true → eqb (t .kind) 13 ≡ false
 kind-solid t n h e = let z : t .kind ≡ n = eqb-true (t .kind) n e in ne-eqb (t .kind) 13 (omega arith)
 
 solid-kind : (n : ℕ) → n < 13 → Solid (isKind n)
@@ -62,11 +62,11 @@ solid-choice : (a b : ℕ) → Solid (isChoice a b)
 unfolding isChoice
 solid-choice a b t e = by-test (eqb (t .kind) 0) (λ y. kind-solid t 0 (omega arith) y) (λ n. off (rw n at e))
 
-solid-state : Solid isState
+pub solid-state : Solid isState
 unfolding isState
 solid-state t e = by-test (eqb (t .kind) 0) (λ y. kind-solid t 0 (omega arith) y) (λ n. off (rw n at e))
 
-solid-symbol : Solid isSymbol
+pub solid-symbol : Solid isSymbol
 unfolding isSymbol
 solid-symbol t e =
     by-test (eqb (t .kind) 0) (λ y. kind-solid t 0 (omega arith) y) λ n₀.
@@ -74,11 +74,11 @@ solid-symbol t e =
     by-test (eqb (t .kind) 2) (λ y. kind-solid t 2 (omega arith) y) λ n₂.
     by-test (eqb (t .kind) 11) (λ y. kind-solid t 11 (omega arith) y) λ n₃. off (rw (n₀, n₁, n₂, n₃) at e)
 
-solid-write : Solid isWrite
+pub solid-write : Solid isWrite
 unfolding isWrite
 solid-write t e = by-test (eqb (t .kind) 10) (λ y. kind-solid t 10 (omega arith) y) (λ n. solid-symbol t (rw n at e))
 
-solid-direction : Solid isDirection
+pub solid-direction : Solid isDirection
 unfolding isDirection
 solid-direction t e =
     by-test (eqb (t .kind) 0) (λ y. kind-solid t 0 (omega arith) y) λ n₀.
@@ -226,7 +226,7 @@ pub kind-done : (ts : List Token) (k i j n : ℕ) → one (isKind k) ts i ≡ Do
 unfolding isKind
 kind-done ts k i j n e = one-done (isKind k) ts i j n e
 
-side-done : (ts : List Token) (i j n : ℕ) → side ts i ≡ Done j n → (j ≡ i + 3) × (eqb (peek ts i .kind) 4 ≡ true)
+pub side-done : (ts : List Token) (i j n : ℕ) → side ts i ≡ Done j n → (j ≡ i + 3) × (eqb (peek ts i .kind) 4 ≡ true) × (isState (peek ts (i + 1)) ≡ true)
 unfolding side
 side-done ts i j n e =
     then-done (one (isKind 4) ts i) (λ j _. then (one isState ts j) λ k _. one (isKind 8) ts k) j n e λ a x p q.
@@ -234,7 +234,7 @@ side-done ts i j n e =
     let u = kind-done ts 4 i a x p in
     let v = one-done isState ts a b y r in
     let w = kind-done ts 8 b j n s in
-    (omega arith, u .1)
+    (omega arith, u .1, ap (λ (k : ℕ). isState (peek ts k)) (sym (u .0)) ∙ v .1)
 
 equals-done : (ts : List Token) (i j n : ℕ) → equals ts i ≡ Done j n → (j ≡ i + 2) × (eqb (peek ts i .kind) 5 ≡ true) × (eqb (peek ts (i + 1) .kind) 9 ≡ true)
 unfolding equals
@@ -265,10 +265,12 @@ pub record Reading (ts : List Token) (j n : ℕ) : Type 0 where
 -- the lists of a rule up to before the index j
 pub record Lists (ts : List Token) (j : ℕ) (q : Parts) : Type 0 where
   pub from : q .from ≡ 2
+  pub state : isState (peek ts 2) ≡ true
   pub side : ℕ
   pub reading : Reading ts side (q .reads)
   pub opens : eqb (peek ts side .kind) 4 ≡ true
   pub to : q .to ≡ side + 1
+  pub next : isState (peek ts (q .to)) ≡ true
   pub write : q .write ≡ side + 3
   pub writeStop : ℕ
   pub writing : tuple (one isWrite) ts (q .write) ≡ Done writeStop (q .writes)
@@ -296,6 +298,7 @@ pub record PartsIn (ts : List Token) (j : ℕ) (q : Parts) : Type 0 where
 
 record LeftIn (ts : List Token) (j : ℕ) (q : Parts) : Type 0 where
   from : q .from ≡ 2
+  state : isState (peek ts 2) ≡ true
   reading : Reading ts j (q .reads)
   long : 3 < j
   read : q .read ≡ 4
@@ -303,13 +306,13 @@ record LeftIn (ts : List Token) (j : ℕ) (q : Parts) : Type 0 where
   reads : q .reads ≤ length ts
   free : Free ts 0 j
 
-reads-steps : Steps (tuple readEntry)
+pub reads-steps : Steps (tuple readEntry)
 reads-steps = tuple-steps readEntry read-steps
 
-writes-steps : Steps (tuple (one isWrite))
+pub writes-steps : Steps (tuple (one isWrite))
 writes-steps = tuple-steps (one isWrite) write-steps
 
-dirs-steps : Steps (tuple direction)
+pub dirs-steps : Steps (tuple direction)
 dirs-steps = tuple-steps direction direction-steps
 
 reads-fair : Fairly (tuple readEntry)
@@ -344,8 +347,10 @@ left-gives ts =
     let e₁ : balanced false (between ts 4 (k + 1)) ≡ true = balanced-sign ts 4 k 5 (omega arith) (omega arith) (d₁ .1) (λ z. omega arith) (λ z. omega arith) e₀ in
     let e₂ : balanced false (between ts 4 (k + 1 + 1)) ≡ true = balanced-sign ts 4 (k + 1) 9 (omega arith) (omega arith) (d₁ .2) (λ z. omega arith) (λ z. omega arith) e₁ in
     let last : k + 1 + 1 ≡ end = omega arith in
+    let two : j + 1 ≡ 2 = omega arith in
     record {
-      from = omega arith;
+      from = two;
+      state = ap (λ (k : ℕ). isState (peek ts k)) (sym two) ∙ b₁ .2;
       reading = record { stop = k; list = ap (tuple readEntry ts) (sym four) ∙ c; closes = d₁ .1; equal = d₁ .2; end = omega arith };
       long = omega arith;
       read = four;
@@ -391,10 +396,12 @@ right-gives l ts i h =
       free = free-on ts 0 k end (free-on ts 0 dir k (free-on ts 0 j dir (free-on ts 0 write j (free-on ts 0 i write (h .free) (a₂ .1)) (b₂ .1)) (c₂ .1)) (d₂ .1)) (e₂ .1);
       lists = record {
         from = h .from;
+        state = h .state;
         side = i;
         reading = h .reading;
         opens = a₁ .1;
         to = refl;
+        next = a₁ .2;
         write = a₁ .0;
         writeStop = j;
         writing = b;
@@ -449,7 +456,7 @@ newline-in ts j h f =
     on-test (λ (n : ℕ). (n ≤ length ts) × Free ts 0 n) (eqb (peek ts j .kind) 12)
     (λ y. let g = inside (isKind 12) ts j refl y in (omega arith, free-on ts 0 j (j + 1) f (free-one ts j (kind-solid (peek ts j) 12 (omega arith) y)))) (λ _. (h, f))
 
-newline-high : (ts : List Token) (j : ℕ) → j ≤ newlineAt ts j
+pub newline-high : (ts : List Token) (j : ℕ) → j ≤ newlineAt ts j
 unfolding newlineAt
 newline-high ts j = on-test (λ (n : ℕ). j ≤ n) (eqb (peek ts j .kind) 12) (λ _. omega arith) (λ _. omega arith)
 

@@ -231,7 +231,7 @@ module _ (text : List ℕ) (count a b : ℕ) (w : List ℕ) (laid : Laid count a
       kept : Kept b w v
       kept = kept-set b (getD w (a + i) 0) m w v stored
 
-      marks-set : (old new : ℕ → ℕ) → ((x : ℕ) → x < length row → isWord (peek row x) ≡ true → getD w (b + getD w (a + x) 0) 0 ≡ old x)
+      pub marks-set : (old new : ℕ → ℕ) → ((x : ℕ) → x < length row → isWord (peek row x) ≡ true → getD w (b + getD w (a + x) 0) 0 ≡ old x)
           → ((x : ℕ) → partOf text (peek row i) ≡ partOf text (peek row x) → new x ≡ m) → ((x : ℕ) → sameName text (peek row i) (peek row x) ≡ false → new x ≡ old x)
           → (x : ℕ) → x < length row → isWord (peek row x) ≡ true → getD v (b + getD v (a + x) 0) 0 ≡ new x
       marks-set old new was equal other x h e =

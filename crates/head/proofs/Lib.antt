@@ -1,5 +1,4 @@
 pub mod HeadLaws
-pub mod Declared
 pub mod HeadMeans
 pub mod TokenSays
 pub mod ItemSays

@@ -24,7 +24,7 @@ use Rattle.sheet.specs.Stored.{Stored}
 use Rattle.sheet.specs.Comments.{spanWords}
 use Rattle.sheet.specs.Rules.{resolve}
 use Rattle.sheet.proofs.Writes.{stored-none, stored-as, stored-append, Writing, writing-start, writing-on, written}
-use Rattle.infer.specs.Codes.{noted, notedAll, held, Codes}
+use Rattle.infer.specs.Codes.{noted, notedAll, held, Codes, Room}
 use Rattle.infer.specs.Symbols.{range, blankOf, symbols, symbolsIn, isBlank, hasBlank, lineRange, rulesSymbols, codesOf}
 use Rattle.infer.specs.Alphabets.{listedWords, inferredWords, otherWords, lineCodes, candidates, gammaCodes, declaredGamma, gammaWords, inferredSigma, sigmaWords}
 use Rattle.infer.specs.Input.{inputOf}
@@ -181,11 +181,11 @@ module _ (b k : ℕ) (w : List ℕ) (o₀ : List ℕ) (n₀ : ℕ) (o : List ℕ
       (ap (flat inferredWords) (drop-of-length-le (held b k w) {i = i} (omega (arith, held-length b k w room))))
 
 -- ---- Γ's codes where it is not declared
-pub line-room : (b n blank : ℕ) (w : List ℕ) (ts : List Token) (f : ℕ) (t : Token) (to : ℕ) → t ≡ peek ts f → to ≡ t .value → b + n + length (lineCodes blank ts f) ≤ length w
-    → b + n + length (codesOf blank (symbols (range ts (f + 1) to))) ≤ length w
+pub line-room : (b n blank : ℕ) (w : List ℕ) (ts : List Token) (f : ℕ) (t : Token) (to : ℕ) → t ≡ peek ts f → to ≡ t .value → Room b n w (lineCodes blank ts f)
+    → Room b n w (codesOf blank (symbols (range ts (f + 1) to)))
 unfolding symbolsIn
 line-room b n blank w ts f t to e g h =
-    subst (λ (k : ℕ). b + n + length (codesOf blank (symbols (range ts (f + 1) k))) ≤ length w) (sym (g ∙ ap (λ (t : Token). t .value) e)) h
+    subst (λ (k : ℕ). Room b n w (codesOf blank (symbols (range ts (f + 1) k)))) (sym (g ∙ ap (λ (t : Token). t .value) e)) h
 
 pub line-noted : (b n blank : ℕ) (w : List ℕ) (ts : List Token) (f : ℕ) (t : Token) (to : ℕ) (w′ : List ℕ) (r : ℕ) → t ≡ peek ts f → to ≡ t .value
     → Codes b w (notedAll (held b n w) (codesOf blank (symbols (range ts (f + 1) to)))) w′ r → Codes b w (notedAll (held b n w) (lineCodes blank ts f)) w′ r
@@ -194,11 +194,11 @@ line-noted b n blank w ts f t to w′ r e g c =
     subst (λ (k : ℕ). Codes b w (notedAll (held b n w) (codesOf blank (symbols (range ts (f + 1) k)))) w′ r) (g ∙ ap (λ (t : Token). t .value) e) c
 
 -- two lists noted, one on top of the other; the second is read from the row again, which is as it was
-module _ (b n count : ℕ) (w : List ℕ) (few : 4 * count ≤ b) (all : List ℕ) (room : b + n + length all ≤ length w) (xs : List ℕ) (ys : List Token → List ℕ) (split : all ≡ xs ++ ys (rows count w)) where
+module _ (b n count : ℕ) (w : List ℕ) (few : 4 * count ≤ b) (all : List ℕ) (room : Room b n w all) (xs : List ℕ) (ys : List Token → List ℕ) (split : all ≡ xs ++ ys (rows count w)) where
   whole : Noting b (notedAll (held b n w) all) w w n (xs ++ ys (rows count w))
   whole = subst (λ (l : List ℕ). Noting b (notedAll (held b n w) all) w w n l) split (noting-start b w n all room)
 
-  pub two-room : b + n + length xs ≤ length w
+  pub two-room : Room b n w xs
   two-room = noting-room b (notedAll (held b n w) all) w w n xs (ys (rows count w)) whole
 
   module _ (w₁ : List ℕ) (n₁ : ℕ) (one : Codes b w (notedAll (held b n w) xs) w₁ n₁) where
@@ -211,7 +211,7 @@ module _ (b n count : ℕ) (w : List ℕ) (few : 4 * count ≤ b) (all : List �
     last : Noting b (notedAll (held b n w) all) w w₁ n₁ (ys (rows count w₁) ++ [])
     last = subst (λ (l : List ℕ). Noting b (notedAll (held b n w) all) w w₁ n₁ l) (sym (append-nil (ys (rows count w₁)) ∙ again)) then
 
-    pub two-room-2 : b + n₁ + length (ys (rows count w₁)) ≤ length w₁
+    pub two-room-2 : Room b n₁ w₁ (ys (rows count w₁))
     two-room-2 = noting-room b (notedAll (held b n w) all) w w₁ n₁ (ys (rows count w₁)) [] last
 
     pub two-noted : (w₂ : List ℕ) (n₂ : ℕ) → Codes b w₁ (notedAll (held b n₁ w₁) (ys (rows count w₁))) w₂ n₂ → Codes b w (notedAll (held b n w) all) w₂ n₂
@@ -230,27 +230,31 @@ module _ (text : List ℕ) (blank : ℕ) (ts : List Token) (first : List ℕ) (c
   candidates-not d e h = rw (test false (le-ltb s count h), ← e)
 
 -- the blank first
-module _ (text : List ℕ) (b blank count : ℕ) (w first : List ℕ) (few : 4 * count ≤ b) (room : b + 1 + length (candidates text blank (rows count w) first) ≤ length w) where
-  pub gamma-head : b + 0 < length w
-  gamma-head = omega arith
+module _ (text : List ℕ) (b blank count : ℕ) (w first : List ℕ) (few : 4 * count ≤ b) (room : Room b 0 w (blank ∷ candidates text blank (rows count w) first)) where
+  gamma-target : notedAll (held b 0 w) (blank ∷ candidates text blank (rows count w) first) ≡ gammaCodes text blank (rows count w) first
+  unfolding notedAll noted member gammaCodes
+  gamma-target = refl
+
+  gamma-all : Noting b (gammaCodes text blank (rows count w) first) w w 0 ((blank ∷ []) ++ candidates text blank (rows count w) first)
+  gamma-all = subst (λ (l : List ℕ). Noting b l w w 0 (blank ∷ candidates text blank (rows count w) first)) gamma-target (noting-start b w 0 (blank ∷ candidates text blank (rows count w) first) room)
+
+  pub gamma-head : Room b 0 w (blank ∷ [])
+  gamma-head = noting-room b (gammaCodes text blank (rows count w) first) w w 0 (blank ∷ []) (candidates text blank (rows count w) first) gamma-all
 
   module _ (w₁ : List ℕ) (n₁ : ℕ) (one : Codes b w (noted (held b 0 w) blank) w₁ n₁) where
-    gamma-rows : rows count w₁ ≡ rows count w
-    gamma-rows = kept-rows count b w w₁ (one .kept) few (omega arith)
+    then-noting : Noting b (gammaCodes text blank (rows count w) first) w w₁ n₁ (candidates text blank (rows count w) first)
+    unfolding notedAll
+    then-noting = noting-on b (gammaCodes text blank (rows count w) first) w w 0 (blank ∷ []) (candidates text blank (rows count w) first) w₁ n₁ gamma-all one
 
-    single : noted (held b 0 w) blank ≡ blank ∷ []
-    unfolding noted member
-    single = refl
+    gamma-last : Noting b (gammaCodes text blank (rows count w) first) w w₁ n₁ (candidates text blank (rows count w₁) first ++ [])
+    gamma-last = subst (λ (l : List ℕ). Noting b (gammaCodes text blank (rows count w) first) w w₁ n₁ l)
+        (sym (append-nil (candidates text blank (rows count w₁) first) ∙ ap (λ (ts : List Token). candidates text blank ts first) (noting-rows b count (gammaCodes text blank (rows count w) first) w w₁ n₁ (candidates text blank (rows count w) first) then-noting few))) then-noting
 
-    pub gamma-room : b + n₁ + length (candidates text blank (rows count w₁) first) ≤ length w₁
-    gamma-room = omega (arith, one .count, ap length single, ap (λ (ts : List Token). length (candidates text blank ts first)) gamma-rows, one .kept .size)
+    pub gamma-room : Room b n₁ w₁ (candidates text blank (rows count w₁) first)
+    gamma-room = noting-room b (gammaCodes text blank (rows count w) first) w w₁ n₁ (candidates text blank (rows count w₁) first) [] gamma-last
 
     pub gamma-noted : (w₂ : List ℕ) (n₂ : ℕ) → Codes b w₁ (notedAll (held b n₁ w₁) (candidates text blank (rows count w₁) first)) w₂ n₂ → Codes b w (gammaCodes text blank (rows count w) first) w₂ n₂
-    unfolding gammaCodes
-    gamma-noted w₂ n₂ c =
-        let e : notedAll (held b n₁ w₁) (candidates text blank (rows count w₁) first) ≡ notedAll (blank ∷ []) (candidates text blank (rows count w) first)
-        = ap (λ (l : List ℕ). notedAll l (candidates text blank (rows count w₁) first)) (one .codes ∙ single) ∙ ap (λ (ts : List Token). notedAll (blank ∷ []) (candidates text blank ts first)) gamma-rows in
-        record { kept = kept-on b w w₁ w₂ (one .kept) (c .kept); codes = c .codes ∙ e; count = c .count ∙ ap length e }
+    gamma-noted w₂ n₂ c = noting-end b (gammaCodes text blank (rows count w) first) w w₂ n₂ (noting-on b (gammaCodes text blank (rows count w) first) w w₁ n₁ (candidates text blank (rows count w₁) first) [] w₂ n₂ gamma-last c)
 
 -- ---- Γ and Σ in the sheet
 flat-width : (f : Token → List ℕ) → ((t : Token) → length (f t) ≤ 3) → (ts : List Token) → length (flat f (symbols ts)) ≤ 3 * length ts

@@ -13,7 +13,7 @@ use Rattle.tokens.specs.declared.Token.{Token}
 use Rattle.assembler.specs.Rows.{rows}
 use Rattle.language.specs.Infer.{member}
 use Rattle.infer.specs.Page.{Kept}
-use Rattle.infer.specs.Codes.{noted, notedAll, held, Codes}
+use Rattle.infer.specs.Codes.{noted, notedAll, held, Codes, Room}
 use Rattle.infer.proofs.Pages.{kept-refl, kept-on, kept-set, kept-rows}
 
 -- ---- the codes in a row
@@ -41,66 +41,78 @@ module _ (b n c : ℕ) (w : List ℕ) (i : ℕ) (inv : member eqb (drop i (held 
   contains-none h = sym (ap (λ (l : List ℕ). member eqb l c) (drop-of-length-le (held b n w) {i = i} (omega (arith, held-length b n w room)))) ∙ inv
 
 -- ---- one code more
-module _ (b n c : ℕ) (w : List ℕ) (t : Bool) (room : b + n < length w) (test : t ≡ member eqb (held b n w) c) where
+module _ (b n c : ℕ) (w : List ℕ) (t : Bool) (room : Room b n w (c ∷ [])) (test : t ≡ member eqb (held b n w) c) where
+  pub room-new : t ≡ false → b + n < length w
+  unfolding noted notedAll
+  room-new e =
+      let q : noted (held b n w) c ≡ held b n w ++ c ∷ [] = rw (← test, e) in
+      omega (arith, room .fits, ap length q, length-append (held b n w) (c ∷ []), held-length b n w (room .low))
+
   pub note-there : t ≡ true → Codes b w (noted (held b n w) c) w n
   unfolding noted
   note-there e =
       let q : held b n w ≡ noted (held b n w) c = rw (← test, e) in
-      record { kept = kept-refl b w; codes = q; count = sym (held-length b n w (omega arith)) ∙ ap length q }
+      record { kept = kept-refl b w; codes = q; count = sym (held-length b n w (room .low)) ∙ ap length q }
 
   pub note-new : t ≡ false → Codes b w (noted (held b n w) c) (set w (b + n) c) (n + 1)
   unfolding noted
   note-new e =
-      let more : held b (n + 1) (set w (b + n) c) ≡ held b n w ++ c ∷ [] = ap (λ (k : ℕ). take k (drop b (set w (b + n) c))) (add-one n) ∙ ap (take (suc n)) (drop-set-add b w n c) ∙ take-suc-set (drop b w) n c (omega (arith, length-drop b w)) in
+      let more : held b (n + 1) (set w (b + n) c) ≡ held b n w ++ c ∷ [] = ap (λ (k : ℕ). take k (drop b (set w (b + n) c))) (add-one n) ∙ ap (take (suc n)) (drop-set-add b w n c) ∙ take-suc-set (drop b w) n c (omega (arith, length-drop b w, room-new e)) in
       let q : held b (n + 1) (set w (b + n) c) ≡ noted (held b n w) c = more ∙ rw (← test, e) in
-      record { kept = kept-set b w (b + n) c (omega arith); codes = q; count = omega (arith, ap length (sym q ∙ more), length-append (held b n w) (c ∷ []), held-length b n w (omega arith)) }
+      record { kept = kept-set b w (b + n) c (omega arith); codes = q; count = omega (arith, ap length (sym q ∙ more), length-append (held b n w) (c ∷ []), held-length b n w (room .low)) }
 
 -- ---- many codes
-noted-few : (cs : List ℕ) (c : ℕ) → length (noted cs c) ≤ length cs + 1
-unfolding noted
-noted-few cs c = go (member eqb cs c)
-  where
-    go : (t : Bool) → length (cond t cs (cs ++ c ∷ [])) ≤ length cs + 1
-    go true = omega arith
-    go false = omega (arith, length-append cs (c ∷ []))
-
-noted-all-few : (cs xs : List ℕ) → length (notedAll cs xs) ≤ length cs + length xs
-unfolding notedAll
-noted-all-few cs [] = omega arith
-noted-all-few cs (x ∷ xs) = omega (arith, noted-few cs x, noted-all-few (noted cs x) xs)
-
 noted-append : (cs xs ys : List ℕ) → notedAll cs (xs ++ ys) ≡ notedAll (notedAll cs xs) ys
 unfolding notedAll
 noted-append cs [] ys = refl
 noted-append cs (x ∷ xs) ys = noted-append (noted cs x) xs ys
 
+-- nothing is taken away
+noted-more : (cs : List ℕ) (c : ℕ) → length cs ≤ length (noted cs c)
+unfolding noted
+noted-more cs c = go (member eqb cs c)
+  where
+    go : (t : Bool) → length cs ≤ length (cond t cs (cs ++ c ∷ []))
+    go true = omega arith
+    go false = omega (arith, length-append cs (c ∷ []))
+
+noted-all-more : (cs xs : List ℕ) → length cs ≤ length (notedAll cs xs)
+unfolding notedAll
+noted-all-more cs [] = omega arith
+noted-all-more cs (x ∷ xs) = omega (arith, noted-more cs x, noted-all-more (noted cs x) xs)
+
 -- what is left to note, on top of the n codes that w holds, gives the target, and there is room for it
 pub record Noting (b : ℕ) (target : List ℕ) (w₀ w : List ℕ) (n : ℕ) (left : List ℕ) : Type 0 where
   pub whole : notedAll (held b n w) left ≡ target
   pub kept : Kept b w₀ w
-  pub room : b + n + length left ≤ length w₀
+  pub low : b + n ≤ length w₀
+  pub fits : b + length target ≤ length w₀
 
-pub noting-start : (b : ℕ) (w : List ℕ) (n : ℕ) (xs : List ℕ) → b + n + length xs ≤ length w → Noting b (notedAll (held b n w) xs) w w n xs
-noting-start b w n xs h = record { whole = refl; kept = kept-refl b w; room = h }
+pub noting-start : (b : ℕ) (w : List ℕ) (n : ℕ) (xs : List ℕ) → Room b n w xs → Noting b (notedAll (held b n w) xs) w w n xs
+noting-start b w n xs h = record { whole = refl; kept = kept-refl b w; low = h .low; fits = h .fits }
 
 module _ (b : ℕ) (target : List ℕ) (w₀ w : List ℕ) (n : ℕ) where
-  pub noting-room : (xs ys : List ℕ) → Noting b target w₀ w n (xs ++ ys) → b + n + length xs ≤ length w
-  noting-room xs ys g = omega (arith, g .room, g .kept .size, length-append xs ys)
+  pub noting-room : (xs ys : List ℕ) → Noting b target w₀ w n (xs ++ ys) → Room b n w xs
+  noting-room xs ys g = record {
+    low = omega (arith, g .low, g .kept .size);
+    fits = omega (arith, g .fits, g .kept .size, ap length (sym (noted-append (held b n w) xs ys) ∙ g .whole), noted-all-more (notedAll (held b n w) xs) ys);
+  }
 
   pub noting-on : (xs ys w′ : List ℕ) (n′ : ℕ) → Noting b target w₀ w n (xs ++ ys) → Codes b w (notedAll (held b n w) xs) w′ n′ → Noting b target w₀ w′ n′ ys
   noting-on xs ys w′ n′ g c = record {
     whole = ap (λ (l : List ℕ). notedAll l ys) (c .codes) ∙ sym (noted-append (held b n w) xs ys) ∙ g .whole;
     kept = kept-on b w₀ w w′ (g .kept) (c .kept);
-    room = omega (arith, g .room, c .count, length-append xs ys, noted-all-few (held b n w) xs, held-length b n w (omega (arith, g .room, g .kept .size)));
+    low = omega (arith, c .count, noting-room xs ys g .fits, g .kept .size);
+    fits = g .fits;
   }
 
   pub noting-end : Noting b target w₀ w n [] → Codes b w₀ target w n
   unfolding notedAll
-  noting-end g = record { kept = g .kept; codes = g .whole; count = sym (held-length b n w (omega (arith, g .room, g .kept .size))) ∙ ap length (g .whole) }
+  noting-end g = record { kept = g .kept; codes = g .whole; count = sym (held-length b n w (omega (arith, g .low, g .kept .size))) ∙ ap length (g .whole) }
 
 -- the tokens below the row are as they were
 pub noting-rows : (b count : ℕ) (target w₀ w : List ℕ) (n : ℕ) (left : List ℕ) → Noting b target w₀ w n left → 4 * count ≤ b → rows count w ≡ rows count w₀
-noting-rows b count target w₀ w n left g h = kept-rows count b w₀ w (g .kept) h (omega (arith, g .room))
+noting-rows b count target w₀ w n left g h = kept-rows count b w₀ w (g .kept) h (omega (arith, g .low))
 
 -- a part of a list is noted where the list is
 pub noted-one : (b : ℕ) (w : List ℕ) (n : ℕ) (c : ℕ) (v : List ℕ) (m : ℕ) → Codes b w (noted (held b n w) c) v m → Codes b w (notedAll (held b n w) (c ∷ [])) v m

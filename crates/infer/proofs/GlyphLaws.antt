@@ -19,7 +19,7 @@ use Rattle.assembler.specs.Rows.{rows}
 use Rattle.assembler.specs.Entries.{Entry, entryAt, behind, entries}
 use Rattle.assembler.proofs.Rows.{length-rows, entriesAt, entries-step, entries-end}
 use Rattle.sheet.specs.Rules.{resolve}
-use Rattle.infer.specs.Codes.{noted, notedAll, held, Codes}
+use Rattle.infer.specs.Codes.{noted, notedAll, held, Codes, Room}
 use Rattle.infer.specs.Symbols.{range, symbols, takes, walked, firsts, outside, others, further, ruleSymbols, rulesSymbols, codesOf}
 use Rattle.infer.proofs.CodeLaws.{Noting, noting-start, noting-room, noting-on, noting-end, noting-rows, noted-none}
 
@@ -66,15 +66,15 @@ pub met-now : (seen : Bool) (t : Token) (r : Bool) → seen ≡ false → r ≡ 
 met-now seen t r e f = rw e f
 
 module _ (b n blank : ℕ) (w : List ℕ) (t : Token) (ts : List Token) (is : ts ≡ t ∷ []) where
-  pub one-room : b + n + length (codesOf blank ts) ≤ length w → b + n < length w
-  one-room h = omega (arith, ap (λ (l : List Token). length (codesOf blank l)) is)
+  pub one-room : (c : ℕ) → c ≡ resolve blank t → Room b n w (codesOf blank ts) → Room b n w (c ∷ [])
+  one-room c e h = subst (λ (l : List ℕ). Room b n w l) (ap (codesOf blank) is ∙ ap (λ (c : ℕ). c ∷ []) (sym e)) h
 
   pub one-noted : (c : ℕ) (w′ : List ℕ) (r : ℕ) → c ≡ resolve blank t → Codes b w (noted (held b n w) c) w′ r → Codes b w (notedAll (held b n w) (codesOf blank ts)) w′ r
   unfolding notedAll
   one-noted c w′ r e h = subst (λ (l : List ℕ). Codes b w (notedAll (held b n w) l) w′ r) (ap (λ (c : ℕ). c ∷ []) e ∙ sym (ap (codesOf blank) is)) h
 
-pub none-noted : (b n blank : ℕ) (w : List ℕ) (ts : List Token) → ts ≡ [] → b + n + length (codesOf blank ts) ≤ length w → Codes b w (notedAll (held b n w) (codesOf blank ts)) w n
-none-noted b n blank w ts e h = subst (λ (l : List Token). Codes b w (notedAll (held b n w) (codesOf blank l)) w n) (sym e) (noted-none b w n (omega (arith, ap (λ (l : List Token). length (codesOf blank l)) e)))
+pub none-noted : (b n blank : ℕ) (w : List ℕ) (ts : List Token) → ts ≡ [] → Room b n w (codesOf blank ts) → Codes b w (notedAll (held b n w) (codesOf blank ts)) w n
+none-noted b n blank w ts e h = subst (λ (l : List Token). Codes b w (notedAll (held b n w) (codesOf blank l)) w n) (sym e) (noted-none b w n (h .low))
 
 pub is-symbol : (t : Token) (r : Bool) → r ≡ isSymbol t → r ≡ true → symbols (t ∷ []) ≡ t ∷ []
 is-symbol t r e f = symbols-one t (sym e ∙ f)
@@ -155,7 +155,7 @@ module _ (b count blank : ℕ) (target w₀ w : List ℕ) (n i to : ℕ) (few : 
           (ap (codesOf blank) (symbols-on (rows count w₀) i to low ∙ ap (λ (t : Token). symbols (t ∷ []) ++ symbols (range (rows count w₀) (i + 1) to)) at₀)
           ∙ codes-append blank (symbols (t ∷ [])) (symbols (range (rows count w₀) (i + 1) to))) g
 
-      pub range-room : b + n + length (codesOf blank (symbols (t ∷ []))) ≤ length w
+      pub range-room : Room b n w (codesOf blank (symbols (t ∷ [])))
       range-room = noting-room b target w₀ w n (codesOf blank (symbols (t ∷ []))) (codesOf blank (symbols (range (rows count w₀) (i + 1) to))) split
 
       pub range-next : (w′ : List ℕ) (n′ : ℕ) → Codes b w (notedAll (held b n w) (codesOf blank (symbols (t ∷ [])))) w′ n′ → Noting b target w₀ w′ n′ (codesOf blank (symbols (range (rows count w₀) (i + 1) to)))
@@ -182,7 +182,7 @@ module _ (b count blank : ℕ) (target w₀ w : List ℕ) (n i to : ℕ) (few : 
             (ap (codesOf blank) (firsts-on s (rows count w₀) i to low ∙ ap (λ (t : Token). cond (takes s t) (t ∷ []) [] ++ firsts (walked s t) (range (rows count w₀) (i + 1) to)) first-at₀)
             ∙ codes-append blank here later) g
 
-        pub first-room : b + n + length (codesOf blank (cond (takes s t) (t ∷ []) [])) ≤ length w
+        pub first-room : Room b n w (codesOf blank (cond (takes s t) (t ∷ []) []))
         first-room = noting-room b target w₀ w n (codesOf blank here) (codesOf blank later) first-split
 
         pub first-next : (w′ : List ℕ) (n′ : ℕ) (s′ : Walk) → Codes b w (notedAll (held b n w) (codesOf blank (cond (takes s t) (t ∷ []) []))) w′ n′ → s′ ≡ walked s t
@@ -191,14 +191,14 @@ module _ (b count blank : ℕ) (target w₀ w : List ℕ) (n i to : ℕ) (few : 
             (noting-on b target w₀ w n (codesOf blank here) (codesOf blank later) w′ n′ first-split c)
 
 -- ---- further members
-pub other-room : (b n blank : ℕ) (w : List ℕ) (seen : Bool) (l : List Token) → seen ≡ true → b + n + length (codesOf blank (cond seen l [])) ≤ length w → b + n + length (codesOf blank l) ≤ length w
-other-room b n blank w seen l e h = omega (arith, ap (λ (s : Bool). length (codesOf blank (cond s l []))) e)
+pub other-room : (b n blank : ℕ) (w : List ℕ) (seen : Bool) (l : List Token) → seen ≡ true → Room b n w (codesOf blank (cond seen l [])) → Room b n w (codesOf blank l)
+other-room b n blank w seen l e h = subst (λ (s : Bool). Room b n w (codesOf blank (cond s l []))) e h
 
 module _ (b n blank : ℕ) (w : List ℕ) (seen : Bool) (l : List Token) (w′ : List ℕ) (r : ℕ) where
   pub other-noted : seen ≡ true → Codes b w (notedAll (held b n w) (codesOf blank l)) w′ r → Codes b w (notedAll (held b n w) (codesOf blank (cond seen l []))) w′ r
   other-noted e c = rw e c
 
-pub other-none : (b n blank : ℕ) (w : List ℕ) (seen : Bool) (l : List Token) → seen ≡ false → b + n + length (codesOf blank (cond seen l [])) ≤ length w → Codes b w (notedAll (held b n w) (codesOf blank (cond seen l []))) w n
+pub other-none : (b n blank : ℕ) (w : List ℕ) (seen : Bool) (l : List Token) → seen ≡ false → Room b n w (codesOf blank (cond seen l [])) → Codes b w (notedAll (held b n w) (codesOf blank (cond seen l []))) w n
 other-none b n blank w seen l e h = none-noted b n blank w (cond seen l []) (rw e) h
 
 others-stop : (seen : Bool) (ts : List Token) (i j : ℕ) → i < j → peek ts i .kind ≡ 7 → others seen (range ts i j) ≡ []
@@ -251,7 +251,7 @@ module _ (b count blank : ℕ) (target w₀ w : List ℕ) (n i to : ℕ) (few : 
           ∙ ap (λ (t : Token). cond seen (symbols (t ∷ [])) [] ++ others (cond seen true (isSymbol t)) (range (rows count w₀) (i + 1) to)) others-at)
           ∙ codes-append blank this those) g
 
-      pub others-room : b + n + length (codesOf blank (cond seen (symbols (t ∷ [])) [])) ≤ length w
+      pub others-room : Room b n w (codesOf blank (cond seen (symbols (t ∷ [])) []))
       others-room = noting-room b target w₀ w n (codesOf blank this) (codesOf blank those) others-split
 
       pub others-next : (w′ : List ℕ) (n′ : ℕ) (seen′ : Bool) → Codes b w (notedAll (held b n w) (codesOf blank (cond seen (symbols (t ∷ [])) []))) w′ n′ → seen′ ≡ cond seen true (isSymbol t)
@@ -311,7 +311,7 @@ pub record Turning (b count blank : ℕ) (target w₀ w : List ℕ) (n from to i
   pub noting : Noting b target w₀ w n (codesOf blank (back (rows count w₀) from to (i - from)))
   pub low : i ≤ to
 
-pub turning-start : (b count blank : ℕ) (w : List ℕ) (n from to : ℕ) → b + n + length (codesOf blank (further (range (rows count w) from to))) ≤ length w
+pub turning-start : (b count blank : ℕ) (w : List ℕ) (n from to : ℕ) → Room b n w (codesOf blank (further (range (rows count w) from to)))
     → Turning b count blank (notedAll (held b n w) (codesOf blank (further (range (rows count w) from to)))) w w n from to to
 turning-start b count blank w n from to h = record {
   noting = subst (λ (l : List Token). Noting b (notedAll (held b n w) (codesOf blank (further (range (rows count w) from to)))) w w n (codesOf blank l)) (further-all (rows count w) from to)
@@ -343,7 +343,7 @@ module _ (b count blank : ℕ) (target w₀ w : List ℕ) (n from to i : ℕ) (f
         ∙ ap (λ (us : List Token). codesOf blank (setBehind us (peek us (i - 1)) (i - 1 + 1) to) ++ codesOf blank left) (sym same-rows)
         ∙ ap (λ (t : Token). codesOf blank (setBehind (rows count w) t (i - 1 + 1) to) ++ codesOf blank left) (sym at)) (g .noting)
 
-    pub turning-room : b + n + length (codesOf blank (cond (eqb (t .kind) 6) (others false (range (rows count w) (i - 1 + 1) to)) [])) ≤ length w
+    pub turning-room : Room b n w (codesOf blank (cond (eqb (t .kind) 6) (others false (range (rows count w) (i - 1 + 1) to)) []))
     turning-room = noting-room b target w₀ w n (codesOf blank (setBehind (rows count w) t (i - 1 + 1) to)) (codesOf blank left) turning-split
 
     pub turning-next : (w′ : List ℕ) (n′ : ℕ) → Codes b w (notedAll (held b n w) (codesOf blank (cond (eqb (t .kind) 6) (others false (range (rows count w) (i - 1 + 1) to)) []))) w′ n′
@@ -355,7 +355,7 @@ module _ (b count blank : ℕ) (target w₀ w : List ℕ) (n from to i : ℕ) (f
 
 -- ---- a rule: three parts, one on top of the other
 module _ (b count blank : ℕ) (w : List ℕ) (n e : ℕ) (few : 4 * count ≤ b) (t : Token) (at : t ≡ peek (rows count w) e)
-    (room : b + n + length (codesOf blank (ruleSymbols (rows count w) (entryAt (rows count w) e))) ≤ length w) where
+    (room : Room b n w (codesOf blank (ruleSymbols (rows count w) (entryAt (rows count w) e)))) where
   rule-kind : entryAt (rows count w) e .first .kind ≡ t .kind
   rule-kind = ap (λ (t : Token). t .kind) (sym at)
 
@@ -382,8 +382,8 @@ module _ (b count blank : ℕ) (w : List ℕ) (n e : ℕ) (few : 4 * count ≤ b
     at-first : Noting b goal w w n (codesOf blank (firsts outside reads) ++ (codesOf blank (symbols writes) ++ codesOf blank (further reads)))
     at-first = subst (λ (l : List ℕ). Noting b goal w w n l) rule-is (noting-start b w n (codesOf blank (ruleSymbols (rows count w) (entryAt (rows count w) e))) room)
 
-    pub rule-room : (to : ℕ) → to ≡ q .start → b + n + length (codesOf blank (firsts outside (range (rows count w) (e + 4) to))) ≤ length w
-    rule-room to f = subst (λ (k : ℕ). b + n + length (codesOf blank (firsts outside (range (rows count w) (e + 4) k))) ≤ length w) (sym f)
+    pub rule-room : (to : ℕ) → to ≡ q .start → Room b n w (codesOf blank (firsts outside (range (rows count w) (e + 4) to)))
+    rule-room to f = subst (λ (k : ℕ). Room b n w (codesOf blank (firsts outside (range (rows count w) (e + 4) k)))) (sym f)
         (noting-room b goal w w n (codesOf blank (firsts outside reads)) (codesOf blank (symbols writes) ++ codesOf blank (further reads)) at-first)
 
     module _ (to : ℕ) (ends : to ≡ q .start) (w₁ : List ℕ) (n₁ : ℕ) (one : Codes b w (notedAll (held b n w) (codesOf blank (firsts outside (range (rows count w) (e + 4) to)))) w₁ n₁) where
@@ -400,8 +400,8 @@ module _ (b count blank : ℕ) (w : List ℕ) (n e : ℕ) (few : 4 * count ≤ b
             ap (λ (ts : List Token). codesOf blank (symbols (range ts from till))) rows₁
             ∙ ap (λ (k : ℕ). codesOf blank (symbols (range (rows count w) k till))) begins ∙ ap (λ (k : ℕ). codesOf blank (symbols (range (rows count w) (q .end) k))) stops
 
-        pub rule-room-2 : b + n₁ + length (codesOf blank (symbols (range (rows count w₁) from till))) ≤ length w₁
-        rule-room-2 = subst (λ (l : List ℕ). b + n₁ + length l ≤ length w₁) (sym writes-are) (noting-room b goal w w₁ n₁ (codesOf blank (symbols writes)) (codesOf blank (further reads)) at-second)
+        pub rule-room-2 : Room b n₁ w₁ (codesOf blank (symbols (range (rows count w₁) from till)))
+        rule-room-2 = subst (λ (l : List ℕ). Room b n₁ w₁ l) (sym writes-are) (noting-room b goal w w₁ n₁ (codesOf blank (symbols writes)) (codesOf blank (further reads)) at-second)
 
         module _ (w₂ : List ℕ) (n₂ : ℕ) (two : Codes b w₁ (notedAll (held b n₁ w₁) (codesOf blank (symbols (range (rows count w₁) from till)))) w₂ n₂) where
           at-third : Noting b goal w w₂ n₂ (codesOf blank (further reads))
@@ -417,8 +417,8 @@ module _ (b count blank : ℕ) (w : List ℕ) (n e : ℕ) (few : 4 * count ≤ b
           last : Noting b goal w w₂ n₂ (codesOf blank (further reads) ++ [])
           last = subst (λ (l : List ℕ). Noting b goal w w₂ n₂ l) (sym (append-nil (codesOf blank (further reads)))) at-third
 
-          pub rule-room-3 : b + n₂ + length (codesOf blank (further (range (rows count w₂) (e + 4) to))) ≤ length w₂
-          rule-room-3 = subst (λ (l : List ℕ). b + n₂ + length l ≤ length w₂) (sym reads-are) (noting-room b goal w w₂ n₂ (codesOf blank (further reads)) [] last)
+          pub rule-room-3 : Room b n₂ w₂ (codesOf blank (further (range (rows count w₂) (e + 4) to)))
+          rule-room-3 = subst (λ (l : List ℕ). Room b n₂ w₂ l) (sym reads-are) (noting-room b goal w w₂ n₂ (codesOf blank (further reads)) [] last)
 
           pub rule-all : (w₃ : List ℕ) (n₃ : ℕ) → Codes b w₂ (notedAll (held b n₂ w₂) (codesOf blank (further (range (rows count w₂) (e + 4) to)))) w₃ n₃
               → Codes b w (notedAll (held b n w) (codesOf blank (ruleSymbols (rows count w) (entryAt (rows count w) e)))) w₃ n₃
@@ -429,14 +429,14 @@ module _ (b count blank : ℕ) (w : List ℕ) (n e : ℕ) (few : 4 * count ≤ b
 abbrev pub leftRules : ℕ → ℕ → List ℕ → ℕ → List ℕ
 leftRules count blank w i = codesOf blank (rulesSymbols (rows count w) (entriesAt (rows count w) i))
 
-pub rules-start : (b count blank : ℕ) (w : List ℕ) (n : ℕ) → b + n + length (codesOf blank (rulesSymbols (rows count w) (entries (rows count w)))) ≤ length w
+pub rules-start : (b count blank : ℕ) (w : List ℕ) (n : ℕ) → Room b n w (codesOf blank (rulesSymbols (rows count w) (entries (rows count w))))
     → Noting b (notedAll (held b n w) (codesOf blank (rulesSymbols (rows count w) (entries (rows count w))))) w w n (leftRules count blank w 0)
 unfolding entries
 rules-start b count blank w n h = noting-start b w n (codesOf blank (rulesSymbols (rows count w) (entries (rows count w)))) h
 
 module _ (b count blank : ℕ) (target w₀ w : List ℕ) (n i : ℕ) (few : 4 * count ≤ b) (g : Noting b target w₀ w n (leftRules count blank w₀ i)) where
   rules-long : length (rows count w₀) ≡ count
-  rules-long = length-rows count w₀ (omega (arith, g .room))
+  rules-long = length-rows count w₀ (omega (arith, g .low))
 
   pub rules-end : count ≤ i → Codes b w₀ target w n
   unfolding rulesSymbols
@@ -462,7 +462,7 @@ module _ (b count blank : ℕ) (target w₀ w : List ℕ) (n i : ℕ) (few : 4 *
         ∙ codes-append blank (ruleSymbols ts (entryAt ts i)) (rulesSymbols ts (entriesAt ts next))
         ∙ ap (λ (us : List Token). codesOf blank (ruleSymbols us (entryAt us i)) ++ leftRules count blank w₀ next) (sym rules-rows)) g
 
-    pub rules-room : b + n + length (codesOf blank (ruleSymbols (rows count w) (entryAt (rows count w) i))) ≤ length w
+    pub rules-room : Room b n w (codesOf blank (ruleSymbols (rows count w) (entryAt (rows count w) i)))
     rules-room = noting-room b target w₀ w n thisRule (leftRules count blank w₀ next) rules-split
 
     pub rules-next : (w′ : List ℕ) (n′ j : ℕ) → Codes b w (notedAll (held b n w) (codesOf blank (ruleSymbols (rows count w) (entryAt (rows count w) i)))) w′ n′ → j ≡ i + 1 + behind i t

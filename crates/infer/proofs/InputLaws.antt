@@ -16,7 +16,7 @@ use Rattle.tokens.specs.declared.Token.{Token}
 use Rattle.parser.specs.Row.{peek}
 use Rattle.assembler.specs.Rows.{rows}
 use Rattle.assembler.proofs.Rows.{length-rows}
-use Rattle.infer.specs.Codes.{noted, notedAll, held, Codes}
+use Rattle.infer.specs.Codes.{noted, notedAll, held, Codes, Room}
 use Rattle.infer.specs.Input.{endsAt, escapeCode, escapeOf, spelledAs, escapesNext, spelled, inputOf}
 use Rattle.infer.proofs.CodeLaws.{Noting, noting-start, noting-room, noting-on, noting-end, noted-none}
 
@@ -67,16 +67,16 @@ module _ (c : ℕ) where
         code-none h = rw (ne-eqb c 0x22 a, ne-eqb c 0x5C b, ne-eqb c 0x6E d, ne-eqb c 0x74 h)
 
 -- ---- lists of one or two characters noted
-module _ (b n : ℕ) (w xs : List ℕ) (room : b + n + length xs ≤ length w) where
+module _ (b n : ℕ) (w xs : List ℕ) (room : Room b n w xs) where
   pub noted-empty : xs ≡ [] → Codes b w (notedAll (held b n w) xs) w n
-  noted-empty e = subst (λ (l : List ℕ). Codes b w (notedAll (held b n w) l) w n) (sym e) (noted-none b w n (omega (arith, ap length e)))
+  noted-empty e = subst (λ (l : List ℕ). Codes b w (notedAll (held b n w) l) w n) (sym e) (noted-none b w n (room .low))
 
   module _ (x : ℕ) (ys : List ℕ) (is : xs ≡ x ∷ ys) where
-    pub head-room : b + n < length w
-    head-room = omega (arith, ap length is)
-
     started : Noting b (notedAll (held b n w) xs) w w n ((x ∷ []) ++ ys)
     started = subst (λ (l : List ℕ). Noting b (notedAll (held b n w) xs) w w n l) is (noting-start b w n xs room)
+
+    pub head-room : Room b n w (x ∷ [])
+    head-room = noting-room b (notedAll (held b n w) xs) w w n (x ∷ []) ys started
 
     module _ (w₁ : List ℕ) (n₁ : ℕ) (one : Codes b w (noted (held b n w) x) w₁ n₁) where
       behind : Noting b (notedAll (held b n w) xs) w w₁ n₁ ys
@@ -90,8 +90,8 @@ module _ (b n : ℕ) (w xs : List ℕ) (room : b + n + length xs ≤ length w) w
         then : Noting b (notedAll (held b n w) xs) w w₁ n₁ ((y ∷ []) ++ [])
         then = subst (λ (l : List ℕ). Noting b (notedAll (held b n w) xs) w w₁ n₁ l) two behind
 
-        pub second-room : b + n₁ < length w₁
-        second-room = omega (arith, noting-room b (notedAll (held b n w) xs) w w₁ n₁ (y ∷ []) [] then)
+        pub second-room : Room b n₁ w₁ (y ∷ [])
+        second-room = noting-room b (notedAll (held b n w) xs) w w₁ n₁ (y ∷ []) [] then
 
         pub noted-second : (w₂ : List ℕ) (n₂ : ℕ) → Codes b w₁ (noted (held b n₁ w₁) y) w₂ n₂ → Codes b w (notedAll (held b n w) xs) w₂ n₂
         unfolding notedAll
@@ -120,8 +120,8 @@ spelled-plain e c h g = rw (h, ne-eqb c 0x5C g)
 pub same-codes : (b n : ℕ) (w xs ys w′ : List ℕ) (r : ℕ) → xs ≡ ys → Codes b w (notedAll (held b n w) xs) w′ r → Codes b w (notedAll (held b n w) ys) w′ r
 same-codes b n w xs ys w′ r e c = subst (λ (l : List ℕ). Codes b w (notedAll (held b n w) l) w′ r) e c
 
-pub same-room : (b n : ℕ) (w xs ys : List ℕ) → ys ≡ xs → b + n + length xs ≤ length w → b + n + length ys ≤ length w
-same-room b n w xs ys e h = omega (arith, ap length e)
+pub same-room : (b n : ℕ) (w xs ys : List ℕ) → ys ≡ xs → Room b n w xs → Room b n w ys
+same-room b n w xs ys e h = subst (λ (l : List ℕ). Room b n w l) (sym e) h
 
 -- ---- the string: the walk has come to the place i
 module _ (t : List ℕ) (b : ℕ) (target w₀ w : List ℕ) (n i : ℕ) (e : Bool) (g : Noting b target w₀ w n (spelled e (decode (drop i t)))) (r : Decoded) (s : r ≡ decodedAt i (front (drop i t))) where
@@ -148,7 +148,7 @@ module _ (t : List ℕ) (b : ℕ) (target w₀ w : List ℕ) (n i : ℕ) (e : Bo
       unfolding spelled
       split = subst (λ (l : List ℕ). Noting b target w₀ w n l) (rw (sym test ∙ on, spelled)) seen
 
-      pub spell-room : b + n + length (spelledAs e c) ≤ length w
+      pub spell-room : Room b n w (spelledAs e c)
       spell-room = noting-room b target w₀ w n (spelledAs e c) (spelled (escapesNext e c) (decode (drop k t))) split
 
       pub spell-on : (w′ : List ℕ) (n′ : ℕ) (e′ : Bool) → Codes b w (notedAll (held b n w) (spelledAs e c)) w′ n′ → e′ ≡ escapesNext e c → Noting b target w₀ w′ n′ (spelled e′ (decode (drop k t)))

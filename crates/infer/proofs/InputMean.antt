@@ -176,7 +176,7 @@ spell-mean true (c ∷ r) h = byTest (eqb c 10)
     (λ d. absurd (subst Ends (inside-broken c r (feed-none c d) d) h))
     (λ d.
     let i : Inside = inside false r in
-    let begun : spelled true (c ∷ r) ≡ escapeOf c ++ spelled false r = spelled-on c r true (ends-escaped c d) ∙ ap (λ (z : Bool). escapeOf c ++ spelled z r) (next-not c) in
+    let begun : spelled true (c ∷ r) ≡ escapeOf c ++ spelled false r = spelled-on c r true (ends-escaped c d) ∙ ap (λ (x : List ℕ). x ++ spelled (escapesNext true c) r) (as-escape c) ∙ ap (λ (z : Bool). escapeOf c ++ spelled z r) (next-not c) in
     byOption (escape c)
     (λ v e.
     let on : Ends i = pass-ends i (put-ends v (pass i) (subst Ends (inside-escape c r v e) h)) in

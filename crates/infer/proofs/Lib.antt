@@ -1,5 +1,6 @@
 pub mod Pages
 pub mod NameLaws
+pub mod SectionLaws
 pub mod CodeLaws
 pub mod GlyphLaws
 pub mod InputLaws

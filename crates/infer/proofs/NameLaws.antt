@@ -22,24 +22,28 @@ use Rattle.infer.proofs.Pages.{kept-refl, kept-on, kept-set, kept-at, k
 
 -- ---- the scratch rows
 module _ (size count : ℕ) (w : List ℕ) (s : Scratch size count w) where
+  pub scratch-rows : (v : List ℕ) → Kept (5 * size) w v → rows count v ≡ rows count w
+  scratch-rows v k = kept-rows count (5 * size) w v k (omega (arith, s .few)) (omega (arith, s .room))
+
   pub scratch-kept : (v : List ℕ) → Kept (5 * size) w v → Scratch size count v
   scratch-kept v k = record {
     few = s .few;
     room = omega (arith, s .room, k .size);
-    low = λ x h. subst (λ (y : ℕ). y < size) (sym (kept-at (5 * size) w v (4 * size + x) k (omega (arith, s .few)))) (s .low x h);
+    low = λ x h e. subst (λ (y : ℕ). y < size) (sym (kept-at (5 * size) w v (4 * size + x) k (omega (arith, s .few)))) (s .low x h (ap (λ (ts : List Token). isState (peek ts x)) (sym (scratch-rows v k)) ∙ e));
   }
-
-  pub scratch-rows : (v : List ℕ) → Kept (5 * size) w v → rows count v ≡ rows count w
-  scratch-rows v k = kept-rows count (5 * size) w v k (omega (arith, s .few)) (omega (arith, s .room))
 
   pub scratch-length : length (rows count w) ≡ count
   scratch-length = length-rows count w (omega (arith, s .few, s .room))
 
-  pub mark-sum : (x v : ℕ) → x < count → v ≡ getD w (4 * size + x) 0 → length w * 4 < 2 ^ 63 → Fits w64 (5 * size + v)
-  mark-sum x v h e g = record { fits = omega (arith, s .low x h, s .room) }
+  pub mark-sum : (x v : ℕ) → x < count → isState (peek (rows count w) x) ≡ true → v ≡ getD w (4 * size + x) 0 → length w * 4 < 2 ^ 63 → Fits w64 (5 * size + v)
+  mark-sum x v h i e g = record { fits = omega (arith, s .low x h i, s .room) }
 
-  pub mark-inside : (x k : ℕ) → x < count → k ≡ markAt size w x → k < length w
-  mark-inside x k h e = omega (arith, s .low x h, s .room)
+  pub mark-inside : (x k : ℕ) → x < count → isState (peek (rows count w) x) ≡ true → k ≡ markAt size w x → k < length w
+  mark-inside x k h i e = omega (arith, s .low x h i, s .room)
+
+-- a state stands at an index where the test says so
+pub state-there : (ts : List Token) (x : ℕ) (t : Token) (b : Bool) → t ≡ peek ts x → b ≡ isState t → b ≡ true → isState (peek ts x) ≡ true
+state-there ts x t b at test e = ap isState (sym at) ∙ sym test ∙ e
 
 -- ---- F
 module _ (size : ℕ) (ts : List Token) (w : List ℕ) (x : ℕ) (t : Token) (b : Bool) (at : t ≡ peek ts x) (test : b ≡ isState t) where

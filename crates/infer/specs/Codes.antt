@@ -1,5 +1,5 @@
 -- Characters noted one after the other, each once: a list of codes that stands in a row of work.
-use Prim.Native.Nat.{ℕ}
+use Prim.Native.Nat.{ℕ, _+_, _≤_}
 use mathlib.Core.Path.{_≡_}
 use mathlib.Core.Bool.{Bool, true, false, cond}
 use mathlib.Core.List.{List, [], _∷_, _++_}
@@ -27,3 +27,8 @@ pub record Codes (b : ℕ) (w : List ℕ) (cs : List ℕ) (v : List ℕ) (n : �
   pub kept : Kept b w v
   pub codes : held b n v ≡ cs
   pub count : n ≡ length cs
+
+-- on top of the n codes that w holds from the index b on there is room for xs, each once
+pub record Room (b n : ℕ) (w xs : List ℕ) : Type 0 where
+  pub low : b + n ≤ length w
+  pub fits : b + length (notedAll (held b n w) xs) ≤ length w

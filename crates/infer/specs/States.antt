@@ -1,26 +1,31 @@
 -- The states of a row with entries. Of the scratch rows, `size` words each, the first holds at a word's index that of the first word with the same
 -- characters, the second a mark for each of these: 1 if F lists the name, and 2 more once it was met.
 use Prim.Native.Nat.{ℕ, _+_, _*_, _<_, _≤_}
+use mathlib.Core.Path.{_≡_}
 use mathlib.Core.Bool.{Bool, true, false, cond}
 use mathlib.Core.List.{List, [], _∷_, _++_}
 use lib.Dec.{eqb, ltb}
 use lib.ListN.{length, getD, take, drop, set, replicate}
 use lib.Seq.{sets}
 use Rattle.tokens.specs.declared.Token.{Token}
+use Rattle.language.specs.Layout.{flat}
 use Rattle.parser.specs.Row.{peek}
 use Rattle.parser.specs.Views.{isState}
+use Rattle.assembler.specs.Rows.{rows, placeOf}
 use Rattle.assembler.specs.Entries.{Entry, entries}
+use Rattle.diag.specs.declared.Span.{Span}
+use Rattle.sheet.specs.Comments.{spanWords}
 use Rattle.infer.specs.Page.{Page, page, indicesIn}
 
 -- the index of the mark of the name at x
 abbrev pub markAt : ℕ → List ℕ → ℕ → ℕ
 markAt size w x = 5 * size + getD w (4 * size + x) 0
 
--- the two rows stand in the words w behind the tokens, and what the first holds are indices of the second
+-- the two rows stand in the words w behind the tokens, and what the first holds of a state is an index of the second
 pub record Scratch (size count : ℕ) (w : List ℕ) : Type 0 where
   pub few : count ≤ size
   pub room : 6 * size ≤ length w
-  pub low : (x : ℕ) → x < count → getD w (4 * size + x) 0 < size
+  pub low : (x : ℕ) → x < count → isState (peek (rows count w) x) ≡ true → getD w (4 * size + x) 0 < size
 
 -- no name is marked
 unfoldable pub unmarked : ℕ → List ℕ → List ℕ
@@ -86,3 +91,45 @@ states size ts first p =
 unfoldable pub finals : ℕ → List Token → List ℕ → List ℕ → List ℕ
 unfolding unmarked listFinals indicesIn
 finals size ts first w = listFinals size ts (unmarked size w) (indicesIn ts (getD first 10 0))
+
+-- ---- the same as words: what the name at x adds to the sheet, and the words of work behind it
+unfoldable pub nameAdds : ℕ → List Token → Bool → List ℕ → ℕ → List ℕ
+nameAdds size ts repeats w x =
+    let m = getD w (markAt size w x) 0 in
+    cond (isState (peek ts x)) (cond (ltb m 2) (nameWords (peek ts x) m) (cond repeats (nameWords (peek ts x) 0) [])) []
+
+unfoldable pub nameMarks : ℕ → List Token → List ℕ → ℕ → List ℕ
+nameMarks size ts w x =
+    let m = getD w (markAt size w x) 0 in
+    cond (isState (peek ts x)) (cond (ltb m 2) (set w (markAt size w x) (m + 2)) w) w
+
+-- all names at some indices
+unfoldable pub namesAdd : ℕ → List Token → Bool → List ℕ → List ℕ → List ℕ
+unfolding nameAdds nameMarks
+namesAdd size ts repeats w [] = []
+namesAdd size ts repeats w (x ∷ xs) = nameAdds size ts repeats w x ++ namesAdd size ts repeats (nameMarks size ts w x) xs
+
+-- the states, once the finals are marked in w
+unfoldable pub statesAdd : ℕ → List Token → List ℕ → List ℕ → List ℕ
+unfolding namesAdd indicesIn startName mentions entries
+statesAdd size ts first w =
+    cond (ltb (getD first 5 0) (length ts)) (namesAdd size ts true w (indicesIn ts (getD first 5 0)))
+    (namesAdd size ts false w (startName ts (getD first 9 0) ++ (mentions ts (entries ts) ++ indicesIn ts (getD first 10 0))))
+
+-- the section of states
+unfoldable pub stateSection : ℕ → List Token → List ℕ → List ℕ → List ℕ
+unfolding statesAdd finals
+stateSection size ts first w = statesAdd size ts first (finals size ts first w)
+
+-- the place of the token at x, if a state stands there
+unfoldable pub placeAt : List Token → ℕ → List ℕ
+placeAt ts x = cond (isState (peek ts x)) (spanWords (placeOf (peek ts x))) []
+
+-- the section of finals: the place of each name that the line at f lists
+unfoldable pub finalSection : List Token → ℕ → List ℕ
+unfolding flat placeAt indicesIn
+finalSection ts f = flat (placeAt ts) (indicesIn ts f)
+
+-- the place of the first state, whose section stands in the sheet from the index i to before j; 4294967295 twice if there is none
+unfoldable pub firstState : List ℕ → ℕ → ℕ → Span
+firstState o i j = cond (ltb i j) (record { start = getD o i 0; end = getD o (i + 1) 0 }) (record { start = 0xffffffff; end = 0xffffffff })

@@ -8,14 +8,14 @@ ghost use Rattle.parser.specs.Views.{isSymbol};
 ghost use lib.Dec.{eqb};
 ghost use Rattle.assembler.specs.Rows.{rows};
 ghost use Rattle.assembler.specs.Entries.{entryAt, entries};
-ghost use Rattle.infer.specs.Codes.{notedAll, held, Codes};
+ghost use Rattle.infer.specs.Codes.{notedAll, held, Codes, Room};
 ghost use Rattle.infer.specs.Symbols.{range, symbols, takes, walked, firsts, outside, others, further, ruleSymbols, rulesSymbols, codesOf};
 use crate::codes;
 use assembler::entry;
-use sheet::rules;
-use tokens::Token;
 use lexer::kind;
 use parser::view;
+use sheet::rules;
+use tokens::Token;
 
 // The number of a rule's item.
 const TRANSITION: u32 = 11;
@@ -73,7 +73,7 @@ fn met(seen: bool, t: Token) -> bool
 
 // Notes a token's character, if it is a symbol.
 fn note_symbol(work: &mut [u32], base: usize, n: usize, t: Token, blank: u32) -> usize
-    requires { ⌜ base + n + length (codesOf blank (symbols (t ∷ []))) ≤ length (now work) ⌝ }
+    requires { ⌜ Room base n (now work) (codesOf blank (symbols (t ∷ []))) ⌝ }
     ensures { λ r. ⌜ Codes base (now (work .entry)) (notedAll (held base n (now (work .entry))) (codesOf blank (symbols (t ∷ [])))) (now (work .exit)) r ⌝ }
 {
     if view::is_symbol(t) {
@@ -92,7 +92,7 @@ pub(crate) fn note_range(
     to: usize,
     blank: u32,
 ) -> usize
-    requires { ⌜ (4 * count ≤ base) × (base + n + length (codesOf blank (symbols (range (rows count (now work)) from to))) ≤ length (now work)) ⌝ }
+    requires { ⌜ (4 * count ≤ base) × (Room base n (now work) (codesOf blank (symbols (range (rows count (now work)) from to)))) ⌝ }
     ensures { λ r. ⌜ Codes base (now (work .entry)) (notedAll (held base n (now (work .entry))) (codesOf blank (symbols (range (rows count (now (work .entry))) from to)))) (now (work .exit)) r ⌝ }
 {
     let mut m = n;
@@ -107,7 +107,7 @@ pub(crate) fn note_range(
 
 // A token's character, if it is the first of its set.
 fn note_first(work: &mut [u32], base: usize, n: usize, s: Walk, t: Token, blank: u32) -> usize
-    requires { ⌜ base + n + length (codesOf blank (cond (takes s t) (t ∷ []) [])) ≤ length (now work) ⌝ }
+    requires { ⌜ Room base n (now work) (codesOf blank (cond (takes s t) (t ∷ []) [])) ⌝ }
     ensures { λ r. ⌜ Codes base (now (work .entry)) (notedAll (held base n (now (work .entry))) (codesOf blank (cond (takes s t) (t ∷ []) []))) (now (work .exit)) r ⌝ }
 {
     if takes(s, t) {
@@ -126,7 +126,7 @@ fn note_firsts(
     to: usize,
     blank: u32,
 ) -> usize
-    requires { ⌜ (4 * count ≤ base) × (base + n + length (codesOf blank (firsts outside (range (rows count (now work)) from to))) ≤ length (now work)) ⌝ }
+    requires { ⌜ (4 * count ≤ base) × (Room base n (now work) (codesOf blank (firsts outside (range (rows count (now work)) from to)))) ⌝ }
     ensures { λ r. ⌜ Codes base (now (work .entry)) (notedAll (held base n (now (work .entry))) (codesOf blank (firsts outside (range (rows count (now (work .entry))) from to)))) (now (work .exit)) r ⌝ }
 {
     let mut s = Walk {
@@ -146,7 +146,7 @@ fn note_firsts(
 
 // A token's character, if it is a further member of its set.
 fn note_other(work: &mut [u32], base: usize, n: usize, seen: bool, t: Token, blank: u32) -> usize
-    requires { ⌜ base + n + length (codesOf blank (cond seen (symbols (t ∷ [])) [])) ≤ length (now work) ⌝ }
+    requires { ⌜ Room base n (now work) (codesOf blank (cond seen (symbols (t ∷ [])) [])) ⌝ }
     ensures { λ r. ⌜ Codes base (now (work .entry)) (notedAll (held base n (now (work .entry))) (codesOf blank (cond seen (symbols (t ∷ [])) []))) (now (work .exit)) r ⌝ }
 {
     if seen {
@@ -165,7 +165,7 @@ fn note_others(
     to: usize,
     blank: u32,
 ) -> usize
-    requires { ⌜ (4 * count ≤ base) × (base + n + length (codesOf blank (others false (range (rows count (now work)) from to))) ≤ length (now work)) ⌝ }
+    requires { ⌜ (4 * count ≤ base) × (Room base n (now work) (codesOf blank (others false (range (rows count (now work)) from to)))) ⌝ }
     ensures { λ r. ⌜ Codes base (now (work .entry)) (notedAll (held base n (now (work .entry))) (codesOf blank (others false (range (rows count (now (work .entry))) from to)))) (now (work .exit)) r ⌝ }
 {
     let mut seen = false;
@@ -194,7 +194,7 @@ fn note_set(
     to: usize,
     blank: u32,
 ) -> usize
-    requires { ⌜ (4 * count ≤ base) × (base + n + length (codesOf blank (cond (eqb (t .kind) 6) (others false (range (rows count (now work)) from to)) [])) ≤ length (now work)) ⌝ }
+    requires { ⌜ (4 * count ≤ base) × (Room base n (now work) (codesOf blank (cond (eqb (t .kind) 6) (others false (range (rows count (now work)) from to)) []))) ⌝ }
     ensures { λ r. ⌜ Codes base (now (work .entry)) (notedAll (held base n (now (work .entry))) (codesOf blank (cond (eqb (t .kind) 6) (others false (range (rows count (now (work .entry))) from to)) []))) (now (work .exit)) r ⌝ }
 {
     if t.kind == kind::L_BRACE {
@@ -213,7 +213,7 @@ fn note_further(
     to: usize,
     blank: u32,
 ) -> usize
-    requires { ⌜ (4 * count ≤ base) × (base + n + length (codesOf blank (further (range (rows count (now work)) from to))) ≤ length (now work)) ⌝ }
+    requires { ⌜ (4 * count ≤ base) × (Room base n (now work) (codesOf blank (further (range (rows count (now work)) from to)))) ⌝ }
     ensures { λ r. ⌜ Codes base (now (work .entry)) (notedAll (held base n (now (work .entry))) (codesOf blank (further (range (rows count (now (work .entry))) from to)))) (now (work .exit)) r ⌝ }
 {
     let mut m = n;
@@ -227,15 +227,8 @@ fn note_further(
 }
 
 // The symbols of the line at an index, if it is a rule: the first choice of each tape, what is written, the further choices.
-fn note_rule(
-    work: &mut [u32],
-    count: usize,
-    base: usize,
-    n: usize,
-    e: usize,
-    blank: u32,
-) -> usize
-    requires { ⌜ (4 * count ≤ base) × (e < count) × (base + n + length (codesOf blank (ruleSymbols (rows count (now work)) (entryAt (rows count (now work)) e))) ≤ length (now work)) ⌝ }
+fn note_rule(work: &mut [u32], count: usize, base: usize, n: usize, e: usize, blank: u32) -> usize
+    requires { ⌜ (4 * count ≤ base) × (e < count) × (Room base n (now work) (codesOf blank (ruleSymbols (rows count (now work)) (entryAt (rows count (now work)) e)))) ⌝ }
     ensures { λ r. ⌜ Codes base (now (work .entry)) (notedAll (held base n (now (work .entry))) (codesOf blank (ruleSymbols (rows count (now (work .entry))) (entryAt (rows count (now (work .entry))) e)))) (now (work .exit)) r ⌝ }
 {
     let t = entry::token_at(work, count, e);
@@ -259,7 +252,7 @@ fn note_rule(
 
 // The symbols of all rules.
 pub fn note_rules(work: &mut [u32], count: usize, base: usize, n: usize, blank: u32) -> usize
-    requires { ⌜ (4 * count ≤ base) × (base + n + length (codesOf blank (rulesSymbols (rows count (now work)) (entries (rows count (now work))))) ≤ length (now work)) ⌝ }
+    requires { ⌜ (4 * count ≤ base) × (Room base n (now work) (codesOf blank (rulesSymbols (rows count (now work)) (entries (rows count (now work)))))) ⌝ }
     ensures { λ r. ⌜ Codes base (now (work .entry)) (notedAll (held base n (now (work .entry))) (codesOf blank (rulesSymbols (rows count (now (work .entry))) (entries (rows count (now (work .entry))))))) (now (work .exit)) r ⌝ }
 {
     let mut m = n;

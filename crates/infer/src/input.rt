@@ -5,7 +5,7 @@ ghost use Prim.Native.Nat.{_+_, _*_, _≤_, _<_};
 ghost use lib.ListN.{length};
 ghost use Rattle.lexer.specs.Places.{rest};
 ghost use Rattle.assembler.specs.Rows.{rows};
-ghost use Rattle.infer.specs.Codes.{notedAll, held, Codes};
+ghost use Rattle.infer.specs.Codes.{notedAll, held, Codes, Room};
 ghost use Rattle.infer.specs.Input.{endsAt, escapeCode, escapeOf, spelledAs, escapesNext, spelled, inputOf};
 use crate::codes;
 use assembler::entry;
@@ -55,7 +55,7 @@ fn escape_code(c: u32) -> u32
 
 // Notes what a backslash and c stand for.
 fn note_escape(work: &mut [u32], base: usize, n: usize, c: u32) -> usize
-    requires { ⌜ base + n + length (escapeOf c) ≤ length (now work) ⌝ }
+    requires { ⌜ Room base n (now work) (escapeOf c) ⌝ }
     ensures { λ r. ⌜ Codes base (now (work .entry)) (notedAll (held base n (now (work .entry))) (escapeOf c)) (now (work .exit)) r ⌝ }
 {
     let v = escape_code(c);
@@ -68,7 +68,7 @@ fn note_escape(work: &mut [u32], base: usize, n: usize, c: u32) -> usize
 
 // Notes what one character adds to the value.
 fn note_char(work: &mut [u32], base: usize, n: usize, escaped: bool, c: u32) -> usize
-    requires { ⌜ base + n + length (spelledAs escaped c) ≤ length (now work) ⌝ }
+    requires { ⌜ Room base n (now work) (spelledAs escaped c) ⌝ }
     ensures { λ r. ⌜ Codes base (now (work .entry)) (notedAll (held base n (now (work .entry))) (spelledAs escaped c)) (now (work .exit)) r ⌝ }
 {
     if escaped {
@@ -82,7 +82,7 @@ fn note_char(work: &mut [u32], base: usize, n: usize, escaped: bool, c: u32) -> 
 
 // Notes the characters of the string whose text begins at a place.
 fn note_string(text: &[u8], at: usize, work: &mut [u32], base: usize, n: usize) -> usize
-    requires { ⌜ base + n + length (spelled false (rest (now text) at)) ≤ length (now work) ⌝ }
+    requires { ⌜ Room base n (now work) (spelled false (rest (now text) at)) ⌝ }
     ensures { λ r. ⌜ Codes base (now (work .entry)) (notedAll (held base n (now (work .entry))) (spelled false (rest (now (text .entry)) at))) (now (work .exit)) r ⌝ }
 {
     let mut i = at;
@@ -114,7 +114,7 @@ pub fn note_input(
     n: usize,
     d: usize,
 ) -> usize
-    requires { ⌜ (4 * count ≤ base) × (base + n + length (inputOf (now text) (rows count (now work)) d) ≤ length (now work)) ⌝ }
+    requires { ⌜ (4 * count ≤ base) × (Room base n (now work) (inputOf (now text) (rows count (now work)) d)) ⌝ }
     ensures { λ r. ⌜ Codes base (now (work .entry)) (notedAll (held base n (now (work .entry))) (inputOf (now (text .entry)) (rows count (now (work .entry))) d)) (now (work .exit)) r ⌝ }
 {
     if d < count {

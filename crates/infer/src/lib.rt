@@ -3,6 +3,7 @@ ghost use mathlib.Core.Path.{_≡_};
 ghost use Prim.Native.Nat.{_<_, _^_};
 
 pub mod codes;
+pub mod finals;
 pub mod glyphs;
 pub mod input;
 pub mod put;

@@ -1,18 +1,21 @@
 // The states: the names in the order of inference, each once, or as often as a declared Q repeats it.
 ghost use mathlib.Core.Path.{_≡_};
-ghost use mathlib.Core.Bool.{false};
+ghost use mathlib.Core.Bool.{true, false};
 ghost use Prim.Native.Nat.{_+_, _*_, _<_, _≤_, _^_};
-ghost use lib.ListN.{length};
+ghost use lib.ListN.{length, getD};
 ghost use Rattle.parser.specs.Row.{peek};
+ghost use Rattle.parser.specs.Views.{isState};
+ghost use Rattle.sheet.specs.Stored.{Stored};
 ghost use Rattle.assembler.specs.Rows.{rows};
 ghost use Rattle.assembler.specs.Entries.{entryAt, entries};
-ghost use Rattle.infer.specs.Page.{page, indicesIn};
-ghost use Rattle.infer.specs.States.{markAt, Scratch, unmarked, listFinal, listFinals, stateNamed, named, namedAll, mention, mentions, startName, inferred, states, finals};
+ghost use Rattle.infer.specs.Page.{page, Kept, indicesIn};
+ghost use Rattle.infer.specs.States.{markAt, Scratch, unmarked, listFinal, listFinals, stateNamed, named, namedAll, mention, mentions, startName, inferred, states, finals, stateSection, firstState};
 use crate::put;
 use assembler::entry;
-use tokens::Token;
+use diag::Span;
 use lexer::kind;
 use parser::view;
+use tokens::Token;
 
 // The numbers of items.
 const STATES: usize = 5;
@@ -23,9 +26,12 @@ const FINAL: usize = 10;
 
 const TRANSITION: u32 = 11;
 
+// A word of the place that says that there is none.
+const NONE: u32 = 0xFFFFFFFF;
+
 // Where the mark of the name at an index stands.
 fn mark_index(work: &[u32], count: usize, size: usize, x: usize) -> usize
-    requires { ⌜ Scratch size count (now work) × (x < count) ⌝ }
+    requires { ⌜ Scratch size count (now work) × (x < count) × (isState (peek (rows count (now work)) x) ≡ true) ⌝ }
     ensures { λ r. ⌜ r ≡ markAt size (now (work .entry)) x ⌝ }
 {
     5 * size + entry::wide(work[4 * size + x])
@@ -70,7 +76,7 @@ fn state(
     out: &mut [u32],
     at: usize,
 ) -> usize
-    requires { ⌜ Scratch size count (now work) × (x < count) × (at + 3 < 2 ^ 64) ⌝ }
+    requires { ⌜ Scratch size count (now work) × (x < count) × (isState (peek (rows count (now work)) x) ≡ true) × (at + 3 < 2 ^ 64) ⌝ }
     ensures { λ r. ⌜ page (now (work .exit)) (now (out .exit)) r ≡ stateNamed size t repeats (page (now (work .entry)) (now (out .entry)) at) x ⌝ }
 {
     let k = mark_index(work, count, size, x);
@@ -233,4 +239,47 @@ pub fn states(
     let s = crate::index(first[START]);
     let f = crate::index(first[FINAL]);
     inferred(work, count, size, s, f, out, at)
+}
+
+// The section of states from the index `at` on; of work only the marks change.
+pub fn section(
+    work: &mut [u32],
+    count: usize,
+    size: usize,
+    first: &[u32; 11],
+    out: &mut [u32],
+    at: usize,
+) -> usize
+    requires { ⌜ Scratch size count (now work) × (at + 9 * count + 3 < 2 ^ 64) ⌝ }
+    ensures { λ r. ⌜ Kept (5 * size) (now (work .entry)) (now (work .exit)) × Stored (stateSection size (rows count (now (work .entry))) (now (first .entry)) (now (work .entry))) (now (out .entry)) at (now (out .exit)) r ⌝ }
+{
+    finals(work, count, size, first);
+    states(work, count, size, first, out, at)
+}
+
+// The word at an index, 0 where there is none.
+fn word_at(out: &[u32], i: usize) -> u32
+    ensures { λ r. ⌜ r ≡ getD (now (out .entry)) i 0 ⌝ }
+{
+    if i < out.len() {
+        return out[i];
+    }
+    0
+}
+
+// The place of the first state, whose section stands from the index `at` to before `end`.
+pub fn first_state(out: &[u32], at: usize, end: usize) -> Span
+    requires { ⌜ at + 1 < 2 ^ 64 ⌝ }
+    ensures { λ r. ⌜ r ≡ firstState (now (out .entry)) at end ⌝ }
+{
+    if at < end {
+        return Span {
+            start: word_at(out, at),
+            end: word_at(out, at + 1),
+        };
+    }
+    Span {
+        start: NONE,
+        end: NONE,
+    }
 }

@@ -8,7 +8,7 @@ ghost use lib.ListN.{length};
 ghost use Rattle.language.specs.Layout.{flat};
 ghost use Rattle.assembler.specs.Rows.{rows};
 ghost use Rattle.sheet.specs.Stored.{Stored};
-ghost use Rattle.infer.specs.Codes.{notedAll, held, Codes};
+ghost use Rattle.infer.specs.Codes.{notedAll, held, Codes, Room};
 ghost use Rattle.infer.specs.Symbols.{range, blankOf, symbols, symbolsIn, isBlank, hasBlank, codesOf};
 ghost use Rattle.infer.specs.Alphabets.{listedWords, inferredWords, otherWords, lineCodes, candidates, gammaCodes, declaredGamma, gammaWords, inferredSigma, sigmaWords};
 use crate::codes;
@@ -16,10 +16,10 @@ use crate::glyphs;
 use crate::input;
 use assembler::entry;
 use diag::Span;
-use tokens::Token;
 use parser::view;
 use sheet::put;
 use sheet::rules;
+use tokens::Token;
 
 // The blank where none is declared.
 const BLANK: u32 = 0x2423;
@@ -32,10 +32,7 @@ const INPUT_ALPHABET: usize = 6;
 const TAPE_ALPHABET: usize = 7;
 
 // The place of an inferred symbol.
-const NOWHERE: Span = Span {
-    start: 0,
-    end: 0,
-};
+const NOWHERE: Span = Span { start: 0, end: 0 };
 
 // The blank, which the line at d declares.
 pub fn blank_of(work: &[u32], count: usize, d: usize) -> u32
@@ -158,27 +155,12 @@ fn has_blank(work: &[u32], count: usize, from: usize, to: usize, blank: u32) -> 
 }
 
 // Notes the symbols of the line at an index.
-fn note_line(
-    work: &mut [u32],
-    count: usize,
-    base: usize,
-    n: usize,
-    f: usize,
-    blank: u32,
-) -> usize
-    requires { ⌜ (4 * count ≤ base) × (f < 2 ^ 32) × (base + n + length (lineCodes blank (rows count (now work)) f) ≤ length (now work)) ⌝ }
+fn note_line(work: &mut [u32], count: usize, base: usize, n: usize, f: usize, blank: u32) -> usize
+    requires { ⌜ (4 * count ≤ base) × (f < 2 ^ 32) × (Room base n (now work) (lineCodes blank (rows count (now work)) f)) ⌝ }
     ensures { λ r. ⌜ Codes base (now (work .entry)) (notedAll (held base n (now (work .entry))) (lineCodes blank (rows count (now (work .entry))) f)) (now (work .exit)) r ⌝ }
 {
     let t = entry::token_at(work, count, f);
-    glyphs::note_range(
-        work,
-        count,
-        base,
-        n,
-        f + 1,
-        entry::wide(t.value),
-        blank,
-    )
+    glyphs::note_range(work, count, base, n, f + 1, entry::wide(t.value), blank)
 }
 
 // Notes what an undeclared Γ holds besides the blank: a declared Σ and what the rules use; or what they use and the input.
@@ -191,7 +173,7 @@ fn note_candidates(
     first: &[u32; 11],
     blank: u32,
 ) -> usize
-    requires { ⌜ (4 * count ≤ base) × (base + n + length (candidates (now text) blank (rows count (now work)) (now first)) ≤ length (now work)) ⌝ }
+    requires { ⌜ (4 * count ≤ base) × (Room base n (now work) (candidates (now text) blank (rows count (now work)) (now first))) ⌝ }
     ensures { λ r. ⌜ Codes base (now (work .entry)) (notedAll (held base n (now (work .entry))) (candidates (now (text .entry)) blank (rows count (now (work .entry))) (now (first .entry)))) (now (work .exit)) r ⌝ }
 {
     let s = crate::index(first[INPUT_ALPHABET]);
@@ -212,7 +194,7 @@ pub fn gamma_codes(
     first: &[u32; 11],
     blank: u32,
 ) -> usize
-    requires { ⌜ (4 * count ≤ base) × (base + 1 + length (candidates (now text) blank (rows count (now work)) (now first)) ≤ length (now work)) ⌝ }
+    requires { ⌜ (4 * count ≤ base) × (Room base 0 (now work) (blank ∷ candidates (now text) blank (rows count (now work)) (now first))) ⌝ }
     ensures { λ r. ⌜ Codes base (now (work .entry)) (gammaCodes (now (text .entry)) blank (rows count (now (work .entry))) (now (first .entry))) (now (work .exit)) r ⌝ }
 {
     let n = codes::note(work, base, 0, blank);
@@ -220,14 +202,7 @@ pub fn gamma_codes(
 }
 
 // A declared Γ, with the blank last if it lacks it.
-fn put_gamma(
-    work: &[u32],
-    count: usize,
-    g: usize,
-    blank: u32,
-    out: &mut [u32],
-    at: usize,
-) -> usize
+fn put_gamma(work: &[u32], count: usize, g: usize, blank: u32, out: &mut [u32], at: usize) -> usize
     requires { ⌜ (4 * count ≤ length (now work)) × (g < 2 ^ 32) × (at < 2 ^ 62) ⌝ }
     ensures { λ r. ⌜ Stored (declaredGamma blank (rows count (now (work .entry))) g) (now (out .entry)) at (now (out .exit)) r ⌝ }
 {

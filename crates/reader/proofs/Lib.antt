@@ -3,3 +3,5 @@ pub mod StateNames
 pub mod AnswerWords
 pub mod Reports
 pub mod Outcomes
+pub mod Calls
+pub mod SheetLaws

@@ -51,7 +51,7 @@ module _ (t : List ℕ) (work : ℕ) (log sheet : List ℕ) where
         ∙ sym (admitted-outcome ∙ ap (λ (x : List (A.Diagnostic Span)). readWith (A.sort x) (linesOf t) (length log) (length sheet)) e)
 
     module _ (none-found : A.diagnosticsOf (linesOf t) ≡ []) where
-      machine-outcome : readOutcome t work log sheet ≡ readMachine (linesOf t) (length log) (length sheet)
+      pub machine-outcome : readOutcome t work log sheet ≡ readMachine (linesOf t) (length log) (length sheet)
       unfolding A.diagnostics A.sort readWith
       machine-outcome = admitted-outcome ∙ ap (λ (x : List (A.Diagnostic Span)). readWith (A.sort x) (linesOf t) (length log) (length sheet)) none-found
 

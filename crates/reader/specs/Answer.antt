@@ -44,8 +44,11 @@ replyIn (Refused r) = O.refused (refusalIn r)
 abbrev pub readIn : Answer → List ℕ → List ℕ → O.ReadOutcome
 readIn a log sheet = record { reply = replyIn a; log = log; sheet = sheet }
 
--- whether an answer leaves work untouched: rows 1 and 2
+-- whether a reply leaves work untouched: rows 1 and 2
+abbrev pub untouched : O.Reply → Bool
+untouched (O.machine h) = false
+untouched (O.diagnosed n) = false
+untouched (O.refused r) = O.leavesWork r
+
 abbrev pub leavesWork : Answer → Bool
-leavesWork (Machine h) = false
-leavesWork (Diagnostics n) = false
-leavesWork (Refused r) = O.leavesWork (refusalIn r)
+leavesWork a = untouched (replyIn a)

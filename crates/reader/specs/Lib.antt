@@ -1,3 +1,4 @@
 pub mod Answer
 pub mod Words
 pub mod Reading
+pub mod Sheet

@@ -1,15 +1,15 @@
 // Reading a description: what a call answers, and the name of a state.
 ghost use mathlib.Core.Path.{_≡_};
-ghost use mathlib.Core.Bool.{true};
+ghost use mathlib.Core.Bool.{true, false};
+ghost use mathlib.Core.Option.{none};
 ghost use lib.ListN.{length};
-ghost use Rattle.language.specs.Outcome.{readOutcome};
+ghost use Rattle.language.specs.Outcome.{refusalOf, readOutcome};
 ghost use Rattle.reader.specs.Answer.{readIn, leavesWork};
 ghost use Rattle.reader.specs.Reading.{given, givenBy, leavesWorkNumber};
 use admission::Admission;
 use machine::Head;
 
 pub mod admission;
-pub mod listed;
 pub mod name;
 pub mod report;
 pub mod sections;
@@ -38,7 +38,10 @@ pub enum Answer {
 }
 
 // Reads a text that is not refused.
-fn admitted(text: &[u8], work: &mut [u32], log: &mut [u32], sheet: &mut [u32]) -> Answer {
+fn admitted(text: &[u8], work: &mut [u32], log: &mut [u32], sheet: &mut [u32]) -> Answer
+    requires { ⌜ refusalOf (now text) (length (now work)) ≡ none ⌝ }
+    ensures { λ r. ⌜ (readIn r (now (log .exit)) (now (sheet .exit)) ≡ readOutcome (now (text .entry)) (length (now (work .entry))) (now (log .entry)) (now (sheet .entry))) × (leavesWork r ≡ false) ⌝ }
+{
     diag::clear(log);
     diag::clear(sheet);
     let count = lexer::tokenize(text, work);

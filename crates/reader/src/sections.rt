@@ -1,6 +1,13 @@
 // The sections of the sheet before the rules.
-use crate::listed;
+ghost use Prim.Native.Nat.{_+_, _*_};
+ghost use lib.ListN.{length};
+ghost use Rattle.assembler.specs.Rows.{rows};
+ghost use Rattle.infer.specs.Page.{Kept};
+ghost use Rattle.answered.specs.Ready.{Ready};
+ghost use Rattle.answered.specs.Sections.{sectionsOf};
+ghost use Rattle.reader.specs.Sheet.{Written};
 use assembler::entry;
+use infer::finals;
 use infer::states;
 use infer::symbols;
 use sheet::comments;
@@ -23,14 +30,16 @@ pub fn sections(
     first: &[u32; 11],
     blank: u32,
     sheet: &mut [u32],
-) -> Ends {
+) -> Ends
+    requires { ⌜ Ready (now text) count (now work) (now first) ⌝ }
+    ensures { λ e. ⌜ Kept (5 * (length (now (text .entry)) + 1)) (now (work .entry)) (now (work .exit)) × Written (sectionsOf (now (text .entry)) blank (rows count (now (work .entry))) (now (first .entry)) (now (work .entry))) (now (sheet .entry)) (now (sheet .exit)) e ⌝ }
+{
     let size = text.len() + 1;
-    states::finals(work, count, size, first);
-    let q = states::states(work, count, size, first, sheet, 0);
+    let q = states::section(work, count, size, first, sheet, 0);
     let n = symbols::gamma_codes(text, work, count, 5 * size, first, blank);
     let s = symbols::sigma(work, count, 5 * size, n, first, blank, sheet, q);
     let g = symbols::gamma(work, count, 5 * size, n, first, blank, sheet, s);
-    let f = listed::names(work, count, entry::wide(first[10]), sheet, g);
+    let f = finals::section(work, count, entry::wide(first[10]), sheet, g);
     let h = comments::header(work, count, sheet, f);
     let t = comments::trailing(work, count, sheet, h);
     Ends {

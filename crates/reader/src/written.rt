@@ -1,16 +1,29 @@
 // A machine in the sheet, and its head; or the words that it needs.
+ghost use mathlib.Core.Path.{_≡_};
+ghost use Prim.Native.Nat.{ℕ, _<_, _^_};
+ghost use lib.ListN.{length};
+ghost use Rattle.language.specs.Infer.{machineOf};
+ghost use Rattle.language.specs.Outcome.{zeros, readMachine};
+ghost use Rattle.answered.specs.Ready.{linesOf, Ready};
+ghost use Rattle.infer.specs.States.{firstState};
+ghost use Rattle.reader.specs.Answer.{readIn};
+ghost use Rattle.reader.specs.Sheet.{Ordered, countsAt, spanFrom};
 use crate::Answer;
 use crate::Refusal;
 use crate::sections;
 use crate::sections::Ends;
 use assembler::Assembled;
+use infer::states;
 use machine::Counts;
 use machine::Span;
 use sheet::expand;
 use sheet::lengths;
 
 // How many members the sections have that end there, and n rules.
-fn counts(e: Ends, rules: usize) -> Counts {
+fn counts(e: Ends, rules: usize) -> Counts
+    requires { ⌜ Ordered e × (rules < 2 ^ 32) ⌝ }
+    ensures { λ r. ⌜ r ≡ countsAt e rules ⌝ }
+{
     Counts {
         states: (e.states / 3) as u32,
         sigma: ((e.sigma - e.states) / 3) as u32,
@@ -22,14 +35,14 @@ fn counts(e: Ends, rules: usize) -> Counts {
     }
 }
 
-// The place of the first state, if the states take any of the sheet's words.
-fn first_state(sheet: &[u32], states: usize) -> Span {
-    if states == 0 {
-        return head::NONE;
-    }
+// The place of the first state in the sheet, whose states end there.
+fn first_state(sheet: &[u32], end: usize) -> Span
+    ensures { λ r. ⌜ r ≡ spanFrom (firstState (now (sheet .entry)) 0 end) ⌝ }
+{
+    let p = states::first_state(sheet, 0, end);
     Span {
-        start: sheet[0],
-        end: sheet[1],
+        start: p.start,
+        end: p.end,
     }
 }
 
@@ -40,7 +53,10 @@ pub fn machine(
     count: usize,
     a: Assembled,
     sheet: &mut [u32],
-) -> Answer {
+) -> Answer
+    requires { ⌜ (Ready (now text) count (now work) (a .first)) × (a .rules ≡ length (machineOf (linesOf (now text)) .rules)) × (now sheet ≡ zeros (length (now sheet))) ⌝ }
+    ensures { λ r. ⌜ ((n : ℕ) → readIn r (zeros n) (now (sheet .exit)) ≡ readMachine (linesOf (now (text .entry))) n (length (now (sheet .entry)))) ⌝ }
+{
     let first = a.first;
     let blank = head::blank_at(work, count, first[8]);
     let e = sections::sections(text, work, count, &first, blank, sheet);

@@ -5,7 +5,3 @@ pub mod RuleLaws
 pub mod WheelLaws
 pub mod ExpandLaws
 pub mod RowLaws
-pub mod Shows
-pub mod RulesShown
-pub mod BodyShown
-pub mod TokensShow

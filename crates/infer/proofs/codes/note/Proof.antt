@@ -1,10 +1,10 @@
 -- `infer::codes::note` meets its contract: one store behind the codes.
 use borrow.Author.Needs.{needs}
-use Rattle.infer.proofs.CodeLaws.{note-there, note-new}
+use Rattle.infer.proofs.CodeLaws.{room-new, note-there, note-new}
 use Rattle.infer.proofs.codes.note.Statement.{statement}
 use Rattle.infer.proofs.codes.note.Tie as tie
 
-ruleset laws = (needs, note-there, note-new)
+ruleset laws = (needs, room-new, note-there, note-new)
 
 pub note-spec : {M : Type 1} → statement M
 note-spec =

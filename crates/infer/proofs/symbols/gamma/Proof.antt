@@ -9,39 +9,15 @@ use Rattle.infer.proofs.symbols.gamma.Tie as tie
 
 ruleset laws = (needs, gamma-declared)
 
-element-copy-out-index : tie.Need-element-copy-out-index
-element-copy-out-index c = search laws
-
-index-requires : tie.Need-index-requires
-index-requires c κs = search laws
-
-put-gamma-requires : tie.Need-put-gamma-requires
-put-gamma-requires c κs = ?
-
-same-length : tie.Need-same-length
-same-length c = search laws
-
-returns : tie.Need-returns
-returns c = ?
-
-put-codes-requires : tie.Need-put-codes-requires
-put-codes-requires c κs = ?
-
-same-length-2 : tie.Need-same-length-2
-same-length-2 c = search laws
-
-returns-2 : tie.Need-returns-2
-returns-2 c = ?
-
 pub gamma-spec : {M : Type 1} → statement M
 gamma-spec =
     tie.close
     (tie.spec
-    element-copy-out-index
-    index-requires
-    put-gamma-requires
-    same-length
-    returns
-    put-codes-requires
-    same-length-2
-    returns-2)
+    (λ c. search laws)
+    (λ c κs. search laws)
+    (λ c κs. (c .before .before .before .before .before .before .pre .0, c .before .before .index .ensures .1, c .before .before .before .before .before .before .pre .2))
+    (λ c. search laws)
+    (λ c. gamma-declared _ _ _ _ _ 7 _ (length-rows _ _ (c .before .before .before .before .before .before .before .before .before .pre .0)) (c .before .before .before .before .before .index .ensures .0) _ _ _ _ refl (c .before .before .before .before .if1 .taken) (c .before .before .put-gamma .ensures))
+    (λ c κs. (c .before .before .before .before .before .before .pre .1, c .before .before .before .before .before .before .pre .2))
+    (λ c. search laws)
+    (λ c. gamma-inferred _ _ _ _ _ 7 _ (length-rows _ _ (c .before .before .before .before .before .before .before .before .before .pre .0)) (c .before .before .before .before .before .index .ensures .0) _ _ _ _ refl (c .before .before .before .before .if1 .left) (c .before .before .put-codes .ensures)))

@@ -6,17 +6,11 @@ use Rattle.infer.proofs.symbols.gamma_codes.Tie as tie
 
 ruleset laws = (needs, gamma-head)
 
-note-requires : tie.Need-note-requires
-note-requires c κs = search laws
-
-note-candidates-requires : tie.Need-note-candidates-requires
-note-candidates-requires c κs = ?
-
-same-length : tie.Need-same-length
-same-length c = search laws
-
-returns : tie.Need-returns
-returns c = ?
-
 pub gamma-codes-spec : {M : Type 1} → statement M
-gamma-codes-spec = tie.close (tie.spec note-requires note-candidates-requires same-length returns)
+gamma-codes-spec =
+    tie.close
+    (tie.spec
+    (λ c κs. search laws)
+    (λ c κs. (c .before .before .before .before .before .before .before .pre .0, gamma-room _ _ _ _ _ _ (c .before .before .before .before .before .before .before .pre .0) (c .before .before .before .before .before .before .before .pre .1) _ _ (c .before .before .before .note .ensures)))
+    (λ c. search laws)
+    (λ c. gamma-noted _ _ _ _ _ _ (c .before .before .before .before .before .before .before .before .before .before .pre .0) (c .before .before .before .before .before .before .before .before .before .before .pre .1) _ _ (c .before .before .before .before .before .before .note .ensures) _ _ (c .before .before .note-candidates .ensures)))

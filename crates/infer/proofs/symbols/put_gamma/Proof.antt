@@ -1,56 +1,24 @@
 -- `infer::symbols::put_gamma` meets its contract: the listed symbols, and the blank if it is not among them.
 use borrow.Author.Needs.{needs}
+use native.Mathlib.Omega.{arith}
 use Rattle.infer.proofs.AlphabetLaws.{gamma-put-room, gamma-has, gamma-lacks}
 use Rattle.infer.proofs.symbols.put_gamma.Statement.{statement}
 use Rattle.infer.proofs.symbols.put_gamma.Tie as tie
 
 ruleset laws = (needs, gamma-has)
 
-token-at-requires : tie.Need-token-at-requires
-token-at-requires c κs = search laws
-
-index-requires : tie.Need-index-requires
-index-requires c κs = search laws
-
-add-put-range : tie.Need-add-put-range
-add-put-range c = search laws
-
-put-range-requires : tie.Need-put-range-requires
-put-range-requires c κs = ?
-
-add-has-blank : tie.Need-add-has-blank
-add-has-blank c = search laws
-
-has-blank-requires : tie.Need-has-blank-requires
-has-blank-requires c κs = search laws
-
-same-length : tie.Need-same-length
-same-length c = search laws
-
-returns : tie.Need-returns
-returns c = ?
-
-symbol-requires : tie.Need-symbol-requires
-symbol-requires c κs = ?
-
-same-length-2 : tie.Need-same-length-2
-same-length-2 c = search laws
-
-returns-2 : tie.Need-returns-2
-returns-2 c = ?
-
 pub put-gamma-spec : {M : Type 1} → statement M
 put-gamma-spec =
     tie.close
     (tie.spec
-    token-at-requires
-    index-requires
-    add-put-range
-    put-range-requires
-    add-has-blank
-    has-blank-requires
-    same-length
-    returns
-    symbol-requires
-    same-length-2
-    returns-2)
+    (λ c κs. search laws)
+    (λ c κs. search laws)
+    (λ c. search laws)
+    (λ c κs. (c .before .before .before .before .before .pre .0, c .before .index .ensures .1, omega (arith, c .before .before .before .before .before .pre .2)))
+    (λ c. search laws)
+    (λ c κs. search laws)
+    (λ c. search laws)
+    (λ c. gamma-has _ _ _ _ _ (c .before .before .before .before .before .before .before .token-at .ensures) (c .before .before .before .before .before .before .index .ensures .0) _ _ _ _ (c .before .before .before .before .put-range .ensures) _ (c .before .has-blank .ensures) (c .if1 .taken))
+    (λ c κs. gamma-put-room _ _ _ _ _ (c .before .before .before .before .before .before .before .before .token-at .ensures) (c .before .before .before .before .before .before .before .index .ensures .0) _ _ _ _ (c .before .before .before .before .before .put-range .ensures) _ (c .before .before .has-blank .ensures) (c .before .before .before .before .before .before .before .before .before .before .before .pre .2) (c .before .before .before .before .before .before .before .index .ensures .1))
+    (λ c. search laws)
+    (λ c. gamma-lacks _ _ _ _ _ (c .before .before .before .before .before .before .before .before .before .before .before .token-at .ensures) (c .before .before .before .before .before .before .before .before .before .before .index .ensures .0) _ _ _ _ (c .before .before .before .before .before .before .before .before .put-range .ensures) _ (c .before .before .before .before .before .has-blank .ensures) _ _ (c .before .before .before .before .if1 .left) (c .before .before .symbol .ensures)))

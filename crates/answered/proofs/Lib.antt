@@ -1,0 +1,4 @@
+pub mod Few
+pub mod Bounds
+pub mod Sizes
+pub mod Sheets

@@ -1,0 +1,3 @@
+pub mod Tied
+pub mod Ready
+pub mod Sections

@@ -1,0 +1,6 @@
+pub mod NameMarks
+pub mod Firsts
+pub mod RuleLines
+pub mod StatesInferred
+pub mod RuleSymbols
+pub mod AlphabetsInferred

@@ -1,0 +1,3 @@
+pub mod Positions
+pub mod Listing
+pub mod Puts

@@ -1,0 +1,207 @@
+-- Laws of stored cases.
+use mathlib.Core.Path.{_≡_, refl, sym, ap, _∙_}
+use Prim.Native.Nat.{ℕ, suc, _+_, _-_, _*_, _/_, _≤_, _<_}
+use native.Mathlib.Omega.{arith}
+use native.Mathlib.Numerals.{add-one}
+use mathlib.Core.Bool.{Bool, true, false, cond, _&&_}
+use mathlib.Core.List.{List, [], _∷_, _++_, append-nil}
+use lib.Dec.{eqb, leb, ltb}
+use lib.ListN.{length, length-take, length-drop, getD, take, drop, drop-of-length-le}
+use lib.Seq.{drop-cons, getD-take, take-all}
+use borrow.Author.Tests.{eq-eqb, ne-eqb, le-leb, lt-leb, lt-ltb, le-ltb}
+use Rattle.language.specs.Outcome.{ReadOutcome, readOutcome, replyWords, replyNumber}
+use Rattle.lexer.proofs.Scans.{byTest}
+use Rattle.reader.specs.declared.Refusal.the-variants.{TextTooLong, WorkTooShort, InvalidUtf8, OutsideSet, LogTooShort, SheetTooShort}
+use Rattle.reader.specs.declared.Answer.{Answer}
+use Rattle.reader.specs.declared.Answer.the-variants.{Machine, Diagnostics, Refused}
+use Rattle.reader.specs.Answer.{replyIn, readIn, leavesWork}
+use Rattle.reader.specs.Reading.{leavesWorkNumber}
+use Rattle.replay.specs.Case.{wordAt, marked, wanted, leftFrom, left, rowsLeft, workLeft, agrees, caseAgrees}
+
+-- ---- a word
+module _ (c : List ℕ) (i : ℕ) where
+  pub word-in : (p q r s : ℕ) → i < length c / 4 → p ≡ getD c (4 * i) 0 → q ≡ getD c (4 * i + 1) 0 → r ≡ getD c (4 * i + 2) 0 → s ≡ getD c (4 * i + 3) 0 → p + 256 * q + 65536 * (r + 256 * s) ≡ wordAt c i
+  unfolding wordAt
+  word-in p q r s h e₁ e₂ e₃ e₄ = rw (lt-ltb i (length c / 4) h, e₁, e₂, e₃, e₄)
+
+  pub word-out : length c / 4 ≤ i → 0 ≡ wordAt c i
+  unfolding wordAt
+  word-out h = rw (le-ltb i (length c / 4) h)
+
+-- ---- a word that is to stand in a row
+module _ (before c : List ℕ) (from m i : ℕ) where
+  pub wanted-before : m ≡ 4294967295 → getD before i 0 ≡ wanted before c from m i
+  unfolding wanted
+  wanted-before e = rw (eq-eqb m 4294967295 e)
+
+  module _ (f : m ≡ 4294967295 → ⊥) (n : ℕ) (e : n ≡ m) where
+    pub wanted-stored : (w : ℕ) → i < n → w ≡ wordAt c (from + i) → w ≡ wanted before c from m i
+    unfolding wanted
+    wanted-stored w h q =
+        let k : i < m = omega arith in
+        rw (ne-eqb m 4294967295 f, lt-ltb i m k) q
+
+    pub wanted-none : n ≤ i → 0 ≡ wanted before c from m i
+    unfolding wanted
+    wanted-none h =
+        let k : m ≤ i = omega arith in
+        rw (ne-eqb m 4294967295 f, le-ltb i m k)
+
+-- ---- a row, from i on
+module _ (before c : List ℕ) (from m : ℕ) (row : List ℕ) where
+  pub left-short : (n : ℕ) → n ≡ marked m → length row < n → false ≡ left before c from m row
+  unfolding left
+  left-short n e h =
+      let k : length row < marked m = omega arith in
+      rw (lt-leb (marked m) (length row) k)
+
+  module _ (i : ℕ) (v : Bool) (inv : leftFrom before c from m i (drop i row) ≡ v) (h : i < length row) (w : ℕ) (e : w ≡ wanted before c from m i) where
+    parted : (eqb (getD row i 0) w && leftFrom before c from m (suc i) (drop (suc i) row)) ≡ v
+    unfolding leftFrom
+    parted = rw e (sym (ap (leftFrom before c from m i) (drop-cons row i 0 h)) ∙ inv)
+
+    pub left-on : getD row i 0 ≡ w → leftFrom before c from m (i + 1) (drop (i + 1) row) ≡ v
+    left-on q =
+        let p : (eqb (getD row i 0) w && leftFrom before c from m (suc i) (drop (suc i) row)) ≡ leftFrom before c from m (suc i) (drop (suc i) row) = rw (eq-eqb (getD row i 0) w q) in
+        rw add-one (sym p ∙ parted)
+
+    pub left-off : (n : ℕ) → n ≡ marked m → n ≤ length row → (getD row i 0 ≡ w → ⊥) → v ≡ leftFrom before c from m 0 row → false ≡ left before c from m row
+    unfolding left
+    left-off n q g f j =
+        let k : marked m ≤ length row = omega arith in
+        let p : (eqb (getD row i 0) w && leftFrom before c from m (suc i) (drop (suc i) row)) ≡ false = rw (ne-eqb (getD row i 0) w f) in
+        rw (le-leb (marked m) (length row) k) (sym p ∙ parted ∙ j)
+
+  pub left-end : (i : ℕ) → leftFrom before c from m i (drop i row) ≡ leftFrom before c from m 0 row → length row ≤ i → (n : ℕ) → n ≡ marked m → n ≤ length row → true ≡ left before c from m row
+  unfolding left leftFrom
+  left-end i inv h n q g =
+      let k : marked m ≤ length row = omega arith in
+      rw (le-leb (marked m) (length row) k) (sym (ap (leftFrom before c from m i) (drop-of-length-le row h)) ∙ inv)
+
+-- ---- the rows of a case
+module _ (before c log sheet : List ℕ) (m : ℕ) (e : m ≡ wordAt c 6) where
+  pub rows-first : (v : Bool) → v ≡ left before c 48 m log → v ≡ false → false ≡ rowsLeft before c log sheet
+  unfolding rowsLeft
+  rows-first v q f = rw (← e, ← q, f)
+
+  pub rows-both : (v w : Bool) (n k : ℕ) → v ≡ left before c 48 m log → v ≡ true → n ≡ marked m → k ≡ wordAt c 7 → w ≡ left before c (48 + n) k sheet → w ≡ rowsLeft before c log sheet
+  unfolding rowsLeft
+  rows-both v w n k q t a b r = rw (← e, ← q, t, ← a, ← b) r
+
+-- ---- work
+module _ (n : ℕ) (before c work : List ℕ) where
+  pub work-first : (v : Bool) → n ≡ 1 → v ≡ left before c 0 4294967295 work → v ≡ workLeft n before c work
+  unfolding workLeft
+  work-first v e q = rw (eq-eqb n 1 e) q
+
+  pub work-second : (v : Bool) → (n ≡ 1 → ⊥) → n ≡ 2 → v ≡ left before c 0 4294967295 work → v ≡ workLeft n before c work
+  unfolding workLeft
+  work-second v f e q = rw (ne-eqb n 1 f, eq-eqb n 2 e) q
+
+  pub work-free : (n ≡ 1 → ⊥) → (n ≡ 2 → ⊥) → true ≡ workLeft n before c work
+  unfolding workLeft
+  work-free f g = rw (ne-eqb n 1 f, ne-eqb n 2 g)
+
+-- ---- a row filled with the front of another
+pub copied : (before row row′ : List ℕ) → row′ ≡ take (length row) before ++ drop (length row) row → row′ ≡ take (length row) before
+copied before row row′ e =
+    let n : length row ≤ length row = omega arith in
+    e ∙ rw (drop-of-length-le row n, append-nil)
+
+pub fronted : (before w : List ℕ) (n : ℕ) → n ≤ length before → w ≡ take n before → w ≡ take (length w) before
+fronted before w n h e =
+    let k : length w ≡ n = ap length e ∙ simp length-take (omega arith) in
+    rw k e
+
+pub soiled-read : (before c text work work′ log log′ sheet sheet′ : List ℕ) (r : Bool) → length work ≤ length before → work′ ≡ take (length work) before → log′ ≡ take (length log) before → sheet′ ≡ take (length sheet) before → r ≡ agrees before c (readOutcome text (length work′) log′ sheet′) → r ≡ agrees before c (readOutcome text (length work) (take (length log) before) (take (length sheet) before))
+soiled-read before c text work work′ log log′ sheet sheet′ r h ew el es q =
+    let k : length work′ ≡ length work = ap length ew ∙ simp length-take (omega arith) in
+    rw (k, el, es) at q
+
+-- ---- an answer
+pub leaves : (a : Answer) → leavesWorkNumber (replyNumber (replyIn a)) ≡ true → leavesWork a ≡ true
+leaves (Machine h) e = e
+leaves (Diagnostics n) e = e
+leaves (Refused TextTooLong) e = refl
+leaves (Refused WorkTooShort) e = refl
+leaves (Refused (InvalidUtf8 n)) e = e
+leaves (Refused (OutsideSet n)) e = e
+leaves (Refused (LogTooShort n)) e = e
+leaves (Refused (SheetTooShort n)) e = e
+
+-- a row whose words are those that are to stand there
+left-all : (before c : List ℕ) (from m i : ℕ) (row : List ℕ) → ((j : ℕ) → j < length row → getD row j 0 ≡ wanted before c from m (i + j)) → leftFrom before c from m i row ≡ true
+unfolding leftFrom
+left-all before c from m i [] f = refl
+left-all before c from m i (x ∷ xs) f =
+    let z : i + 0 ≡ i = omega arith in
+    let p : x ≡ wanted before c from m i = rw z at (f 0 (omega arith)) in
+    let rest = left-all before c from m (suc i) xs (λ j h.
+    let s : i + suc j ≡ suc i + j = omega arith in
+    rw s at (f (suc j) (omega arith))) in
+    rw (eq-eqb x (wanted before c from m i) p) rest
+
+-- what stands before a call is untouched
+untouched : (before c work : List ℕ) → work ≡ take (length work) before → left before c 0 4294967295 work ≡ true
+unfolding left
+untouched before c work e =
+    rw (le-leb 0 (length work) (omega arith)) (left-all before c 0 4294967295 0 work (λ j h.
+    let z : 0 + j ≡ j = omega arith in
+    rw z (ap (λ (r : List ℕ). getD r j 0) e ∙ getD-take (length work) before j 0 h ∙ wanted-before before c 0 4294967295 j refl)))
+
+module _ (before c : List ℕ) (a : Answer) (row log sheet : List ℕ) (o : ReadOutcome) (q : row ≡ replyWords (replyIn a)) (e : readIn a log sheet ≡ o) (u : Bool) (eu : u ≡ left before c 9 36 row) where
+  answer-of : u ≡ left before c 9 36 (replyWords (o .reply))
+  answer-of = eu ∙ ap (left before c 9 36) q ∙ ap (λ (x : ReadOutcome). left before c 9 36 (replyWords (x .reply))) e
+
+  pub agrees-answer : u ≡ false → false ≡ agrees before c o
+  unfolding agrees
+  agrees-answer f = rw (← answer-of, f)
+
+  module _ (t : u ≡ true) (v : Bool) (ev : v ≡ rowsLeft before c log sheet) where
+    rows-of : v ≡ agrees before c o
+    unfolding agrees
+    rows-of = rw (← answer-of, t) (ev ∙ ap (λ (x : ReadOutcome). rowsLeft before c (x .log) (x .sheet)) e)
+
+    pub agrees-rows : v ≡ false → false ≡ agrees before c o
+    agrees-rows f = sym f ∙ rows-of
+
+    pub agrees-work : v ≡ true → (w : Bool) (n : ℕ) (work work′ : List ℕ) → w ≡ workLeft n before c work′ → n ≡ getD row 0 0 → (leavesWork a ≡ true → work′ ≡ work) → work ≡ take (length work) before → w ≡ agrees before c o
+    unfolding workLeft replyWords
+    agrees-work p w n work work′ ew en f d =
+        let m : n ≡ replyNumber (replyIn a) = en ∙ ap (λ (r : List ℕ). getD r 0 0) q in
+        let k : w ≡ true = ew ∙ byTest (leavesWorkNumber n)
+        (λ y. rw y (rw (f (leaves a (rw m at y))) (untouched before c work d)))
+        (λ y. rw y) in
+        k ∙ sym p ∙ rows-of
+
+-- ---- a case
+text-part : (c : List ℕ) (n : ℕ) → n ≤ length c → take (length c - (length c - n)) (drop (length c - n) c) ≡ drop (length c - n) c
+text-part c n h = take-all (length c - (length c - n)) (drop (length c - n) c) (simp length-drop (omega arith))
+
+module _ (before c : List ℕ) (w l s n : ℕ) (ew : w ≡ wordAt c 2) (el : l ≡ wordAt c 3) (es : s ≡ wordAt c 4) (en : n ≡ wordAt c 1) where
+  pub case-work : 40960 < w → false ≡ caseAgrees before c
+  unfolding caseAgrees
+  case-work h = rw (← ew, lt-ltb 40960 w h)
+
+  module _ (hw : w ≤ 40960) where
+    pub case-log : 16384 < l → false ≡ caseAgrees before c
+    unfolding caseAgrees
+    case-log h = rw (← ew, ← el, le-ltb 40960 w hw, lt-ltb 16384 l h)
+
+    module _ (hl : l ≤ 16384) where
+      pub case-sheet : 16384 < s → false ≡ caseAgrees before c
+      unfolding caseAgrees
+      case-sheet h = rw (← ew, ← el, ← es, le-ltb 40960 w hw, le-ltb 16384 l hl, lt-ltb 16384 s h)
+
+      module _ (hs : s ≤ 16384) where
+        pub case-text : length c < n → false ≡ caseAgrees before c
+        unfolding caseAgrees
+        case-text h = rw (← ew, ← el, ← es, ← en, le-ltb 40960 w hw, le-ltb 16384 l hl, le-ltb 16384 s hs, lt-ltb (length c) n h)
+
+        pub case-read : n ≤ length c → (r : Bool) (work log sheet : List ℕ) → r ≡ agrees before c (readOutcome (take (length c - (length c - n)) (drop (length c - n) c)) (length (take w work)) (take (length (take l log)) before) (take (length (take s sheet)) before)) → w ≤ length work → l ≤ length log → s ≤ length sheet → r ≡ caseAgrees before c
+        unfolding caseAgrees
+        case-read h r work log sheet q a b d =
+            let a′ : length (take w work) ≡ w = simp length-take (omega arith) in
+            let b′ : length (take l log) ≡ l = simp length-take (omega arith) in
+            let d′ : length (take s sheet) ≡ s = simp length-take (omega arith) in
+            rw (← ew, ← el, ← es, ← en, le-ltb 40960 w hw, le-ltb 16384 l hl, le-ltb 16384 s hs, le-ltb (length c) n h) (rw (text-part c n h, a′, b′, d′) at q)
