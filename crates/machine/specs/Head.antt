@@ -44,13 +44,6 @@ declaredOf d = record { states = d .states; «input_alphabet» = d .inputAlphabe
 abbrev pub countsOf : L.Counts → Counts
 countsOf n = record { states = n .states; sigma = n .sigma; gamma = n .gamma; finals = n .finals; header = n .header; trailing = n .trailing; rules = n .rules }
 
--- the definition's place and section counts, from the code's
-abbrev pub spanIn : Span → T.Span
-spanIn p = record { start = p .start; end = p .end }
-
-abbrev pub countsIn : Counts → L.Counts
-countsIn n = record { states = n .states; sigma = n .sigma; gamma = n .gamma; finals = n .finals; header = n .header; trailing = n .trailing; rules = n .rules }
-
 -- the head
 unfoldable pub headOf : L.Head → Head
 headOf h = record {
