@@ -1,14 +1,10 @@
 -- Rules: the words of a record give what the rule's content gives, and records are taken one after the other.
 use mathlib.Core.Path.{_≡_, refl, sym, ap, ap₂, subst, _∙_}
-use Prim.Native.Nat.{ℕ, suc, _+_, _-_, _*_, _≤_, _<_, min}
-use native.Mathlib.Omega.{arith}
-use mathlib.Core.Logic.{_⊎_, inl, inr}
+use Prim.Native.Nat.{ℕ, _+_, _-_, _*_, _≤_, _<_, min}
 use mathlib.Core.Bool.{true}
 use mathlib.Core.List.{List, [], _∷_, map, map-map}
-use lib.ListN.{length, getD, take, drop, drop-of-length-le}
-use lib.Seq.{getD-drop, drop-drop}
+use lib.ListN.{length, getD, take, drop}
 use Rattle.chars.specs.Utf8.{scalars, encode}
-use Rattle.chars.proofs.Tests.{lt-or-ge}
 use Rattle.lexer.specs.Tokens.{Span}
 use Rattle.language.specs.Content.{ActionContent}
 use Rattle.language.specs.Plain.{Piece, say, end, each, commas, verbatim, symbol, direction, commentLine, ownComment, rule, ruleLines}
@@ -20,6 +16,7 @@ use Rattle.pieces.specs.Writes.{Adds, Writes}
 use Rattle.form.specs.Rules.{ruleLeft, ruleRight}
 use Rattle.lists.specs.Places.{Every, Utf8At, NameIn, column}
 use Rattle.form.specs.WellFormed.{RuleFormed}
+use Rattle.sheet_words.proofs.Records.{recordsLeft, records-all, records-none, records-next}
 use Rattle.pieces.proofs.Chain.{known, same, _▹_, Goes, goes-start, goes-on, goes-end}
 
 -- ---- the members of a list by a function of each
@@ -101,57 +98,33 @@ module _ (text ws : List ℕ) where
 
 -- ---- rules one after the other
 
--- the records from the i-th of n on, whose words begin at j
-pub recordsLeft : ℕ → ℕ → ℕ → List ℕ → List (List ℕ)
-recordsLeft n i j ws = records (n - i) (drop j ws)
-
 -- what is left of them is well formed
 pub record Formed (text : List ℕ) (n i j : ℕ) (ws : List ℕ) : Type 0 where
   pub formed : Every (RuleFormed text) (recordsLeft n i j ws)
 
-drop-least : (l : List ℕ) (a m : ℕ) → m ≡ min a (length l) → drop m l ≡ drop a l
-drop-least l a m e = go (lt-or-ge a (length l))
-  where
-    go : (a < length l) ⊎ (length l ≤ a) → drop m l ≡ drop a l
-    go (inl h) = let p : m ≡ a = omega arith in ap (λ k. drop k l) p
-    go (inr h) = let p : length l ≤ m = omega arith in drop-of-length-le l p ∙ sym (drop-of-length-le l h)
-
 module _ (text : List ℕ) (n : ℕ) (ws : List ℕ) where
-  records-all : recordsLeft n 0 0 ws ≡ records n ws
-  unfolding recordsLeft
-  records-all = let e : n - 0 ≡ n = omega arith in rw e
-
   pub formed-all : Every (RuleFormed text) (records n ws) → Formed text n 0 0 ws
-  formed-all h = record { formed = subst (Every (RuleFormed text)) (sym records-all) h }
+  formed-all h = record { formed = subst (Every (RuleFormed text)) (sym (records-all n ws)) h }
 
   pub rules-start : (o : Output) → Goes (each ruleLines (map (ruleIn text) (recordsLeft n 0 0 ws))) o (each ruleLines (map (ruleIn text) (records n ws))) o
-  rules-start o = goes-start (λ rest. ap (λ l. each ruleLines (map (ruleIn text) l) rest) records-all)
+  rules-start o = goes-start (λ rest. ap (λ l. each ruleLines (map (ruleIn text) l) rest) (records-all n ws))
 
   pub rules-end : (i j : ℕ) (o : Output) (p₀ : Piece) (o₀ : Output) → n ≤ i → Goes (each ruleLines (map (ruleIn text) (recordsLeft n i j ws))) o p₀ o₀ → Writes p₀ o₀ o
-  unfolding recordsLeft records each
-  rules-end i j o p₀ o₀ h g = let e : n - i ≡ 0 = omega arith in goes-end (λ rest. rw e) g
+  unfolding each
+  rules-end i j o p₀ o₀ h g = goes-end (λ rest. ap (λ l. each ruleLines (map (ruleIn text) l) rest) (records-none n i j ws h)) g
 
   module _ (i j : ℕ) (h : i < n) (r : List ℕ) (e : r ≡ take (getD ws j 0) (drop j ws)) where
-    records-next : (k j′ : ℕ) → k ≡ getD ws j 0 → j′ ≡ min (j + k) (length ws) → recordsLeft n i j ws ≡ r ∷ recordsLeft n (i + 1) j′ ws
-    unfolding recordsLeft records
-    records-next k j′ p q =
-        let s : n - i ≡ suc (n - (i + 1)) = omega arith in
-        let z : j + 0 ≡ j = omega arith in
-        let w : getD (drop j ws) 0 0 ≡ getD ws j 0 = getD-drop j ws 0 0 ∙ ap (λ m. getD ws m 0) z in
-        let d : drop (getD ws j 0) (drop j ws) ≡ drop j′ ws = ap (λ m. drop m (drop j ws)) (sym p) ∙ drop-drop k j ws ∙ sym (drop-least ws (j + k) j′ q) in
-        rw (s, w, d, ← e)
-
     first : recordsLeft n i j ws ≡ r ∷ recordsLeft n (i + 1) (min (j + getD ws j 0) (length ws)) ws
-    first = records-next (getD ws j 0) (min (j + getD ws j 0) (length ws)) refl refl
+    first = records-next n i j ws h r e (getD ws j 0) (min (j + getD ws j 0) (length ws)) refl refl
 
     pub formed-here : Formed text n i j ws → RuleFormed text r
     formed-here f = subst (Every (RuleFormed text)) first (f .formed) .0
 
     module _ (k j′ : ℕ) (p : k ≡ getD ws j 0) (q : j′ ≡ min (j + k) (length ws)) where
       pub formed-next : Formed text n i j ws → Formed text n (i + 1) j′ ws
-      formed-next f = record { formed = subst (Every (RuleFormed text)) (records-next k j′ p q) (f .formed) .1 }
+      formed-next f = record { formed = subst (Every (RuleFormed text)) (records-next n i j ws h r e k j′ p q) (f .formed) .1 }
 
       pub rules-on : (o a : Output) (p₀ : Piece) (o₀ : Output) → Goes (each ruleLines (map (ruleIn text) (recordsLeft n i j ws))) o p₀ o₀ → Writes (ruleLines (ruleIn text r)) o a
           → Goes (each ruleLines (map (ruleIn text) (recordsLeft n (i + 1) j′ ws))) a p₀ o₀
       unfolding each
-      rules-on o a p₀ o₀ g w = goes-on (λ rest. ap (λ l. each ruleLines (map (ruleIn text) l) rest) (records-next k j′ p q)) g w
+      rules-on o a p₀ o₀ g w = goes-on (λ rest. ap (λ l. each ruleLines (map (ruleIn text) l) rest) (records-next n i j ws h r e k j′ p q)) g w

@@ -1,17 +1,14 @@
 // The plain form of a machine (paper 01), from the head, the sheet and the text that a reading call answered with.
 // Each function appends one piece of the form to a lent output, as crate `emit` does: stored where there is room, counted in any case.
-use lists::after;
 use lists::comment_lines;
 use lists::directions;
 use lists::final_names;
 use lists::names;
 use lists::own_comment;
 use lists::place_at;
-use lists::record_at;
 use lists::string;
 use lists::symbols;
 use lists::verbatim;
-use lists::word;
 use machine::BitOrder;
 use machine::Decoder;
 use machine::Head;
@@ -20,6 +17,9 @@ use machine::Span;
 use pieces::character;
 use pieces::say;
 use pieces::symbol;
+use sheet_words::after;
+use sheet_words::record_at;
+use sheet_words::word;
 ghost use mathlib.Core.Bool.{true};
 ghost use mathlib.Core.Path.{_≡_};
 ghost use mathlib.Core.List.{map};

@@ -19,7 +19,8 @@ use Rattle.lists.specs.Finals.{FinalWritten}
 use Rattle.lists.specs.Places.{Every, Utf8At, NameIn}
 use Rattle.pieces.proofs.Chain.{_▹_, Goes, goes-start, goes-on, goes-end}
 use Rattle.pieces.proofs.Chain as C
-use Rattle.lists.proofs.Lists.{left, left-all, left-next, left-none, word-in, place-in, more, more-start, more-next, more-none, Names}
+use Rattle.sheet_words.proofs.Records.{left, left-all, left-next, left-none, word-in}
+use Rattle.lists.proofs.Lists.{place-in, more, more-start, more-next, more-none, Names}
 
 -- ---- one state
 

@@ -7,7 +7,6 @@ use mathlib.Core.Bool.{true}
 use mathlib.Core.List.{List, [], _∷_, map}
 use lib.Dec.{ltb}
 use lib.ListN.{getD, take, drop}
-use lib.Seq.{getD-take, getD-drop, drop-drop}
 use borrow.Author.Tests.{lt-ltb}
 use Rattle.chars.specs.Utf8.{scalar, scalars, encode}
 use Rattle.chars.proofs.Tests.{and-both}
@@ -19,32 +18,12 @@ use Rattle.machine.specs.Head.{spanOf, spanIn}
 use Rattle.emit.specs.Output.{Output}
 use Rattle.pieces.specs.Writes.{Adds, Writes}
 use Rattle.lists.specs.Places.{Every, Utf8At, NameIn, column}
+use Rattle.sheet_words.proofs.Records.{left, left-all, left-next, left-none, word-in}
 use Rattle.pieces.proofs.Chain.{known, _▹_, Goes, goes-start, goes-on, goes-end}
 
 -- ---- records that are left
 
--- the records from the i-th of n on, whose words begin at j
-pub left : ℕ → ℕ → ℕ → ℕ → List ℕ → List (List ℕ)
-left k n i j ws = groups k (n - i) (drop j ws)
-
-pub left-all : (k n : ℕ) (ws : List ℕ) → left k n 0 0 ws ≡ groups k n ws
-unfolding left
-left-all k n ws = let e : n - 0 ≡ n = omega arith in rw e
-
-pub left-next : (k n i j : ℕ) (ws : List ℕ) → i < n → left k n i j ws ≡ take k (drop j ws) ∷ left k n (i + 1) (j + k) ws
-unfolding left groups
-left-next k n i j ws h =
-    let e : n - i ≡ suc (n - (i + 1)) = omega arith in
-    rw (e, drop-drop k j ws)
-
-pub left-none : (k n i j : ℕ) (ws : List ℕ) → n ≤ i → left k n i j ws ≡ []
-unfolding left groups
-left-none k n i j ws h = let e : n - i ≡ 0 = omega arith in rw e
-
--- a word of the record at j
-pub word-in : (k j o : ℕ) (ws : List ℕ) → o < k → getD (take k (drop j ws)) o 0 ≡ getD ws (j + o) 0
-word-in k j o ws h = getD-take k (drop j ws) o 0 h ∙ getD-drop j ws o 0
-
+-- the place that a record begins with
 pub place-in : (k j : ℕ) (ws : List ℕ) → 1 < k → placeAt (take k (drop j ws)) 0 ≡ placeAt ws j
 place-in k j ws h =
     let e : j + 0 ≡ j = omega arith in

@@ -5,12 +5,13 @@ use pieces::comma;
 use pieces::say;
 use pieces::string_text;
 use pieces::symbol;
+use sheet_words::word;
 ghost use mathlib.Core.Bool.{true, _&&_};
 ghost use mathlib.Core.Path.{_≡_};
 ghost use mathlib.Core.List.{map};
 ghost use Prim.Native.Nat.{_+_, _<_, _≤_};
 ghost use lib.Dec.{eqb};
-ghost use lib.ListN.{getD, take, drop};
+ghost use lib.ListN.{getD};
 ghost use Rattle.chars.specs.Utf8.{scalars};
 ghost use Rattle.language.specs.Plain.{each, commas, verbatim, symbol, direction, string, commentLine, comment, ownComment, finalNames};
 ghost use Rattle.language.specs.Agreement.{groups, placeAt, dirOf, charactersAt, stringAt, commentAt, stateIn, textIn};
@@ -23,13 +24,6 @@ ghost use Rattle.lists.specs.Finals.{FinalWritten};
 
 // ---- parts of the sheet and of the text
 
-// The word at an index, 0 past the end.
-pub fn word(words: &[u32], i: usize) -> u32
-    ensures { λ r. ⌜ r ≡ getD (now (words .entry)) i 0 ⌝ }
-{
-    if i < words.len() { words[i] } else { 0 }
-}
-
 // The place that stands in two words.
 pub fn place_at(words: &[u32], i: usize) -> Span
     requires { ⌜ i + 1 < 18446744073709551616 ⌝ }
@@ -39,25 +33,6 @@ pub fn place_at(words: &[u32], i: usize) -> Span
         start: word(words, i),
         end: word(words, i + 1),
     }
-}
-
-// The words behind the first n.
-pub fn after(words: &[u32], n: usize) -> &[u32]
-    ensures { λ r. ⌜ now r ≡ drop n (now (words .entry)) ⌝ }
-{
-    let m = emit::least(n, words.len());
-    &words[m..]
-}
-
-// The record that begins at an index with its length.
-pub fn record_at(words: &[u32], i: usize) -> &[u32]
-    requires { ⌜ i + 4294967296 < 18446744073709551616 ⌝ }
-    ensures { λ r. ⌜ now r ≡ take (getD (now (words .entry)) i 0) (drop i (now (words .entry))) ⌝ }
-{
-    let n = word(words, i) as usize;
-    let e = emit::least(i + n, words.len());
-    let s = emit::least(i, e);
-    &words[s..e]
 }
 
 // The bytes at a place.

@@ -7,7 +7,8 @@ use Rattle.language.specs.Agreement.{records, ruleIn}
 use Rattle.language.specs.Plain.{each, ruleLines}
 use Rattle.emit.specs.Output.{output}
 use Rattle.pieces.proofs.Chain.{Goes}
-use Rattle.form.proofs.RuleWords.{recordsLeft, Formed, formed-all, formed-here, formed-next, rules-start, rules-on, rules-end}
+use Rattle.sheet_words.proofs.Records.{recordsLeft}
+use Rattle.form.proofs.RuleWords.{Formed, formed-all, formed-here, formed-next, rules-start, rules-on, rules-end}
 use borrow.Author.Needs.{needs}
 use Rattle.form.proofs.rules.Statement.{statement}
 use Rattle.form.proofs.rules.Tie as tie

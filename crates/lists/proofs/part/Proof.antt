@@ -1,6 +1,6 @@
 -- `lists::part` meets its contract: a place cut to the text holds the same bytes.
 use borrow.Author.Needs.{needs}
-use Rattle.lists.proofs.Parts.{part-cut}
+use Rattle.sheet_words.proofs.Parts.{part-cut}
 use Rattle.lists.proofs.part.Statement.{statement}
 use Rattle.lists.proofs.part.Tie as tie
 
