@@ -3,3 +3,4 @@ pub mod Chain
 pub mod Lists
 pub mod Offsets
 pub mod Lines
+pub mod Alone

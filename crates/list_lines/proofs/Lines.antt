@@ -1,17 +1,17 @@
 -- Lines: their pieces stand one after the other.
-use mathlib.Core.Path.{_≡_, refl, sym, ap, ap₂, subst, _∙_}
-use Prim.Native.Nat.{ℕ, suc, _+_, _-_, _*_, _/_, _≤_, _<_, min}
+use mathlib.Core.Path.{_≡_, sym, ap, _∙_}
+use Prim.Native.Nat.{ℕ, _+_, _-_, _*_, _/_, _≤_, _<_, min}
 use native.Mathlib.Omega.{arith}
 use mathlib.Core.Bool.{Bool, true, false, _&&_, _||_}
-use mathlib.Core.List.{List, [], _∷_, map}
+use mathlib.Core.List.{List, [], _∷_}
 use lib.Dec.{eqb}
 use lib.ListN.{length, getD, take, drop}
 use borrow.Author.Tests.{eq-eqb, ne-eqb}
 use Rattle.lexer.specs.Tokens.{Span, span}
 use Rattle.lexer.specs.Places.{part}
 use Rattle.language.specs.Layout.{Counts}
-use Rattle.language.specs.Plain.{Piece, _⨾_, say, end, each, verbatim}
-use Rattle.language.specs.Agreement.{groups, records, placeAt}
+use Rattle.language.specs.Plain.{Piece, _⨾_, say, each, verbatim}
+use Rattle.language.specs.Agreement.{groups, records}
 use Rattle.sheet_words.proofs.Records.{left, left-all, left-next, left-none, recordsLeft, records-all, records-none, records-next}
 use Rattle.emit.specs.Output.{Output}
 use Rattle.list_lines.specs.declared.Position.{Position}

@@ -1,17 +1,17 @@
 -- Lists: the members that are left of a section's records, and what is still to be printed of them.
 use mathlib.Core.Path.{_≡_, refl, sym, ap, ap₂, subst, _∙_}
-use Prim.Native.Nat.{ℕ, zero, suc, _+_, _-_, _≤_, _<_}
+use Prim.Native.Nat.{ℕ, zero, suc, _+_, _≤_, _<_}
 use native.Mathlib.Omega.{arith}
 use native.Mathlib.Numerals.{add-one}
 use mathlib.Core.Bool.{Bool, true, false, _||_}
-use mathlib.Core.List.{List, [], _∷_, map}
+use mathlib.Core.List.{List, [], _∷_}
 use lib.Dec.{eqb, ltb}
-use lib.ListN.{length, getD, take, drop}
+use lib.ListN.{getD, take, drop}
 use borrow.Author.Tests.{lt-ltb}
 use Rattle.lexer.specs.Tokens.{Span, span}
 use Rattle.language.specs.Layout.{flag}
-use Rattle.language.specs.Plain.{Piece, _⨾_, nothing, only, each, verbatim, direction}
-use Rattle.language.specs.Agreement.{groups, at, placeAt, dirOf}
+use Rattle.language.specs.Plain.{Piece, _⨾_, only, each, verbatim, direction}
+use Rattle.language.specs.Agreement.{groups, placeAt, dirOf}
 use Rattle.sheet_words.proofs.Records.{left, left-all, left-next, left-none, word-in}
 use Rattle.emit.specs.Output.{Output}
 use Rattle.list_lines.specs.Listing.{number, named, parted, names, codes, moves}

@@ -3,7 +3,7 @@ use Prim.Native.Nat.{ℕ}
 use Prim.Native.String.{String}
 use mathlib.Core.List.{List, [], _∷_, map}
 use mathlib.Core.Path.{_≡_, refl}
-use lib.ListN.{length, replicate}
+use lib.ListN.{replicate}
 use Rattle.chars.specs.Utf8.{encode}
 use Rattle.lexer.specs.Text.{codes}
 use Rattle.language.specs.Outcome.{zeros}

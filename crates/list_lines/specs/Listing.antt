@@ -8,7 +8,7 @@ use lib.ListN.{length, drop}
 use Rattle.lexer.specs.Tokens.{Span}
 use Rattle.lexer.specs.Places.{part}
 use Rattle.language.specs.Layout.{Counts}
-use Rattle.language.specs.Outcome.{refusalNumber, refusalValue, Reply, machine, diagnosed, refused, ReadOutcome, readOutcome}
+use Rattle.language.specs.Outcome.{refusalNumber, refusalValue, machine, diagnosed, refused, ReadOutcome, readOutcome}
 use Rattle.language.specs.Agreement.{groups, records, at, placeAt, dirOf}
 use Rattle.language.specs.Plain.{Piece, _⨾_, nothing, say, verbatim, end, each, direction}
 use Rattle.emit.specs.Decimal.{digitsFrom}

@@ -1,10 +1,8 @@
 -- What is printed for an answer, whole.
-use mathlib.Core.Path.{_≡_, refl, sym, ap, _∙_}
+use mathlib.Core.Path.{_≡_, sym, _∙_}
 use Prim.Native.Nat.{ℕ, _<_, _≤_, min}
 use native.Mathlib.Omega.{arith}
-use mathlib.Core.Bool.{true, false}
 use mathlib.Core.List.{List, []}
-use lib.Dec.{ltb}
 use lib.ListN.{length, take, length-take}
 use borrow.Author.Tests.{lt-ltb, le-ltb}
 use Rattle.language.specs.Outcome.{ReadOutcome, readOutcome, replyNumber, replyValue}

@@ -1,13 +1,13 @@
 -- Records that are left of a section, taken one after the other.
-use mathlib.Core.Path.{_≡_, refl, sym, ap, _∙_}
-use Prim.Native.Nat.{ℕ, suc, _+_, _-_, _*_, _≤_, _<_, min}
+use mathlib.Core.Path.{_≡_, sym, ap, _∙_}
+use Prim.Native.Nat.{ℕ, suc, _+_, _-_, _≤_, _<_, min}
 use native.Mathlib.Omega.{arith}
 use mathlib.Core.Logic.{_⊎_, inl, inr}
 use mathlib.Core.List.{List, [], _∷_}
 use lib.ListN.{length, getD, take, drop, drop-of-length-le}
 use lib.Seq.{getD-take, getD-drop, drop-drop}
 use Rattle.chars.proofs.Tests.{lt-or-ge}
-use Rattle.language.specs.Agreement.{groups, records, placeAt}
+use Rattle.language.specs.Agreement.{groups, records}
 
 -- ---- records of k words
 

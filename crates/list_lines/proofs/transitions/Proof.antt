@@ -2,7 +2,7 @@
 use Rattle.list_lines.proofs.Chain.{Goes}
 use Rattle.list_lines.proofs.Lines.{rulesLeft, rules-start, rules-on, rules-end}
 use mathlib.Core.Path.{_≡_}
-use Prim.Native.Nat.{_-_, _*_, _≤_}
+use Prim.Native.Nat.{_-_, _≤_}
 use lib.ListN.{length}
 use Rattle.emit.specs.Output.{output}
 use Rattle.language.specs.Plain.{each}
