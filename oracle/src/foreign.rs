@@ -102,7 +102,7 @@ mod linked {
             output_len: usize,
             answer: *mut u32,
             answer_len: usize,
-        );
+        ) -> u32;
     }
 
     #[cfg(have_lexer)]
@@ -137,7 +137,7 @@ mod linked {
     pub fn write(text: &[u8], buffers: &mut Buffers) -> AnswerRow {
         let mut answer = DIRTY_ROW;
         // SAFETY: all slices are valid for their lengths, and don't overlap.
-        unsafe {
+        let number = unsafe {
             pevzoncs_write(
                 text.as_ptr(),
                 text.len(),
@@ -151,8 +151,9 @@ mod linked {
                 buffers.output.len(),
                 answer.as_mut_ptr(),
                 answer.len(),
-            );
-        }
+            )
+        };
+        assert_eq!(number, answer[0], "the number that pevzoncs_write answers");
         answer
     }
 }

@@ -1,4 +1,4 @@
--- The head by value, as the code has it, from the definition's.
+-- The head by value, as the code has it, from the definition's, and back.
 use Rattle.lexer.specs.declared.Span as T
 use Rattle.language.specs.Machine as M
 use Rattle.language.specs.Layout as L
@@ -57,4 +57,55 @@ headOf h = record {
   start = spanOf (h .start);
   map = record { kind = spanOf (h .kindPlace); input = spanOf (h .inputPlace); tapes = spanOf (h .tapesPlace); start = spanOf (h .startPlace); states = spanOf (h .statesPlace) };
   counts = countsOf (h .counts);
+}
+
+-- ---- and back
+
+-- a place
+abbrev pub spanIn : Span → T.Span
+spanIn p = record { start = p .start; end = p .end }
+
+-- the kind
+abbrev pub kindIn : Kind → M.Kind
+kindIn Acceptor = M.acceptor
+kindIn Transducer = M.transducer
+kindIn Enumerator = M.enumerator
+kindIn Beaver = M.beaver
+
+-- the order of bits
+abbrev pub orderIn : BitOrder → M.BitOrder
+orderIn Lsb = M.lsb
+orderIn Msb = M.msb
+
+-- the decoder
+abbrev pub decoderIn : Decoder → M.Decoder
+decoderIn Word = M.asWord
+decoderIn (Unary c) = M.asUnary c
+decoderIn (Binary o) = M.asBinary (orderIn o)
+
+-- the flags
+abbrev pub declaredIn : Declared → M.Declared
+declaredIn d = record { states = d .states; inputAlphabet = d .«input_alphabet»; tapeAlphabet = d .«tape_alphabet»; start = d .start; blank = d .blank }
+
+-- the section counts
+abbrev pub countsIn : Counts → L.Counts
+countsIn n = record { states = n .states; sigma = n .sigma; gamma = n .gamma; finals = n .finals; header = n .header; trailing = n .trailing; rules = n .rules }
+
+-- the head
+abbrev pub headIn : Head → L.Head
+headIn h = record {
+  name = spanIn (h .name);
+  input = spanIn (h .input);
+  kind = kindIn (h .kind);
+  output = decoderIn (h .output);
+  tapes = h .tapes;
+  blank = h .blank;
+  declared = declaredIn (h .declared);
+  start = spanIn (h .start);
+  kindPlace = spanIn (h .map .kind);
+  inputPlace = spanIn (h .map .input);
+  tapesPlace = spanIn (h .map .tapes);
+  startPlace = spanIn (h .map .start);
+  statesPlace = spanIn (h .map .states);
+  counts = countsIn (h .counts);
 }

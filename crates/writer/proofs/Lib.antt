@@ -1,9 +1,4 @@
-pub mod Parts
-pub mod Places
-pub mod Comments
-pub mod Lists
-pub mod Finals
-pub mod RuleWords
-pub mod HeadWords
-pub mod Form
-pub mod Shown
+pub mod AnswerWords
+pub mod Forms
+pub mod Calls
+pub mod Claim

@@ -1,4 +1,3 @@
-pub mod Answers
-pub mod Lists
-pub mod WellFormed
-pub mod Sections
+pub mod Answer
+pub mod Given
+pub mod Claim

@@ -1,521 +1,78 @@
-// The plain form of a machine (paper 01), from the head, the sheet and the text that a reading call answered with.
-// Each function appends one piece of the form to a lent output, as crate `emit` does: stored where there is room, counted in any case.
-use machine::BitOrder;
-use machine::Decoder;
-use machine::Head;
-use machine::Kind;
-use machine::Span;
-use pieces::character;
-use pieces::comma;
-use pieces::say;
-use pieces::string_text;
-use pieces::symbol;
-ghost use mathlib.Core.Bool.{true, _&&_};
+// Writing the plain form of a description: a text is read, and the form of its machine is put at the front of a lent output.
+ghost use mathlib.Core.Bool.{true};
 ghost use mathlib.Core.Path.{_≡_};
-ghost use mathlib.Core.List.{map};
-ghost use Prim.Native.Nat.{_+_, _<_, _≤_};
-ghost use lib.Dec.{eqb};
-ghost use lib.ListN.{getD, take, drop};
-ghost use Rattle.chars.specs.Utf8.{scalar, scalars, encode};
-ghost use Rattle.language.specs.Machine.{asBinary};
-ghost use Rattle.language.specs.Plain.{say, each, commas, verbatim, symbol, direction, string, decimal, commentLine, comment, ownComment, kindName, decoder, finalNames, ruleLines, plain};
-ghost use Rattle.language.specs.Agreement.{groups, records, placeAt, dirOf, charactersAt, stringAt, commentAt, stateIn, textIn, ruleIn, contentOfAnswer};
-ghost use Rattle.machine.specs.Head.{spanOf};
-ghost use Rattle.emit.specs.Output.{output, appended};
-ghost use Rattle.pieces.specs.Writes.{Writes};
-ghost use Rattle.pieces.specs.Strings.{Whole};
-ghost use Rattle.writer.specs.Answers.{spanIn, kindIn, orderIn, decoderIn, headIn, answer};
-ghost use Rattle.writer.specs.Lists.{FinalWritten, ruleLeft, ruleRight};
-ghost use Rattle.writer.specs.Sections.{headLines, statesLine, symbolsLine, blankLine, startLine, finalsLine, declaredLines};
-ghost use Rattle.writer.specs.WellFormed.{Every, bytesAt, Utf8At, NameIn, column, RuleFormed, DecoderFormed, HeadFormed, DeclaredFormed, WellFormed};
+ghost use lib.ListN.{length};
+ghost use Rattle.language.specs.Outcome.{ReadOutcome, formOf, writeForm, writeOutcome};
+ghost use Rattle.machine.specs.Head.{headIn};
+ghost use Rattle.reader.specs.Reading.{leavesWorkNumber};
+ghost use Rattle.formed.specs.Read.{ReadAs};
+ghost use Rattle.writer.specs.Answer.{writeReplyIn, writeIn, leavesWork};
+ghost use Rattle.writer.specs.Given.{given, givenBy};
+use machine::Head;
+use reader::Answer;
+use reader::Refusal;
 
-// ---- parts of the sheet and of the text
+pub mod words;
 
-// The word at an index, 0 past the end.
-fn word(words: &[u32], i: usize) -> u32
-    ensures { λ r. ⌜ r ≡ getD (now (words .entry)) i 0 ⌝ }
-{
-    if i < words.len() { words[i] } else { 0 }
+// The longest plain form.
+pub const MAX_BYTES: usize = 4_194_304;
+
+// What a writing call answers (paper 01, "What a call returns").
+pub enum WriteAnswer {
+    // The length of the form, which stands at the output's front.
+    Written(usize),
+    // The number of diagnostics.
+    Diagnostics(usize),
+    // What reading is refused for.
+    Refused(Refusal),
+    // The bytes that the form needs.
+    OutputTooShort(u64),
 }
 
-// The place that stands in two words.
-fn place_at(words: &[u32], i: usize) -> Span
-    requires { ⌜ i + 1 < 18446744073709551616 ⌝ }
-    ensures { λ r. ⌜ r ≡ spanOf (placeAt (now (words .entry)) i) ⌝ }
+// The form of the machine that a text was read as, at the front of the output if it is short enough: row 7, whatever reading left.
+fn write_form(head: Head, text: &[u8], sheet: &[u32], output: &mut [u8]) -> WriteAnswer
+    requires { ⌜ ReadAs (now text) (headIn head) (now sheet) ⌝ }
+    ensures { λ r. ⌜ ((x : ReadOutcome) → writeIn r (x .log) (x .sheet) (now (output .exit)) ≡ writeForm (formOf (now (text .entry))) x (now (output .entry))) ⌝ }
 {
-    Span {
-        start: word(words, i),
-        end: word(words, i + 1),
+    let n = form::plain_form(head, sheet, text, &mut output[..0]);
+    let room = emit::least(output.len(), MAX_BYTES);
+    if room < n {
+        return WriteAnswer::OutputTooShort(n as u64);
     }
+    let m = form::plain_form(head, sheet, text, &mut output[..n]);
+    WriteAnswer::Written(m)
 }
 
-// The words behind the first n.
-fn after(words: &[u32], n: usize) -> &[u32]
-    ensures { λ r. ⌜ now r ≡ drop n (now (words .entry)) ⌝ }
-{
-    let m = emit::least(n, words.len());
-    &words[m..]
-}
-
-// The record that begins at an index with its length.
-fn record_at(words: &[u32], i: usize) -> &[u32]
-    requires { ⌜ i + 4294967296 < 18446744073709551616 ⌝ }
-    ensures { λ r. ⌜ now r ≡ take (getD (now (words .entry)) i 0) (drop i (now (words .entry))) ⌝ }
-{
-    let n = word(words, i) as usize;
-    let e = emit::least(i + n, words.len());
-    let s = emit::least(i, e);
-    &words[s..e]
-}
-
-// The bytes at a place.
-fn part(text: &[u8], p: Span) -> &[u8]
-    ensures { λ r. ⌜ now r ≡ bytesAt (now (text .entry)) (spanIn p) ⌝ }
-{
-    let e = emit::least(p.end as usize, text.len());
-    let s = emit::least(p.start as usize, e);
-    &text[s..e]
-}
-
-// ---- characters
-
-// The characters at a place.
-fn verbatim(out: &mut [u8], at: usize, text: &[u8], p: Span) -> usize
-    requires { ⌜ Utf8At (now text) (spanIn p) ⌝ }
-    ensures { λ r. ⌜ Writes (verbatim (charactersAt (now (text .entry)) (spanIn p))) (output (now (out .entry)) at) (output (now (out .exit)) r) ⌝ }
-{
-    say(out, at, part(text, p))
-}
-
-// The string at a place, in quotes.
-fn string(out: &mut [u8], at: usize, text: &[u8], p: Span) -> usize
-    requires { ⌜ Whole (charactersAt (now text) (spanIn p)) ⌝ }
-    ensures { λ r. ⌜ Writes (string (stringAt (now (text .entry)) (spanIn p))) (output (now (out .entry)) at) (output (now (out .exit)) r) ⌝ }
-{
-    let a = say(out, at, b"\"");
-    let b = string_text(out, a, part(text, p));
-    say(out, b, b"\"")
-}
-
-// ---- comments
-
-// The comment at a place; a space parts the slashes from its text.
-fn comment(out: &mut [u8], at: usize, text: &[u8], p: Span) -> usize
-    requires { ⌜ Utf8At (now text) (spanIn p) ⌝ }
-    ensures { λ r. ⌜ Writes (comment (charactersAt (now (text .entry)) (spanIn p))) (output (now (out .entry)) at) (output (now (out .exit)) r) ⌝ }
-{
-    let t = part(text, p);
-    if t.len() == 0 {
-        return say(out, at, b"//");
-    }
-    let a = say(out, at, b"// ");
-    say(out, a, t)
-}
-
-// Whether a place says that there is none.
-fn is_none(p: Span) -> bool
-    ensures { λ r. ⌜ r ≡ (eqb (p .start) 4294967295 && eqb (p .end) 4294967295) ⌝ }
-{
-    if p.start == 0xffff_ffff {
-        return p.end == 0xffff_ffff;
-    }
-    false
-}
-
-// A rule's own comment, if it has one.
-fn own_comment(out: &mut [u8], at: usize, text: &[u8], p: Span) -> usize
-    requires { ⌜ Utf8At (now text) (spanIn p) ⌝ }
-    ensures { λ r. ⌜ Writes (ownComment (commentAt (now (text .entry)) (spanIn p))) (output (now (out .entry)) at) (output (now (out .exit)) r) ⌝ }
-{
-    if is_none(p) {
-        return at;
-    }
-    let a = say(out, at, b" ");
-    comment(out, a, text, p)
-}
-
-// n comments, each on a line of its own.
-fn comment_lines(out: &mut [u8], at: usize, text: &[u8], words: &[u32], n: u32) -> usize
-    requires { ⌜ Every (NameIn (now text)) (groups 2 n (now words)) ⌝ }
-    ensures { λ r. ⌜ Writes (each commentLine (map (textIn (now (text .entry))) (groups 2 n (now (words .entry))))) (output (now (out .entry)) at) (output (now (out .exit)) r) ⌝ }
-{
-    let mut end = at;
-    let mut i = 0;
-    let mut j = 0;
-    while i < n {
-        let a = comment(out, end, text, place_at(words, j));
-        end = say(out, a, b"\n");
-        i += 1;
-        j += 2;
-    }
-    end
-}
-
-// ---- lists
-
-// The names of n states.
-fn names(out: &mut [u8], at: usize, text: &[u8], words: &[u32], n: u32) -> usize
-    requires { ⌜ Every (NameIn (now text)) (groups 3 n (now words)) ⌝ }
-    ensures { λ r. ⌜ Writes (commas verbatim (map (textIn (now (text .entry))) (groups 3 n (now (words .entry))))) (output (now (out .entry)) at) (output (now (out .exit)) r) ⌝ }
-{
-    let mut end = at;
-    let mut i = 0;
-    let mut j = 0;
-    while i < n {
-        let a = comma(out, end, i);
-        end = verbatim(out, a, text, place_at(words, j));
-        i += 1;
-        j += 3;
-    }
-    end
-}
-
-// The symbols in word o of n records of k words.
-fn symbols(out: &mut [u8], at: usize, words: &[u32], k: usize, o: usize, n: u32) -> usize
-    requires { ⌜ (o < k) × (k ≤ 7) × (scalars (column k o n (now words)) ≡ true) ⌝ }
-    ensures { λ r. ⌜ Writes (commas symbol (column k o n (now (words .entry)))) (output (now (out .entry)) at) (output (now (out .exit)) r) ⌝ }
-{
-    let mut end = at;
-    let mut i = 0;
-    let mut j = 0;
-    while i < n {
-        let a = comma(out, end, i);
-        end = symbol(out, a, word(words, j + o));
-        i += 1;
-        j += k;
-    }
-    end
-}
-
-// The move of a head.
-fn direction(out: &mut [u8], at: usize, d: u32) -> usize
-    ensures { λ r. ⌜ Writes (direction (dirOf d)) (output (now (out .entry)) at) (output (now (out .exit)) r) ⌝ }
-{
-    match d {
-        0 => say(out, at, b"L"),
-        1 => say(out, at, b"R"),
-        _ => say(out, at, b"N"),
-    }
-}
-
-// The moves of n actions.
-fn directions(out: &mut [u8], at: usize, words: &[u32], n: u32) -> usize
-    ensures { λ r. ⌜ Writes (commas direction (map dirOf (column 7 6 n (now (words .entry))))) (output (now (out .entry)) at) (output (now (out .exit)) r) ⌝ }
-{
-    let mut end = at;
-    let mut i = 0;
-    let mut j = 0;
-    while i < n {
-        let a = comma(out, end, i);
-        end = direction(out, a, word(words, j + 6));
-        i += 1;
-        j += 7;
-    }
-    end
-}
-
-// How far an output is, and how many names of a list are written.
-struct Listed {
-    at: usize,
-    count: u32,
-}
-
-// The name of the state whose words begin at j, if it is final.
-fn final_name(out: &mut [u8], l: Listed, text: &[u8], words: &[u32], j: usize) -> Listed
-    requires { ⌜ (j + 2 < 18446744073709551616) × (l .count < 4294967295) × Utf8At (now text) (placeAt (now words) j) ⌝ }
-    ensures { λ r. ⌜ FinalWritten (eqb (getD (now (words .entry)) (j + 2) 0) 1) (charactersAt (now (text .entry)) (placeAt (now (words .entry)) j))
-        (output (now (out .entry)) (l .at)) (l .count) (output (now (out .exit)) (r .at)) (r .count) ⌝ }
-{
-    if word(words, j + 2) != 1 {
-        return l;
-    }
-    let a = comma(out, l.at, l.count);
-    let b = verbatim(out, a, text, place_at(words, j));
-    Listed {
-        at: b,
-        count: l.count + 1,
-    }
-}
-
-// The names of the final ones of n states.
-fn final_names(out: &mut [u8], at: usize, text: &[u8], words: &[u32], n: u32) -> usize
-    requires { ⌜ Every (NameIn (now text)) (groups 3 n (now words)) ⌝ }
-    ensures { λ r. ⌜ Writes (commas verbatim (finalNames (map (stateIn (now (text .entry))) (groups 3 n (now (words .entry)))))) (output (now (out .entry)) at) (output (now (out .exit)) r) ⌝ }
-{
-    let mut l = Listed { at, count: 0 };
-    let mut i = 0;
-    let mut j = 0;
-    while i < n {
-        l = final_name(out, l, text, words, j);
-        i += 1;
-        j += 3;
-    }
-    l.at
-}
-
-// ---- rules
-
-// From, and what is read: `δ(a, ('x'))`.
-fn rule_left(out: &mut [u8], at: usize, text: &[u8], words: &[u32]) -> usize
-    requires { ⌜ RuleFormed (now text) (now words) ⌝ }
-    ensures { λ r. ⌜ Writes (ruleLeft (ruleIn (now (text .entry)) (now (words .entry)))) (output (now (out .entry)) at) (output (now (out .exit)) r) ⌝ }
-{
-    let a = say(out, at, b"\xCE\xB4(");
-    let b = verbatim(out, a, text, place_at(words, 1));
-    let c = say(out, b, b", (");
-    let d = symbols(out, c, after(words, 11), 7, 0, word(words, 9));
-    say(out, d, b"))")
-}
-
-// To, what is written, and the moves: ` = (b, ('y'), (R))`.
-fn rule_right(out: &mut [u8], at: usize, text: &[u8], words: &[u32]) -> usize
-    requires { ⌜ RuleFormed (now text) (now words) ⌝ }
-    ensures { λ r. ⌜ Writes (ruleRight (ruleIn (now (text .entry)) (now (words .entry)))) (output (now (out .entry)) at) (output (now (out .exit)) r) ⌝ }
-{
-    let actions = after(words, 11);
-    let n = word(words, 9);
-    let a = say(out, at, b" = (");
-    let b = verbatim(out, a, text, place_at(words, 3));
-    let c = say(out, b, b", (");
-    let d = symbols(out, c, actions, 7, 3, n);
-    let e = say(out, d, b"), (");
-    let f = directions(out, e, actions, n);
-    say(out, f, b"))")
-}
-
-// A rule below its leading lines, from the words of its record.
-fn rule_lines(out: &mut [u8], at: usize, text: &[u8], words: &[u32]) -> usize
-    requires { ⌜ RuleFormed (now text) (now words) ⌝ }
-    ensures { λ r. ⌜ Writes (ruleLines (ruleIn (now (text .entry)) (now (words .entry)))) (output (now (out .entry)) at) (output (now (out .exit)) r) ⌝ }
-{
-    let behind = 11 + 7 * (word(words, 9) as usize);
-    let a = comment_lines(out, at, text, after(words, behind), word(words, 10));
-    let b = rule_left(out, a, text, words);
-    let c = rule_right(out, b, text, words);
-    let d = own_comment(out, c, text, place_at(words, 7));
-    say(out, d, b"\n")
-}
-
-// n rules, each of a record that begins with its length.
-fn rules(out: &mut [u8], at: usize, text: &[u8], words: &[u32], n: u32) -> usize
-    requires { ⌜ Every (RuleFormed (now text)) (records n (now words)) ⌝ }
-    ensures { λ r. ⌜ Writes (each ruleLines (map (ruleIn (now (text .entry))) (records n (now (words .entry))))) (output (now (out .entry)) at) (output (now (out .exit)) r) ⌝ }
-{
-    let mut end = at;
-    let mut i = 0;
-    let mut j = 0;
-    while i < n {
-        end = rule_lines(out, end, text, record_at(words, j));
-        j = emit::least(j + (word(words, j) as usize), words.len());
-        i += 1;
-    }
-    end
-}
-
-// ---- the lines before the rules
-
-// The number of tapes.
-fn number(out: &mut [u8], at: usize, n: u8) -> usize
-    ensures { λ r. ⌜ Writes (decimal n) (output (now (out .entry)) at) (output (now (out .exit)) r) ⌝ }
-{
-    emit::decimal(out, at, n as u64)
-}
-
-// The name of a kind.
-fn kind(out: &mut [u8], at: usize, k: Kind) -> usize
-    ensures { λ r. ⌜ Writes (say (kindName (kindIn k))) (output (now (out .entry)) at) (output (now (out .exit)) r) ⌝ }
-{
-    match k {
-        Kind::Acceptor => say(out, at, b"acceptor"),
-        Kind::Transducer => say(out, at, b"transducer"),
-        Kind::Enumerator => say(out, at, b"enumerator"),
-        Kind::Beaver => say(out, at, b"beaver"),
-    }
-}
-
-// The order of bits.
-fn bit_order(out: &mut [u8], at: usize, o: BitOrder) -> usize
-    ensures { λ r. ⌜ Writes (decoder (asBinary (orderIn o))) (output (now (out .entry)) at) (output (now (out .exit)) r) ⌝ }
-{
-    match o {
-        BitOrder::Lsb => say(out, at, b"binary lsb"),
-        BitOrder::Msb => say(out, at, b"binary msb"),
-    }
-}
-
-// How the output is read.
-fn decoder(out: &mut [u8], at: usize, d: Decoder) -> usize
-    requires { ⌜ DecoderFormed (decoderIn d) ⌝ }
-    ensures { λ r. ⌜ Writes (decoder (decoderIn d)) (output (now (out .entry)) at) (output (now (out .exit)) r) ⌝ }
-{
-    match d {
-        Decoder::Word => say(out, at, b"word"),
-        Decoder::Unary(c) => {
-            let a = say(out, at, b"unary ");
-            symbol(out, a, c)
-        }
-        Decoder::Binary(o) => bit_order(out, at, o),
-    }
-}
-
-// `machine`, `kind`, `input`, `output` and `tapes`.
-fn head_lines(out: &mut [u8], at: usize, text: &[u8], head: Head) -> usize
-    requires { ⌜ HeadFormed (now text) (headIn head) ⌝ }
-    ensures { λ r. ⌜ Writes (headLines (now (text .entry)) (headIn head)) (output (now (out .entry)) at) (output (now (out .exit)) r) ⌝ }
-{
-    let a = say(out, at, b"machine ");
-    let name = head.name;
-    let b = string(out, a, text, name);
-    let c = say(out, b, b"\nkind ");
-    let k = head.kind;
-    let d = kind(out, c, k);
-    let e = say(out, d, b"\ninput ");
-    let input = head.input;
-    let f = string(out, e, text, input);
-    let g = say(out, f, b"\noutput ");
-    let o = head.output;
-    let h = decoder(out, g, o);
-    let i = say(out, h, b"\ntapes = ");
-    let j = number(out, i, head.tapes);
-    say(out, j, b"\n")
-}
-
-// `Q`, if declared.
-fn states_line(
-    out: &mut [u8],
-    at: usize,
+// Writes the plain form of a text: answers its length; or the number of diagnostics, which the log holds; or a refusal.
+pub fn write(
     text: &[u8],
-    declared: bool,
-    n: u32,
-    words: &[u32],
-) -> usize
-    requires { ⌜ Every (NameIn (now text)) (groups 3 n (now words)) ⌝ }
-    ensures { λ r. ⌜ Writes (statesLine (now (text .entry)) declared n (now (words .entry))) (output (now (out .entry)) at) (output (now (out .exit)) r) ⌝ }
+    work: &mut [u32],
+    log: &mut [u32],
+    sheet: &mut [u32],
+    output: &mut [u8],
+) -> WriteAnswer
+    ensures { λ r. ⌜ (writeIn r (now (log .exit)) (now (sheet .exit)) (now (output .exit)) ≡ writeOutcome (now (text .entry)) (length (now (work .entry))) (now (log .entry)) (now (sheet .entry)) (now (output .entry))) × (leavesWork (writeReplyIn r) ≡ true → now (work .exit) ≡ now (work .entry)) ⌝ }
 {
-    if declared {
-        let a = say(out, at, b"Q = {");
-        let b = names(out, a, text, words, n);
-        return say(out, b, b"}\n");
+    let a = reader::read(text, work, log, sheet);
+    match a {
+        Answer::Machine(head) => write_form(head, text, sheet, output),
+        Answer::Diagnostics(n) => WriteAnswer::Diagnostics(n),
+        Answer::Refused(r) => WriteAnswer::Refused(r),
     }
-    at
 }
 
-// `Σ` or `Γ`, by its letter, if declared.
-fn symbols_line(
-    out: &mut [u8],
-    at: usize,
-    letter: u32,
-    declared: bool,
-    n: u32,
-    words: &[u32],
-) -> usize
-    requires { ⌜ (scalar letter ≡ true) × (declared ≡ true → scalars (column 3 0 n (now words)) ≡ true) ⌝ }
-    ensures { λ r. ⌜ Writes (symbolsLine letter declared n (now (words .entry))) (output (now (out .entry)) at) (output (now (out .exit)) r) ⌝ }
-{
-    if declared {
-        let a = character(out, at, letter);
-        let b = say(out, a, b" = {");
-        let c = symbols(out, b, words, 3, 0, n);
-        return say(out, c, b"}\n");
-    }
-    at
-}
-
-// `blank`, if declared.
-fn blank_line(out: &mut [u8], at: usize, declared: bool, c: u32) -> usize
-    requires { ⌜ scalar c ≡ true ⌝ }
-    ensures { λ r. ⌜ Writes (blankLine declared c) (output (now (out .entry)) at) (output (now (out .exit)) r) ⌝ }
-{
-    if declared {
-        let a = say(out, at, b"blank = ");
-        let b = symbol(out, a, c);
-        return say(out, b, b"\n");
-    }
-    at
-}
-
-// `start`, if declared.
-fn start_line(out: &mut [u8], at: usize, text: &[u8], declared: bool, p: Span) -> usize
-    requires { ⌜ Utf8At (now text) (spanIn p) ⌝ }
-    ensures { λ r. ⌜ Writes (startLine (now (text .entry)) declared (spanIn p)) (output (now (out .entry)) at) (output (now (out .exit)) r) ⌝ }
-{
-    if declared {
-        let a = say(out, at, b"start = ");
-        let b = verbatim(out, a, text, p);
-        return say(out, b, b"\n");
-    }
-    at
-}
-
-// `F`, which is always there.
-fn finals_line(out: &mut [u8], at: usize, text: &[u8], n: u32, words: &[u32]) -> usize
-    requires { ⌜ Every (NameIn (now text)) (groups 3 n (now words)) ⌝ }
-    ensures { λ r. ⌜ Writes (finalsLine (now (text .entry)) n (now (words .entry))) (output (now (out .entry)) at) (output (now (out .exit)) r) ⌝ }
-{
-    let a = say(out, at, b"F = {");
-    let b = final_names(out, a, text, words, n);
-    say(out, b, b"}\n")
-}
-
-// All that is said only if declared, and the final states.
-fn declared_lines(
-    out: &mut [u8],
-    at: usize,
+// The same for callers in other languages: the answer in 36 words, and its number.
+#[no_mangle]
+pub extern "C" fn pevzoncs_write(
     text: &[u8],
-    head: Head,
-    states: &[u32],
-    sigma: &[u32],
-    gamma: &[u32],
-) -> usize
-    requires { ⌜ DeclaredFormed (now text) (headIn head) (now states) (now sigma) (now gamma) ⌝ }
-    ensures { λ r. ⌜ Writes (declaredLines (now (text .entry)) (headIn head) (now (states .entry)) (now (sigma .entry)) (now (gamma .entry))) (output (now (out .entry)) at) (output (now (out .exit)) r) ⌝ }
+    work: &mut [u32],
+    log: &mut [u32],
+    sheet: &mut [u32],
+    output: &mut [u8],
+    answer: &mut [u32],
+) -> u32
+    ensures { λ n. ⌜ (given n (now (answer .exit)) (now (log .exit)) (now (sheet .exit)) (now (output .exit)) ≡ givenBy (writeOutcome (now (text .entry)) (length (now (work .entry))) (now (log .entry)) (now (sheet .entry)) (now (output .entry))) (now (answer .entry))) × (leavesWorkNumber n ≡ true → now (work .exit) ≡ now (work .entry)) ⌝ }
 {
-    let a = states_line(
-        out,
-        at,
-        text,
-        head.declared.states,
-        head.counts.states,
-        states,
-    );
-    let b = symbols_line(
-        out,
-        a,
-        0x3A3,
-        head.declared.input_alphabet,
-        head.counts.sigma,
-        sigma,
-    );
-    let c = symbols_line(
-        out,
-        b,
-        0x393,
-        head.declared.tape_alphabet,
-        head.counts.gamma,
-        gamma,
-    );
-    let d = blank_line(out, c, head.declared.blank, head.blank);
-    let p = head.start;
-    let e = start_line(out, d, text, head.declared.start, p);
-    finals_line(out, e, text, head.counts.states, states)
-}
-
-// ---- the whole form
-
-// The plain form of the machine that a reading call answered with, at the front of `out` as far as there is room; its length.
-pub fn plain_form(head: Head, sheet: &[u32], text: &[u8], out: &mut [u8]) -> usize
-    requires { ⌜ WellFormed (answer head (now sheet) (now text)) ⌝ }
-    ensures { λ r. ⌜ output (now (out .exit)) r ≡ appended (output (now (out .entry)) 0) (encode (plain (contentOfAnswer (answer head (now (sheet .entry)) (now (text .entry)))))) ⌝ }
-{
-    let n = head.counts;
-    let sigma = after(sheet, 3 * (n.states as usize));
-    let gamma = after(sigma, 3 * (n.sigma as usize));
-    let header = after(gamma, 3 * (n.gamma as usize) + 2 * (n.finals as usize));
-    let trailing = after(header, 2 * (n.header as usize));
-    let records = after(trailing, 2 * (n.trailing as usize));
-    let a = comment_lines(out, 0, text, header, n.header);
-    let b = head_lines(out, a, text, head);
-    let c = declared_lines(out, b, text, head, sheet, sigma, gamma);
-    let d = rules(out, c, text, records, n.rules);
-    comment_lines(out, d, text, trailing, n.trailing)
+    let a = write(text, work, log, sheet, output);
+    words::give(a, answer)
 }

@@ -1,0 +1,3 @@
+pub mod RuleWords
+pub mod HeadWords
+pub mod Form

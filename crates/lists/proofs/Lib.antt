@@ -1,0 +1,5 @@
+pub mod Parts
+pub mod Places
+pub mod Comments
+pub mod Lists
+pub mod Finals

@@ -1,0 +1,19 @@
+-- `lists::own_comment` meets its contract: the definition makes the same test.
+use borrow.Author.Needs.{needs}
+use Rattle.lists.proofs.Comments.{own-none, own-text}
+use Rattle.lists.proofs.own_comment.Statement.{statement}
+use Rattle.lists.proofs.own_comment.Tie as tie
+
+ruleset laws = (needs, own-none, own-text)
+
+pub own-comment-spec : {M : Type 1} → statement M
+own-comment-spec =
+    tie.close
+    (tie.spec
+    (λ c κs. search needs)
+    (λ c. search laws)
+    (λ c. search needs)
+    (λ c κs. search needs)
+    (λ c κs. search needs)
+    (λ c. search needs)
+    (λ c. search laws))
