@@ -16,7 +16,7 @@ use Rattle.reader.specs.declared.Answer.{Answer}
 use Rattle.reader.specs.declared.Answer.the-variants.{Machine, Diagnostics, Refused}
 use Rattle.reader.specs.Answer.{replyIn, readIn, leavesWork}
 use Rattle.reader.specs.Reading.{leavesWorkNumber}
-use Rattle.replay.specs.Case.{wordAt, marked, wanted, leftFrom, left, rowsLeft, workLeft, agrees, caseAgrees}
+use Rattle.replay.specs.Case.{wordAt, marked, wanted, leftFrom, left, rowsLeft, workLeft, agrees, readingAgrees}
 
 -- ---- a word
 module _ (c : List ℕ) (i : ℕ) where
@@ -179,27 +179,27 @@ text-part : (c : List ℕ) (n : ℕ) → n ≤ length c → take (length c - (le
 text-part c n h = take-all (length c - (length c - n)) (drop (length c - n) c) (simp length-drop (omega arith))
 
 module _ (before c : List ℕ) (w l s n : ℕ) (ew : w ≡ wordAt c 2) (el : l ≡ wordAt c 3) (es : s ≡ wordAt c 4) (en : n ≡ wordAt c 1) where
-  pub case-work : 40960 < w → false ≡ caseAgrees before c
-  unfolding caseAgrees
+  pub case-work : 40960 < w → false ≡ readingAgrees before c
+  unfolding readingAgrees
   case-work h = rw (← ew, lt-ltb 40960 w h)
 
   module _ (hw : w ≤ 40960) where
-    pub case-log : 16384 < l → false ≡ caseAgrees before c
-    unfolding caseAgrees
+    pub case-log : 16384 < l → false ≡ readingAgrees before c
+    unfolding readingAgrees
     case-log h = rw (← ew, ← el, le-ltb 40960 w hw, lt-ltb 16384 l h)
 
     module _ (hl : l ≤ 16384) where
-      pub case-sheet : 16384 < s → false ≡ caseAgrees before c
-      unfolding caseAgrees
+      pub case-sheet : 16384 < s → false ≡ readingAgrees before c
+      unfolding readingAgrees
       case-sheet h = rw (← ew, ← el, ← es, le-ltb 40960 w hw, le-ltb 16384 l hl, lt-ltb 16384 s h)
 
       module _ (hs : s ≤ 16384) where
-        pub case-text : length c < n → false ≡ caseAgrees before c
-        unfolding caseAgrees
+        pub case-text : length c < n → false ≡ readingAgrees before c
+        unfolding readingAgrees
         case-text h = rw (← ew, ← el, ← es, ← en, le-ltb 40960 w hw, le-ltb 16384 l hl, le-ltb 16384 s hs, lt-ltb (length c) n h)
 
-        pub case-read : n ≤ length c → (r : Bool) (work log sheet : List ℕ) → r ≡ agrees before c (readOutcome (take (length c - (length c - n)) (drop (length c - n) c)) (length (take w work)) (take (length (take l log)) before) (take (length (take s sheet)) before)) → w ≤ length work → l ≤ length log → s ≤ length sheet → r ≡ caseAgrees before c
-        unfolding caseAgrees
+        pub case-read : n ≤ length c → (r : Bool) (work log sheet : List ℕ) → r ≡ agrees before c (readOutcome (take (length c - (length c - n)) (drop (length c - n) c)) (length (take w work)) (take (length (take l log)) before) (take (length (take s sheet)) before)) → w ≤ length work → l ≤ length log → s ≤ length sheet → r ≡ readingAgrees before c
+        unfolding readingAgrees
         case-read h r work log sheet q a b d =
             let a′ : length (take w work) ≡ w = simp length-take (omega arith) in
             let b′ : length (take l log) ≡ l = simp length-take (omega arith) in

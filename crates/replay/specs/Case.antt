@@ -46,6 +46,21 @@ workLeft n before c work = cond (leavesWorkNumber n) (left before c 0 4294967295
 unfoldable pub agrees : List ℕ → List ℕ → ReadOutcome → Bool
 agrees before c o = left before c 9 36 (replyWords (o .reply)) && rowsLeft before c (o .log) (o .sheet)
 
+-- the byte that is to stand at i of an output of which n bytes are stored from `from` on: behind them that of before the call, 165
+unfoldable pub byteWanted : List ℕ → ℕ → ℕ → ℕ → ℕ
+byteWanted c from n i = cond (ltb i n) (getD c (from + i) 0) 165
+
+-- whether an output holds what is to stand there, from i on
+unfoldable pub outputFrom : List ℕ → ℕ → ℕ → ℕ → List ℕ → Bool
+unfolding byteWanted
+outputFrom c from n i [] = true
+outputFrom c from n i (x ∷ xs) = eqb x (byteWanted c from n i) && outputFrom c from n (suc i) xs
+
+-- whether an output is left as stored, with room for all that is stored
+unfoldable pub outputLeft : List ℕ → ℕ → ℕ → List ℕ → Bool
+unfolding outputFrom
+outputLeft c from n row = leb n (length row) && outputFrom c from n 0 row
+
 -- the program's buffers: what they hold before a call, work, log and sheet
 pub record Rooms (b w l s : List ℕ) : Type 0 where
   pub before : 40960 ≤ length b
@@ -54,8 +69,8 @@ pub record Rooms (b w l s : List ℕ) : Type 0 where
   pub sheet : 16384 ≤ length s
 
 -- whether reading the text of a case, with buffers of its lengths, has the stored outcome; not where a length is beyond the program's buffers
-unfoldable pub caseAgrees : List ℕ → List ℕ → Bool
-caseAgrees before c =
+unfoldable pub readingAgrees : List ℕ → List ℕ → Bool
+readingAgrees before c =
     cond (ltb 40960 (wordAt c 2)) false (
     cond (ltb 16384 (wordAt c 3)) false (
     cond (ltb 16384 (wordAt c 4)) false (

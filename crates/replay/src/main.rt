@@ -1,11 +1,11 @@
-// Replays the oracle's stored answers. Cases come from standard input (oracle/src/store.rs says how they are laid out); each is read with
-// dirty buffers of the lengths that it says, and every word of the answer and of what the call leaves behind is compared. Written are a line
+// Replays the oracle's stored answers. Cases come from standard input (oracle/src/store.rs says how they are laid out); each is read and
+// written with dirty buffers of the lengths that it says, and every word of the answers and of what the calls leave behind is compared. Written are a line
 // for each case that differs, and how many of each kind of answer agreed.
 ghost use mathlib.Core.Path.{_≡_};
-ghost use Prim.Native.Nat.{_<_, _≤_};
-ghost use lib.ListN.{length, take};
+ghost use Prim.Native.Nat.{_+_, _<_, _≤_};
+ghost use lib.ListN.{length, replicate, take};
 ghost use Rattle.language.specs.Outcome.{readOutcome};
-ghost use Rattle.replay.specs.Case.{wordAt, marked, wanted, left, rowsLeft, workLeft, agrees, Rooms, caseAgrees};
+ghost use Rattle.replay.specs.Case.{wordAt, marked, wanted, left, rowsLeft, workLeft, agrees, byteWanted, outputLeft, Rooms, readingAgrees};
 
 // The mark that says that a row is left untouched.
 const UNTOUCHED: u32 = 0xffff_ffff;
@@ -17,6 +17,10 @@ const CASE: usize = 32_768;
 const WORK: usize = 40_960;
 
 const ROW: usize = 16_384;
+// Bytes of output, likewise.
+const OUTPUT: usize = 65_536;
+// What a byte of output holds before a call.
+const DIRT: u8 = 165;
 
 // A byte as a word.
 fn wide(x: u8) -> u32
@@ -119,12 +123,49 @@ fn rows_left(before: &[u32], case: &[u8], log: &[u32], sheet: &[u32]) -> bool
     }
 }
 
+// The byte that is to stand at i of an output of which n bytes are stored from `from` on; what was there before behind them.
+fn byte_wanted(case: &[u8], from: usize, n: usize, i: usize) -> u8
+    requires { ⌜ from + n ≤ length (now case) ⌝ }
+    ensures { λ r. ⌜ r ≡ byteWanted (now (case .entry)) from n i ⌝ }
+{
+    if i < n { case[from + i] } else { DIRT }
+}
+
+// Whether an output is left as stored.
+fn output_left(case: &[u8], from: usize, n: usize, output: &[u8]) -> bool
+    requires { ⌜ from + n ≤ length (now case) ⌝ }
+    ensures { λ r. ⌜ r ≡ outputLeft (now (case .entry)) from n (now (output .entry)) ⌝ }
+{
+    if output.len() < n {
+        return false;
+    }
+    let mut i = 0;
+    while i < output.len() {
+        if output[i] != byte_wanted(case, from, n, i) {
+            return false;
+        }
+        i += 1;
+    }
+    true
+}
+
 // Fills a row with the front of another.
 fn soil(before: &[u32], row: &mut [u32])
     requires { ⌜ length (now row) ≤ length (now before) ⌝ }
     ensures { λ _. ⌜ now (row .exit) ≡ take (length (now (row .entry))) (now (before .entry)) ⌝ }
 {
     diag::copy(before, row, row.len());
+}
+
+// Fills an output.
+fn soil_output(output: &mut [u8])
+    ensures { λ _. ⌜ now (output .exit) ≡ replicate (length (now (output .entry))) 165 ⌝ }
+{
+    let mut i = 0;
+    while i < output.len() {
+        output[i] = DIRT;
+        i += 1;
+    }
 }
 
 // Whether a reading call of a text, with dirty buffers, agrees with what is stored.
@@ -169,8 +210,59 @@ fn read_agrees(
     answer_agrees(before, case, text, work, log, sheet)
 }
 
-// Whether a case agrees; one whose lengths are beyond the program's buffers does not.
-fn case_agrees(
+// Whether a writing call of a text, with dirty buffers, agrees with what is stored.
+fn form_agrees(
+    before: &[u32],
+    case: &[u8],
+    text: &[u8],
+    work: &mut [u32],
+    log: &mut [u32],
+    sheet: &mut [u32],
+    output: &mut [u8],
+) -> bool
+    requires { ⌜ (40960 ≤ length (now before)) × (length (now work) ≤ length (now before)) × (length (now log) ≤ length (now before)) × (length (now sheet) ≤ length (now before)) × (length (now text) ≤ length (now case)) ⌝ }
+{
+    let mut answer = [7u32; 36];
+    let number = writer::pevzoncs_write(text, work, log, sheet, output, &mut answer);
+    let n = marked(word_at(case, 8));
+    let end = case.len() - text.len();
+    if end < n {
+        return false;
+    }
+    if !output_left(case, end - n, n, output) {
+        return false;
+    }
+    if !left(before, case, 45, 3, &answer) {
+        return false;
+    }
+    if rows_left(before, case, log, sheet) {
+        work_left(number, before, case, work)
+    } else {
+        false
+    }
+}
+
+// The same with any buffers, which are filled first.
+fn write_agrees(
+    before: &[u32],
+    case: &[u8],
+    text: &[u8],
+    work: &mut [u32],
+    log: &mut [u32],
+    sheet: &mut [u32],
+    output: &mut [u8],
+) -> bool
+    requires { ⌜ (40960 ≤ length (now before)) × (length (now work) ≤ length (now before)) × (length (now log) ≤ length (now before)) × (length (now sheet) ≤ length (now before)) × (length (now text) ≤ length (now case)) ⌝ }
+{
+    soil(before, work);
+    soil(before, log);
+    soil(before, sheet);
+    soil_output(output);
+    form_agrees(before, case, text, work, log, sheet, output)
+}
+
+// Whether the reading call agrees with a case; one whose lengths are beyond the program's buffers does not.
+fn reading_agrees(
     before: &[u32],
     case: &[u8],
     work: &mut [u32],
@@ -178,7 +270,7 @@ fn case_agrees(
     sheet: &mut [u32],
 ) -> bool
     requires { ⌜ Rooms (now before) (now work) (now log) (now sheet) ⌝ }
-    ensures { λ r. ⌜ r ≡ caseAgrees (now (before .entry)) (now (case .entry)) ⌝ }
+    ensures { λ r. ⌜ r ≡ readingAgrees (now (before .entry)) (now (case .entry)) ⌝ }
 {
     let w = size_at(case, 2);
     let l = size_at(case, 3);
@@ -207,6 +299,37 @@ fn case_agrees(
     )
 }
 
+// Whether the writing call does.
+fn writing_agrees(
+    before: &[u32],
+    case: &[u8],
+    work: &mut [u32],
+    log: &mut [u32],
+    sheet: &mut [u32],
+    output: &mut [u8],
+) -> bool
+    requires { ⌜ Rooms (now before) (now work) (now log) (now sheet) × (65536 ≤ length (now output)) ⌝ }
+{
+    let w = size_at(case, 2);
+    let l = size_at(case, 3);
+    let s = size_at(case, 4);
+    let o = size_at(case, 5);
+    let n = size_at(case, 1);
+    let e = case.len();
+    if WORK < w || ROW < l || ROW < s || OUTPUT < o || e < n {
+        return false;
+    }
+    write_agrees(
+        before,
+        case,
+        &case[e - n..e],
+        &mut work[..w],
+        &mut log[..l],
+        &mut sheet[..s],
+        &mut output[..o],
+    )
+}
+
 // Words that no answer is likely to hold, all different.
 fn scatter(row: &mut [u32]) {
     let mut dirt = 0xa5a5_a5a5;
@@ -225,33 +348,23 @@ fn kind(number: u32) -> usize
     if number < 8 { size(number) } else { 8 }
 }
 
-// Replays the next case: the place of its answer in the tally if it agrees, else 9.
-fn next(
-    before: &[u32],
-    case: &mut [u8],
-    work: &mut [u32],
-    log: &mut [u32],
-    sheet: &mut [u32],
-) -> usize
-    requires { ⌜ (32768 ≤ length (now case)) × Rooms (now before) (now work) (now log) (now sheet) ⌝ }
-    ensures { λ r. ⌜ r < 10 ⌝ }
+// Reads the next case and answers its length, or 0 where it is not whole.
+fn load(case: &mut [u8]) -> usize
+    requires { ⌜ 32768 ≤ length (now case) ⌝ }
+    ensures { λ r. ⌜ r ≤ 32768 ⌝ }
 {
     if io::read_full(0, &mut case[..HEAD]) < HEAD {
-        return 9;
+        return 0;
     }
     let n = size_at(case, 0);
     if CASE - HEAD < n {
-        return 9;
+        return 0;
     }
     let e = HEAD + n;
     if io::read_full(0, &mut case[HEAD..e]) < n {
-        return 9;
+        return 0;
     }
-    if case_agrees(before, &case[..e], work, log, sheet) {
-        kind(word_at(case, 9))
-    } else {
-        9
-    }
+    e
 }
 
 // Writes a number behind a word, as a line.
@@ -274,7 +387,39 @@ fn say_kind(k: usize, n: u32) {
     }
 }
 
-// Replays n cases, and says which do not agree.
+// Counts a case that agrees, and says which does not.
+fn count(agrees: bool, k: usize, tally: &mut [u32; 18], what: &[u8], i: u32)
+    requires { ⌜ k < 18 ⌝ }
+{
+    if agrees {
+        tally[k] = std::num::wrapping_add_u32(tally[k], 1);
+    } else {
+        say(what, i);
+    }
+}
+
+// Replays a case, the i-th.
+fn replay_case(
+    i: u32,
+    before: &[u32],
+    case: &[u8],
+    work: &mut [u32],
+    log: &mut [u32],
+    sheet: &mut [u32],
+    output: &mut [u8],
+    tally: &mut [u32; 18],
+)
+    requires { ⌜ Rooms (now before) (now work) (now log) (now sheet) × (65536 ≤ length (now output)) ⌝ }
+{
+    let r = reading_agrees(before, case, work, log, sheet);
+    let k = kind(word_at(case, 9));
+    count(r, k, tally, b"reading differs: case ", i);
+    let w = writing_agrees(before, case, work, log, sheet, output);
+    let l = 9 + kind(word_at(case, 45));
+    count(w, l, tally, b"writing differs: case ", i);
+}
+
+// Replays n cases.
 fn replay(
     n: u32,
     before: &[u32],
@@ -282,26 +427,26 @@ fn replay(
     work: &mut [u32],
     log: &mut [u32],
     sheet: &mut [u32],
-    tally: &mut [u32; 10],
+    output: &mut [u8],
+    tally: &mut [u32; 18],
 )
-    requires { ⌜ (32768 ≤ length (now case)) × Rooms (now before) (now work) (now log) (now sheet) ⌝ }
+    requires { ⌜ (32768 ≤ length (now case)) × Rooms (now before) (now work) (now log) (now sheet) × (65536 ≤ length (now output)) ⌝ }
 {
     let mut i = 0;
     while i < n {
-        let k = next(before, case, work, log, sheet);
-        tally[k] = std::num::wrapping_add_u32(tally[k], 1);
-        if k == 9 {
-            say(b"differs: case ", i);
-        }
+        let e = load(case);
+        replay_case(i, before, &case[..e], work, log, sheet, output, tally);
         i += 1;
     }
 }
 
-// Says how many cases of each kind agreed.
-fn say_kinds(tally: &[u32; 10]) {
+// Says how many cases of each kind agreed, of those from a place of the tally on.
+fn say_kinds(tally: &[u32; 18], from: usize)
+    requires { ⌜ from ≤ 9 ⌝ }
+{
     let mut k = 0;
     while k < 9 {
-        say_kind(k, tally[k]);
+        say_kind(k, tally[from + k]);
         k += 1;
     }
 }
@@ -312,7 +457,8 @@ fn main() {
     let mut work = [0u32; 40_960];
     let mut log = [0u32; 16_384];
     let mut sheet = [0u32; 16_384];
-    let mut tally = [0u32; 10];
+    let mut output = [0u8; 65_536];
+    let mut tally = [0u32; 18];
     let mut first = [0u8; 4];
     scatter(&mut before);
     io::read_full(0, &mut first);
@@ -324,7 +470,11 @@ fn main() {
         &mut work,
         &mut log,
         &mut sheet,
+        &mut output,
         &mut tally,
     );
-    say_kinds(&tally);
+    io::write_all(1, b"reading\n");
+    say_kinds(&tally, 0);
+    io::write_all(1, b"writing\n");
+    say_kinds(&tally, 9);
 }

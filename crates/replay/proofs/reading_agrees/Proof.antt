@@ -1,13 +1,13 @@
--- `replay::case_agrees` meets its contract: the lengths are tested as in the definition, and the text is the end of the case.
+-- `replay::reading_agrees` meets its contract: the lengths are tested as in the definition, and the text is the end of the case.
 use native.Mathlib.Omega.{arith}
 use lib.ListN.{length-take}
 use borrow.Author.Needs.{needs}
 use Rattle.replay.proofs.Laws.{case-work, case-log, case-sheet, case-text, case-read}
-use Rattle.replay.proofs.case_agrees.Statement.{statement}
-use Rattle.replay.proofs.case_agrees.Tie as tie
+use Rattle.replay.proofs.reading_agrees.Statement.{statement}
+use Rattle.replay.proofs.reading_agrees.Tie as tie
 
-pub case-agrees-spec : {M : Type 1} → statement M
-case-agrees-spec =
+pub reading-agrees-spec : {M : Type 1} → statement M
+reading-agrees-spec =
     tie.close
     (tie.spec
     (λ c κs. search needs)
