@@ -37,7 +37,7 @@ use Rattle.assembler.proofs.MarkLaws.{first-low}
 use Rattle.assembler.proofs.AssembledLaws.{length-entered}
 use Rattle.sheet.specs.Comments.{textWords, header, trailing}
 use Rattle.sheet.specs.Rules.{rules, ruleLengths}
-use Rattle.shown.proofs.Shows.{ItemParsed, Mentions, Said, Shown}
+use Rattle.shown.proofs.Shows.{Said, Shown}
 use Rattle.shown.proofs.BodyShown.{header-shown, trailing-shown, rules-shown, lengths-shown, kept-all}
 use Rattle.infer.specs.States.{Scratch, stateSection, finalSection, firstState}
 use Rattle.infer.proofs.SectionLaws.{first-there}
@@ -48,7 +48,7 @@ use Rattle.machine.specs.Head.{spanOf, countsOf}
 use Rattle.head.specs.Meaning.{spanIn, countsIn, headIn}
 use Rattle.head.specs.Heads.{blankAt, headAt}
 use Rattle.head.proofs.HeadMeans.{head-means}
-use Rattle.head.proofs.ItemSays.{parsed-says}
+use Rattle.head.proofs.ItemSays.{said-says}
 use Rattle.answered.specs.Tied.{Tied}
 use Rattle.answered.specs.Ready.{linesOf, Ready}
 use Rattle.answered.specs.Sections.{Sections, sectionsOf, joined}
@@ -148,10 +148,9 @@ module _ (text : List ℕ) (count : ℕ) (w first : List ℕ) (r : Ready text co
         → countsIn n ≡ L.headOf (I.machineOf (linesOf text)) .counts → headIn (headAt (rows count w) first s n) ≡ L.headOf (I.machineOf (linesOf text))
     head-is s n z c =
         ap (λ (f : List ℕ). headIn (headAt (rows count w) f s n)) table
-        ∙ head-means (Said text ts) ts (λ f e i q x. parsed-says text (omega (arith, r .short)) ts f e i q (subst (λ (k : ℕ). ItemParsed text ts k i) (ap (λ (e : Entry). e .at) q) (x .1)))
-        (omega (arith, row-size, few, r .short)) (entries ts) ls said s n z c
+        ∙ head-means (Said text ts) (λ e i x. said-says text (omega (arith, r .short)) ts e i x) ts (omega (arith, row-size, few, r .short)) (entries ts) ls said s n z c
 
-    blank-is : blankAt (rows count w) (getD first 8 0) ≡ I.machineOf (linesOf text) .blank
+    pub blank-is : blankAt (rows count w) (getD first 8 0) ≡ I.machineOf (linesOf text) .blank
     unfolding headIn headAt L.headOf
     blank-is = ap (λ (h : L.Head). h .blank) (head-is (spanOf (L.headOf (I.machineOf ls) .start)) (countsOf (L.headOf (I.machineOf ls) .counts)) (λ z. refl) refl)
 

@@ -12,12 +12,12 @@ use Rattle.assembler.specs.Entries.{entries}
 use Rattle.assembler.proofs.Means.{AllMean}
 use Rattle.shown.proofs.Shows.{Said, Shown}
 use Rattle.infer.specs.States.{stateSection, finalSection}
-use Rattle.infer.specs.Alphabets.{candidates, gammaCodes, sigmaWords, gammaWords}
+use Rattle.infer.specs.Alphabets.{gammaCodes, sigmaWords, gammaWords}
 
 pub record Tied (text : List ℕ) (count : ℕ) (w first : List ℕ) : Type 0 where
   pub shown : Shown text (rows count w) 0 (readLines (decode text))
   pub said : AllMean (Said text (rows count w)) (rows count w) (entries (rows count w)) (readLines (decode text))
-  pub codes : (b : ℕ) → length (candidates text b (rows count w) first) ≤ length text
+  pub codes : let b = machineOf (readLines (decode text)) .blank in length (gammaCodes text b (rows count w) first) ≤ length text + 1
   pub states : stateSection (length text + 1) (rows count w) first w ≡ L.flat L.stateWords (machineOf (readLines (decode text)) .states)
   pub sigma : let b = machineOf (readLines (decode text)) .blank in sigmaWords b (rows count w) first (gammaCodes text b (rows count w) first) ≡ L.flat L.symbolWords (machineOf (readLines (decode text)) .sigma)
   pub gamma : let b = machineOf (readLines (decode text)) .blank in gammaWords b (rows count w) first (gammaCodes text b (rows count w) first) ≡ L.flat L.symbolWords (machineOf (readLines (decode text)) .gamma)

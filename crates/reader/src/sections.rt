@@ -1,8 +1,10 @@
 // The sections of the sheet before the rules.
+ghost use mathlib.Core.Path.{_≡_};
 ghost use Prim.Native.Nat.{_+_, _*_};
-ghost use lib.ListN.{length};
+ghost use lib.ListN.{length, getD};
 ghost use Rattle.assembler.specs.Rows.{rows};
 ghost use Rattle.infer.specs.Page.{Kept};
+ghost use Rattle.head.specs.Heads.{blankAt};
 ghost use Rattle.answered.specs.Ready.{Ready};
 ghost use Rattle.answered.specs.Sections.{sectionsOf};
 ghost use Rattle.reader.specs.Sheet.{Written};
@@ -31,7 +33,7 @@ pub fn sections(
     blank: u32,
     sheet: &mut [u32],
 ) -> Ends
-    requires { ⌜ Ready (now text) count (now work) (now first) ⌝ }
+    requires { ⌜ (Ready (now text) count (now work) (now first)) × (blank ≡ blankAt (rows count (now work)) (getD (now first) 8 0)) ⌝ }
     ensures { λ e. ⌜ Kept (5 * (length (now (text .entry)) + 1)) (now (work .entry)) (now (work .exit)) × Written (sectionsOf (now (text .entry)) blank (rows count (now (work .entry))) (now (first .entry)) (now (work .entry))) (now (sheet .entry)) (now (sheet .exit)) e ⌝ }
 {
     let size = text.len() + 1;
