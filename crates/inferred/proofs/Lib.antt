@@ -4,3 +4,4 @@ pub mod RuleLines
 pub mod StatesInferred
 pub mod RuleSymbols
 pub mod AlphabetsInferred
+pub mod CodesFit
