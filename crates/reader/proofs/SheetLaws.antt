@@ -30,9 +30,11 @@ use Rattle.machine.specs.declared.Counts.{Counts}
 use Rattle.machine.specs.declared.Head.{Head}
 use Rattle.head.specs.Meaning.{countsIn, headIn}
 use Rattle.head.specs.Heads.{blankAt, headAt}
+use Rattle.inferred.proofs.CodesFit.{codes-fit}
 use Rattle.answered.specs.Ready.{linesOf, Ready}
 use Rattle.answered.specs.Sections.{Sections, sectionsOf, joined}
 use Rattle.answered.proofs.Sizes.{states-few, finals-few, sigma-few, gamma-few}
+use Rattle.answered.proofs.Ties.{few, row-size, scratch, ties}
 use Rattle.answered.proofs.Sheets as T
 use Rattle.reader.specs.declared.sections.Ends.{Ends}
 use Rattle.reader.specs.declared.Refusal.the-variants.{SheetTooShort}
@@ -44,6 +46,13 @@ use Rattle.reader.specs.Sheet.{endsOf, Written, Ordered, countsAt, spanF
 pub span-from : (p q : D.Span) → p ≡ q → _≡_ {A = Span} (record { start = p .start; end = p .end }) (spanFrom q)
 span-from p q e = ap spanFrom e
 
+-- the codes of an undeclared Γ fit into the scratch rows
+code-count : (text : List ℕ) (count : ℕ) (w first : List ℕ) → Ready text count w first → (b : ℕ) → length (gammaCodes text b (rows count w) first) ≤ 2 * (length text + 1)
+unfolding gammaCodes notedAll noted
+code-count text count w first r b =
+    let n : ℕ = 6 * length text + 6 in
+    omega (arith, codes-fit text b (rows count w) first (zeros n) (omega (arith, row-size text count w first r, few text count w first r)) (omega (arith, length-replicate {A = ℕ} n 0)) .fits, length-replicate {A = ℕ} n 0)
+
 -- ---- the sections, one behind the other
 module _ (text : List ℕ) (count : ℕ) (w first : List ℕ) (r : Ready text count w first) where
   abbrev size : ℕ
@@ -53,50 +62,42 @@ module _ (text : List ℕ) (count : ℕ) (w first : List ℕ) (r : Ready text co
   ts = rows count w
 
   pub states-scratch : Scratch (length text + 1) count w
-  states-scratch = T.scratch text count w first r
+  states-scratch = scratch text count w first r
 
   pub states-room : 0 + 9 * count + 3 < 2 ^ 64
-  states-room = omega (arith, T.few text count w first r, r .short)
+  states-room = omega (arith, few text count w first r, r .short)
 
   tokens-room : 4 * count ≤ length w
-  tokens-room = omega (arith, T.few text count w first r, r .room)
+  tokens-room = omega (arith, few text count w first r, r .room)
 
   module _ (w₁ : List ℕ) (k₁ : Kept (5 * (length text + 1)) w w₁) where
     row₁ : rows count w₁ ≡ rows count w
-    row₁ = kept-rows count (5 * size) w w₁ k₁ (omega (arith, T.few text count w first r)) (omega (arith, r .room))
+    row₁ = kept-rows count (5 * size) w w₁ k₁ (omega (arith, few text count w first r)) (omega (arith, r .room))
 
-    pub codes-base : 4 * count ≤ 5 * (length text + 1)
-    codes-base = omega (arith, T.few text count w first r)
+    pub codes-base : 4 * count ≤ 4 * (length text + 1)
+    codes-base = omega (arith, few text count w first r)
 
-    -- no more codes than the row for them holds
-    code-count : (b : ℕ) → b ≡ blankAt (rows count w) (getD first 8 0) → length (gammaCodes text b (rows count w) first) ≤ length text + 1
-    code-count b e = omega (arith, ap (λ (b : ℕ). length (gammaCodes text b (rows count w) first)) (e ∙ T.blank-is text count w first r (r .tied .said)), r .tied .codes)
+    pub codes-room : (b : ℕ) → Room (4 * (length text + 1)) 0 w₁ (b ∷ candidates text b (rows count w₁) first)
+    codes-room b = codes-fit text b (rows count w₁) first w₁ (omega (arith, ap length row₁, row-size text count w first r, few text count w first r)) (omega (arith, r .room, k₁ .size))
 
-    pub codes-room : (b : ℕ) → b ≡ blankAt (rows count w) (getD first 8 0) → Room (5 * (length text + 1)) 0 w₁ (b ∷ candidates text b (rows count w₁) first)
-    unfolding gammaCodes notedAll noted
-    codes-room b e = record {
-      low = omega (arith, r .room, k₁ .size);
-      fits = omega (arith, ap (λ (ts : List Token). length (gammaCodes text b ts first)) row₁, code-count b e, r .room, k₁ .size);
-    }
-
-    module _ (b : ℕ) (blank : b ≡ blankAt (rows count w) (getD first 8 0)) (w₂ : List ℕ) (n : ℕ) (c : Codes (5 * (length text + 1)) w₁ (gammaCodes text b (rows count w₁) first) w₂ n) where
-      kept₂ : Kept (5 * (length text + 1)) w w₂
-      kept₂ = kept-on (5 * size) w w₁ w₂ k₁ (c .kept)
+    module _ (b : ℕ) (w₂ : List ℕ) (n : ℕ) (c : Codes (4 * (length text + 1)) w₁ (gammaCodes text b (rows count w₁) first) w₂ n) where
+      long₂ : length w₂ ≡ length w
+      long₂ = c .kept .size ∙ k₁ .size
 
       row₂ : rows count w₂ ≡ rows count w
-      row₂ = kept-rows count (5 * size) w w₂ kept₂ (omega (arith, T.few text count w first r)) (omega (arith, r .room))
+      row₂ = kept-rows count (4 * size) w₁ w₂ (c .kept) codes-base (omega (arith, r .room, k₁ .size)) ∙ row₁
 
-      codes₂ : held (5 * (length text + 1)) n w₂ ≡ gammaCodes text b (rows count w) first
+      codes₂ : held (4 * (length text + 1)) n w₂ ≡ gammaCodes text b (rows count w) first
       codes₂ = c .codes ∙ ap (λ (ts : List Token). gammaCodes text b ts first) row₁
 
-      codes-low : n ≤ length text + 1
-      codes-low = omega (arith, c .count, ap (λ (ts : List Token). length (gammaCodes text b ts first)) row₁, code-count b blank)
+      codes-low : n ≤ 2 * (length text + 1)
+      codes-low = omega (arith, c .count, ap (λ (ts : List Token). length (gammaCodes text b ts first)) row₁, code-count text count w first r b)
 
-      pub held-room : 5 * (length text + 1) + n ≤ length w₂
-      held-room = omega (arith, codes-low, r .room, kept₂ .size)
+      pub held-room : 4 * (length text + 1) + n ≤ length w₂
+      held-room = omega (arith, codes-low, r .room, long₂)
 
       pub section-tokens : 4 * count ≤ length w₂
-      section-tokens = omega (arith, tokens-room, kept₂ .size)
+      section-tokens = omega (arith, tokens-room, long₂)
 
       -- stage by stage: o₁ holds the states, q is where they end, and so on
       module _ (o o₁ : List ℕ) (q : ℕ) (s₁ : Stored (stateSection (length text + 1) (rows count w) first w) o 0 o₁ q) where
@@ -104,58 +105,58 @@ module _ (text : List ℕ) (count : ℕ) (w first : List ℕ) (r : Ready text co
         cs = gammaCodes text b (rows count w) first
 
         states-low : q ≤ 9 * count + 3
-        states-low = omega (arith, s₁ .behind, states-few size ts first w, T.row-size text count w first r)
+        states-low = omega (arith, s₁ .behind, states-few size ts first w, row-size text count w first r)
 
         pub sigma-low : q < 2 ^ 62
-        sigma-low = omega (arith, states-low, T.few text count w first r, r .short)
+        sigma-low = omega (arith, states-low, few text count w first r, r .short)
 
-        module _ (o₂ : List ℕ) (a : ℕ) (s₂ : Stored (sigmaWords b (rows count w₂) first (held (5 * (length text + 1)) n w₂)) o₁ q o₂ a) where
+        module _ (o₂ : List ℕ) (a : ℕ) (s₂ : Stored (sigmaWords b (rows count w₂) first (held (4 * (length text + 1)) n w₂)) o₁ q o₂ a) where
           sigma₂ : Stored (sigmaWords b (rows count w) first (gammaCodes text b (rows count w) first)) o₁ q o₂ a
           sigma₂ =
               subst (λ (cs : List ℕ). Stored (sigmaWords b (rows count w) first cs) o₁ q o₂ a) codes₂
-              (subst (λ (ts : List Token). Stored (sigmaWords b ts first (held (5 * (length text + 1)) n w₂)) o₁ q o₂ a) row₂ s₂)
+              (subst (λ (ts : List Token). Stored (sigmaWords b ts first (held (4 * (length text + 1)) n w₂)) o₁ q o₂ a) row₂ s₂)
 
-          end₂ : a ≤ 15 * (length text + 1) + 3
-          end₂ = omega (arith, states-low, sigma₂ .behind, sigma-few b ts first cs, T.row-size text count w first r, T.few text count w first r, code-count b blank)
+          end₂ : a ≤ 18 * (length text + 1) + 3
+          end₂ = omega (arith, states-low, sigma₂ .behind, sigma-few b ts first cs, row-size text count w first r, few text count w first r, code-count text count w first r b)
 
           pub gamma-low : a < 2 ^ 62
           gamma-low = omega (arith, end₂, r .short)
 
-          module _ (o₃ : List ℕ) (g : ℕ) (s₃ : Stored (gammaWords b (rows count w₂) first (held (5 * (length text + 1)) n w₂)) o₂ a o₃ g) where
+          module _ (o₃ : List ℕ) (g : ℕ) (s₃ : Stored (gammaWords b (rows count w₂) first (held (4 * (length text + 1)) n w₂)) o₂ a o₃ g) where
             gamma₃ : Stored (gammaWords b (rows count w) first (gammaCodes text b (rows count w) first)) o₂ a o₃ g
             gamma₃ =
                 subst (λ (cs : List ℕ). Stored (gammaWords b (rows count w) first cs) o₂ a o₃ g) codes₂
-                (subst (λ (ts : List Token). Stored (gammaWords b ts first (held (5 * (length text + 1)) n w₂)) o₂ a o₃ g) row₂ s₃)
+                (subst (λ (ts : List Token). Stored (gammaWords b ts first (held (4 * (length text + 1)) n w₂)) o₂ a o₃ g) row₂ s₃)
 
-            end₃ : g ≤ 21 * (length text + 1) + 6
-            end₃ = omega (arith, end₂, gamma₃ .behind, gamma-few b ts first cs, T.row-size text count w first r, T.few text count w first r, code-count b blank)
+            end₃ : g ≤ 27 * (length text + 1) + 6
+            end₃ = omega (arith, end₂, gamma₃ .behind, gamma-few b ts first cs, row-size text count w first r, few text count w first r, code-count text count w first r b)
 
             pub finals-room : g + 2 * count < 2 ^ 64
-            finals-room = omega (arith, end₃, T.few text count w first r, r .short)
+            finals-room = omega (arith, end₃, few text count w first r, r .short)
 
             module _ (d : ℕ) (there : d ≡ getD first 10 0) (o₄ : List ℕ) (f : ℕ) (s₄ : Stored (finalSection (rows count w₂) d) o₃ g o₄ f) where
               finals₄ : Stored (finalSection (rows count w) (getD first 10 0)) o₃ g o₄ f
               finals₄ =
                   subst (λ (d : ℕ). Stored (finalSection (rows count w) d) o₃ g o₄ f) there (subst (λ (ts : List Token). Stored (finalSection ts d) o₃ g o₄ f) row₂ s₄)
 
-              end₄ : f ≤ 24 * (length text + 1) + 6
-              end₄ = omega (arith, end₃, finals₄ .behind, finals-few ts (getD first 10 0), T.row-size text count w first r, T.few text count w first r)
+              end₄ : f ≤ 30 * (length text + 1) + 6
+              end₄ = omega (arith, end₃, finals₄ .behind, finals-few ts (getD first 10 0), row-size text count w first r, few text count w first r)
 
               header-few : length (L.flat textWords (header (rows count w₂))) ≤ 2 * count
-              header-few = omega (arith, ap (λ (ts : List Token). length (L.flat textWords (header ts))) row₂, T.header-few text count w first r (r .tied .shown))
+              header-few = omega (arith, ap (λ (ts : List Token). length (L.flat textWords (header ts))) row₂, T.header-few text count w first r (ties text count w first r .shown))
 
               pub header-room : f + length (L.flat textWords (header (rows count w₂))) < 2 ^ 64
-              header-room = omega (arith, end₄, header-few, T.few text count w first r, r .short)
+              header-room = omega (arith, end₄, header-few, few text count w first r, r .short)
 
               module _ (o₅ : List ℕ) (h : ℕ) (s₅ : Stored (L.flat textWords (header (rows count w₂))) o₄ f o₅ h) where
-                end₅ : h ≤ 26 * (length text + 1) + 6
-                end₅ = omega (arith, end₄, s₅ .behind, header-few, T.few text count w first r)
+                end₅ : h ≤ 32 * (length text + 1) + 6
+                end₅ = omega (arith, end₄, s₅ .behind, header-few, few text count w first r)
 
                 trailing-few : length (L.flat textWords (trailing (rows count w₂))) ≤ 2 * count
-                trailing-few = omega (arith, ap (λ (ts : List Token). length (L.flat textWords (trailing ts))) row₂, T.trailing-few text count w first r (r .tied .shown))
+                trailing-few = omega (arith, ap (λ (ts : List Token). length (L.flat textWords (trailing ts))) row₂, T.trailing-few text count w first r (ties text count w first r .shown))
 
                 pub trailing-room : h + length (L.flat textWords (trailing (rows count w₂))) < 2 ^ 64
-                trailing-room = omega (arith, end₅, trailing-few, T.few text count w first r, r .short)
+                trailing-room = omega (arith, end₅, trailing-few, few text count w first r, r .short)
 
                 module _ (o₆ : List ℕ) (t : ℕ) (s₆ : Stored (L.flat textWords (trailing (rows count w₂))) o₅ h o₆ t) where
                   abbrev s : Sections
@@ -177,10 +178,10 @@ module _ (text : List ℕ) (count : ℕ) (w first : List ℕ) (r : Ready text co
                   sheet-same = stored-length (joined s) o o₆ 0 t all
 
                   pub work-same : length w₂ ≡ length w
-                  work-same = kept₂ .size
+                  work-same = long₂
 
-                  pub sections-kept : Kept (5 * (length text + 1)) w w₂
-                  sections-kept = kept₂
+                  pub rows-same : rows count w₂ ≡ rows count w
+                  rows-same = row₂
 
                   pub sections-written : Written (sectionsOf text b (rows count w) first w) o o₆ (record { states = q; sigma = a; gamma = g; finals = f; header = h; trailing = t })
                   unfolding sectionsOf endsOf
@@ -217,35 +218,29 @@ module _ (text : List ℕ) (count : ℕ) (w first : List ℕ) (r : Ready text co
   size = length text + 1
 
   pub blank-room : 4 * count ≤ length w
-  blank-room = omega (arith, T.few text count w first r, r .room)
+  blank-room = omega (arith, few text count w first r, r .room)
 
   pub rules-fit : (number : ℕ) → number ≡ length (machineOf (linesOf text) .rules) → number < 2 ^ 32
   rules-fit number e = omega (arith, rules-within ls)
 
-  module _ (b : ℕ) (blank : b ≡ blankAt (rows count w) (getD first 8 0)) (o o₁ w₁ : List ℕ) (e : Ends) (k : Kept (5 * (length text + 1)) w w₁)
+  module _ (b : ℕ) (blank : b ≡ blankAt (rows count w) (getD first 8 0)) (o o₁ w₁ : List ℕ) (e : Ends) (row : rows count w₁ ≡ rows count w) (long : length w₁ ≡ length w)
       (m : Written (sectionsOf text b (rows count w) first w) o o₁ e) where
     abbrev s : Sections
     s = sectionsOf text b (rows count w) first w
 
-    row : rows count w₁ ≡ rows count w
-    row = kept-rows count (5 * (length text + 1)) w w₁ k (omega (arith, T.few text count w first r)) (omega (arith, r .room))
-
     pub lengths-tokens : 4 * count ≤ length w₁
-    lengths-tokens = omega (arith, blank-room, k .size)
+    lengths-tokens = omega (arith, blank-room, long)
 
     pub lengths-count : count < 2 ^ 32
-    lengths-count = omega (arith, T.few text count w first r, r .short)
+    lengths-count = omega (arith, few text count w first r, r .short)
 
     lengths-low : ruleLengths (rows count w₁) ≤ 262144 * (11 + 7 * count) + 2 * count
-    lengths-low = omega (arith, ap ruleLengths row, T.lengths-few text count w first r (r .tied .shown))
+    lengths-low = omega (arith, ap ruleLengths row, T.lengths-few text count w first r (ties text count w first r .shown))
 
     pub lengths-room : ruleLengths (rows count w₁) < 2 ^ 64
-    lengths-room = omega (arith, lengths-low, T.few text count w first r, r .short)
+    lengths-room = omega (arith, lengths-low, few text count w first r, r .short)
 
     -- where the sections end
-    code-few : length (gammaCodes text b (rows count w) first) ≤ length text + 1
-    code-few = omega (arith, ap (λ (b : ℕ). length (gammaCodes text b (rows count w) first)) (blank ∙ T.blank-is text count w first r (r .tied .said)), r .tied .codes)
-
     joined-length : length (joined s) ≡ length (s .states) + (length (s .sigma) + (length (s .gamma) + (length (s .finals) + (length (s .header) + length (s .trailing)))))
     joined-length =
         omega (arith, length-append (s .states) (s .sigma ++ (s .gamma ++ (s .finals ++ (s .header ++ s .trailing)))), length-append (s .sigma) (s .gamma ++ (s .finals ++ (s .header ++ s .trailing))),
@@ -255,12 +250,12 @@ module _ (text : List ℕ) (count : ℕ) (w first : List ℕ) (r : Ready text co
     unfolding endsOf
     end-is = omega (arith, ap (λ (e : Ends). e .trailing) (m .ends), joined-length)
 
-    joined-low : length (joined s) ≤ 28 * (length text + 1) + 6
+    joined-low : length (joined s) ≤ 34 * (length text + 1) + 6
     unfolding sectionsOf
     joined-low =
         let cs : List ℕ = gammaCodes text b (rows count w) first in
         omega (arith, joined-length, states-few size (rows count w) first w, sigma-few b (rows count w) first cs, gamma-few b (rows count w) first cs, finals-few (rows count w) (getD first 10 0),
-        T.header-few text count w first r (r .tied .shown), T.trailing-few text count w first r (r .tied .shown), code-few, T.row-size text count w first r, T.few text count w first r)
+        T.header-few text count w first r (ties text count w first r .shown), T.trailing-few text count w first r (ties text count w first r .shown), code-count text count w first r b, row-size text count w first r, few text count w first r)
 
     pub ordered : Ordered e
     unfolding endsOf
@@ -278,11 +273,11 @@ module _ (text : List ℕ) (count : ℕ) (w first : List ℕ) (r : Ready text co
 
     module _ (n : ℕ) (n-is : n ≡ ruleLengths (rows count w₁)) where
       pub needed-fits : e .trailing + n < 2 ^ 64
-      needed-fits = omega (arith, end-is, joined-low, lengths-low, T.few text count w first r, r .short)
+      needed-fits = omega (arith, end-is, joined-low, lengths-low, few text count w first r, r .short)
 
       needed : e .trailing + n ≡ wordsNeeded (linesOf text)
       needed =
-          omega (arith, end-is, ap ruleLengths row, ap (λ (b : ℕ). length (joined (sectionsOf text b (rows count w) first w))) blank, T.needed-is text count w first r (r .tied))
+          omega (arith, end-is, ap ruleLengths row, ap (λ (b : ℕ). length (joined (sectionsOf text b (rows count w) first w))) blank, T.needed-is text count w first r (ties text count w first r))
 
       -- row 6
       pub too-short : length o₁ < e .trailing + n → (o₂ : List ℕ) → o₂ ≡ replicate (length o₁) 0 → (l : ℕ)
@@ -295,22 +290,22 @@ module _ (text : List ℕ) (count : ℕ) (w first : List ℕ) (r : Ready text co
 
     -- what expanding asks
     pub expand-tokens : 4 * count ≤ 4 * (length text + 1)
-    expand-tokens = omega (arith, T.few text count w first r)
+    expand-tokens = omega (arith, few text count w first r)
 
     pub expand-entries : 4 * (length text + 1) + count ≤ 5 * (length text + 1)
-    expand-entries = omega (arith, T.few text count w first r)
+    expand-entries = omega (arith, few text count w first r)
 
     pub expand-members : 5 * (length text + 1) + count ≤ length w₁
-    expand-members = omega (arith, T.few text count w first r, r .room, k .size)
+    expand-members = omega (arith, few text count w first r, r .room, long)
 
     pub expand-small : 9 * count + 11 < 2 ^ 32
-    expand-small = omega (arith, T.few text count w first r, r .short)
+    expand-small = omega (arith, few text count w first r, r .short)
 
     rules-length : length (rules b (rows count w₁)) ≡ ruleLengths (rows count w)
-    rules-length = ap (λ (ts : List Token). length (rules b ts)) row ∙ T.rules-words text count w first r (r .tied .shown) b
+    rules-length = ap (λ (ts : List Token). length (rules b ts)) row ∙ T.rules-words text count w first r (ties text count w first r .shown) b
 
     pub expand-room : e .trailing + length (rules b (rows count w₁)) < 2 ^ 64
-    expand-room = omega (arith, rules-length, ap ruleLengths row, end-is, joined-low, lengths-low, T.few text count w first r, r .short)
+    expand-room = omega (arith, rules-length, ap ruleLengths row, end-is, joined-low, lengths-low, few text count w first r, r .short)
 
     -- the whole sheet
     module _ (zero : o ≡ zeros (length o)) (n : ℕ) (n-is : n ≡ ruleLengths (rows count w₁)) (fits : e .trailing + n ≤ length o₁) (o₂ : List ℕ) (x : ℕ)
@@ -319,11 +314,11 @@ module _ (text : List ℕ) (count : ℕ) (w first : List ℕ) (r : Ready text co
       M = machineOf (linesOf text)
 
       words-are : joined (sectionsOf text b (rows count w) first w) ++ rules b (rows count w) ≡ L.sheetWords (machineOf (linesOf text))
-      words-are = ap (λ (b : ℕ). joined (sectionsOf text b (rows count w) first w) ++ rules b (rows count w)) blank ∙ T.sheet-is text count w first r (r .tied)
+      words-are = ap (λ (b : ℕ). joined (sectionsOf text b (rows count w) first w) ++ rules b (rows count w)) blank ∙ T.sheet-is text count w first r (ties text count w first r)
 
       words-needed : length (L.sheetWords (machineOf (linesOf text))) ≡ wordsNeeded (linesOf text)
       words-needed =
-          omega (arith, ap length words-are, length-append (joined s) (rules b (rows count w)), T.rules-words text count w first r (r .tied .shown) b, end-is, needed n n-is, n-is, ap ruleLengths row)
+          omega (arith, ap length words-are, length-append (joined s) (rules b (rows count w)), T.rules-words text count w first r (ties text count w first r .shown) b, end-is, needed n n-is, n-is, ap ruleLengths row)
 
       room-is : wordsNeeded (linesOf text) ≤ length o
       room-is = omega (arith, needed n n-is, fits, same-length)
@@ -343,17 +338,17 @@ module _ (text : List ℕ) (count : ℕ) (w first : List ℕ) (r : Ready text co
             let same : (f : Sections → List ℕ) → length (f s) ≡ length (f (sectionsOf text (blankAt (rows count w) (getD first 8 0)) (rows count w) first w)) =
             λ f. ap (λ (b : ℕ). length (f (sectionsOf text b (rows count w) first w))) blank in
             let E : e ≡ endsOf s = m .ends in
-            let c₁ : e .states / 3 ≡ length (M .states) = omega (arith, ap (λ (e : Ends). e .states) E, same (λ s. s .states), T.states-three text count w first r (r .tied)) in
+            let c₁ : e .states / 3 ≡ length (M .states) = omega (arith, ap (λ (e : Ends). e .states) E, same (λ s. s .states), T.states-three text count w first r (ties text count w first r)) in
             let c₂ : (e .sigma - e .states) / 3 ≡ length (M .sigma) =
-            omega (arith, ap (λ (e : Ends). e .states) E, ap (λ (e : Ends). e .sigma) E, same (λ s. s .sigma), T.sigma-three text count w first r (r .tied)) in
+            omega (arith, ap (λ (e : Ends). e .states) E, ap (λ (e : Ends). e .sigma) E, same (λ s. s .sigma), T.sigma-three text count w first r (ties text count w first r)) in
             let c₃ : (e .gamma - e .sigma) / 3 ≡ length (M .gamma) =
-            omega (arith, ap (λ (e : Ends). e .sigma) E, ap (λ (e : Ends). e .gamma) E, same (λ s. s .gamma), T.gamma-three text count w first r (r .tied)) in
+            omega (arith, ap (λ (e : Ends). e .sigma) E, ap (λ (e : Ends). e .gamma) E, same (λ s. s .gamma), T.gamma-three text count w first r (ties text count w first r)) in
             let c₄ : (e .finals - e .gamma) / 2 ≡ length (M .finals) =
-            omega (arith, ap (λ (e : Ends). e .gamma) E, ap (λ (e : Ends). e .finals) E, same (λ s. s .finals), T.finals-two text count w first r (r .tied)) in
+            omega (arith, ap (λ (e : Ends). e .gamma) E, ap (λ (e : Ends). e .finals) E, same (λ s. s .finals), T.finals-two text count w first r (ties text count w first r)) in
             let c₅ : (e .header - e .finals) / 2 ≡ length (M .header) =
-            omega (arith, ap (λ (e : Ends). e .finals) E, ap (λ (e : Ends). e .header) E, same (λ s. s .header), T.header-two-words text count w first r (r .tied)) in
+            omega (arith, ap (λ (e : Ends). e .finals) E, ap (λ (e : Ends). e .header) E, same (λ s. s .header), T.header-two-words text count w first r (ties text count w first r)) in
             let c₆ : (e .trailing - e .header) / 2 ≡ length (M .trailing) =
-            omega (arith, ap (λ (e : Ends). e .header) E, ap (λ (e : Ends). e .trailing) E, same (λ s. s .trailing), T.trailing-two-words text count w first r (r .tied)) in
+            omega (arith, ap (λ (e : Ends). e .header) E, ap (λ (e : Ends). e .trailing) E, same (λ s. s .trailing), T.trailing-two-words text count w first r (ties text count w first r)) in
             λ j. record { states = c₁ j; sigma = c₂ j; gamma = c₃ j; finals = c₄ j; header = c₅ j; trailing = c₆ j; rules = number-is j }
 
         -- the head, and the answer
@@ -366,6 +361,6 @@ module _ (text : List ℕ) (count : ℕ) (w first : List ℕ) (r : Ready text co
             let rest : List ℕ = zeros (length o - length (L.sheetWords M)) in
             let head : headIn h ≡ L.headOf M =
             ap headIn (h-is ∙ ap (λ (ts : List Token). headAt ts first p c) (row₂ ∙ row))
-            ∙ T.head-of-sheet text count w first r (r .tied) o₂ rest sheet-filled p c (p-is ∙ ap (λ (i : ℕ). spanFrom (firstState o₂ 0 i)) end) (ap countsIn c-is ∙ counts-are) in
+            ∙ T.head-of-sheet text count w first r (ties text count w first r) o₂ rest sheet-filled p c (p-is ∙ ap (λ (i : ℕ). spanFrom (firstState o₂ 0 i)) end) (ap countsIn c-is ∙ counts-are) in
             rw (le-ltb (length o) (wordsNeeded (linesOf text)) room-is)
             (λ j. record { reply = machine (head j); log = zeros l; sheet = sheet-filled j })

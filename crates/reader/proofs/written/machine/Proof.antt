@@ -28,11 +28,11 @@ sections-requires c κs = search needs
 
 -- src/written.rt:63:31
 rule-lengths-requires : tie.Need-rule-lengths-requires
-rule-lengths-requires c κs = (lengths-tokens _ _ _ _ (c .before .before .before .before .before .before .before .before .before .before .before .before .before .before .before .pre .0) _ (c .before .before .before .before .before .before .before .before .before .blank-at .ensures) _ _ _ _ (c .before .before .before .before .before .sections .ensures .0) (c .before .before .before .before .before .sections .ensures .1), lengths-count _ _ _ _ (c .before .before .before .before .before .before .before .before .before .before .before .before .before .before .before .pre .0) _ (c .before .before .before .before .before .before .before .before .before .blank-at .ensures) _ _ _ _ (c .before .before .before .before .before .sections .ensures .0) (c .before .before .before .before .before .sections .ensures .1), lengths-room _ _ _ _ (c .before .before .before .before .before .before .before .before .before .before .before .before .before .before .before .pre .0) _ (c .before .before .before .before .before .before .before .before .before .blank-at .ensures) _ _ _ _ (c .before .before .before .before .before .sections .ensures .0) (c .before .before .before .before .before .sections .ensures .1))
+rule-lengths-requires c κs = (lengths-tokens _ _ _ _ (c .before .before .before .before .before .before .before .before .before .before .before .before .before .before .before .pre .0) _ (c .before .before .before .before .before .before .before .before .before .blank-at .ensures) _ _ _ _ (c .before .before .before .before .before .sections .ensures .0) (c .before .before .before .before .before .sections .ensures .1) (c .before .before .before .before .before .sections .ensures .2), lengths-count _ _ _ _ (c .before .before .before .before .before .before .before .before .before .before .before .before .before .before .before .pre .0) _ (c .before .before .before .before .before .before .before .before .before .blank-at .ensures) _ _ _ _ (c .before .before .before .before .before .sections .ensures .0) (c .before .before .before .before .before .sections .ensures .1) (c .before .before .before .before .before .sections .ensures .2), lengths-room _ _ _ _ (c .before .before .before .before .before .before .before .before .before .before .before .before .before .before .before .pre .0) _ (c .before .before .before .before .before .before .before .before .before .blank-at .ensures) _ _ _ _ (c .before .before .before .before .before .sections .ensures .0) (c .before .before .before .before .before .sections .ensures .1) (c .before .before .before .before .before .sections .ensures .2))
 
 -- src/written.rt:63:18
 add-needed : tie.Need-add-needed
-add-needed c = record { fits = needed-fits _ _ _ _ (c .before .before .before .before .before .before .before .before .before .before .before .before .before .before .before .before .before .pre .0) _ (c .before .before .before .before .before .before .before .before .before .before .before .blank-at .ensures) _ _ _ _ (c .before .before .before .before .before .before .before .sections .ensures .0) (c .before .before .before .before .before .before .before .sections .ensures .1) _ (c .before .rule-lengths .ensures) }
+add-needed c = record { fits = needed-fits _ _ _ _ (c .before .before .before .before .before .before .before .before .before .before .before .before .before .before .before .before .before .pre .0) _ (c .before .before .before .before .before .before .before .before .before .before .before .blank-at .ensures) _ _ _ _ (c .before .before .before .before .before .before .before .sections .ensures .0) (c .before .before .before .before .before .before .before .sections .ensures .1) (c .before .before .before .before .before .before .before .sections .ensures .2) _ (c .before .rule-lengths .ensures) }
 
 -- src/written.rt:65:9
 clear-requires : tie.Need-clear-requires
@@ -48,7 +48,7 @@ same-length-2 c = search needs
 
 -- src/written.rt:66:9
 returns : tie.Need-returns
-returns c = λ l. too-short _ _ _ _ (c .before .before .before .before .before .before .before .before .before .before .before .before .before .before .before .before .before .before .before .before .before .before .pre .0) _ (c .before .before .before .before .before .before .before .before .before .before .before .before .before .before .before .before .blank-at .ensures) _ _ _ _ (c .before .before .before .before .before .before .before .before .before .before .before .before .sections .ensures .0) (c .before .before .before .before .before .before .before .before .before .before .before .before .sections .ensures .1) _ (c .before .before .before .before .before .before .rule-lengths .ensures) (search needs) _ (c .before .before .clear .ensures) l
+returns c = λ l. too-short _ _ _ _ (c .before .before .before .before .before .before .before .before .before .before .before .before .before .before .before .before .before .before .before .before .before .before .pre .0) _ (c .before .before .before .before .before .before .before .before .before .before .before .before .before .before .before .before .blank-at .ensures) _ _ _ _ (c .before .before .before .before .before .before .before .before .before .before .before .before .sections .ensures .0) (c .before .before .before .before .before .before .before .before .before .before .before .before .sections .ensures .1) (c .before .before .before .before .before .before .before .before .before .before .before .before .sections .ensures .2) _ (c .before .before .before .before .before .before .rule-lengths .ensures) (search needs) _ (c .before .before .clear .ensures) l
 
 -- src/written.rt:68:16
 add-size : tie.Need-add-size
@@ -64,7 +64,7 @@ mul-rules-2 c = search needs
 
 -- src/written.rt:69:5
 rules-requires : tie.Need-rules-requires
-rules-requires c κs = (expand-tokens _ _ _ _ (c .before .before .before .before .before .before .before .before .before .before .before .before .before .before .before .before .before .before .before .before .pre .0) _ (c .before .before .before .before .before .before .before .before .before .before .before .before .before .before .blank-at .ensures) _ _ _ _ (c .before .before .before .before .before .before .before .before .before .before .sections .ensures .0) (c .before .before .before .before .before .before .before .before .before .before .sections .ensures .1), expand-entries _ _ _ _ (c .before .before .before .before .before .before .before .before .before .before .before .before .before .before .before .before .before .before .before .before .pre .0) _ (c .before .before .before .before .before .before .before .before .before .before .before .before .before .before .blank-at .ensures) _ _ _ _ (c .before .before .before .before .before .before .before .before .before .before .sections .ensures .0) (c .before .before .before .before .before .before .before .before .before .before .sections .ensures .1), expand-members _ _ _ _ (c .before .before .before .before .before .before .before .before .before .before .before .before .before .before .before .before .before .before .before .before .pre .0) _ (c .before .before .before .before .before .before .before .before .before .before .before .before .before .before .blank-at .ensures) _ _ _ _ (c .before .before .before .before .before .before .before .before .before .before .sections .ensures .0) (c .before .before .before .before .before .before .before .before .before .before .sections .ensures .1), expand-small _ _ _ _ (c .before .before .before .before .before .before .before .before .before .before .before .before .before .before .before .before .before .before .before .before .pre .0) _ (c .before .before .before .before .before .before .before .before .before .before .before .before .before .before .blank-at .ensures) _ _ _ _ (c .before .before .before .before .before .before .before .before .before .before .sections .ensures .0) (c .before .before .before .before .before .before .before .before .before .before .sections .ensures .1), expand-room _ _ _ _ (c .before .before .before .before .before .before .before .before .before .before .before .before .before .before .before .before .before .before .before .before .pre .0) _ (c .before .before .before .before .before .before .before .before .before .before .before .before .before .before .blank-at .ensures) _ _ _ _ (c .before .before .before .before .before .before .before .before .before .before .sections .ensures .0) (c .before .before .before .before .before .before .before .before .before .before .sections .ensures .1))
+rules-requires c κs = (expand-tokens _ _ _ _ (c .before .before .before .before .before .before .before .before .before .before .before .before .before .before .before .before .before .before .before .before .pre .0) _ (c .before .before .before .before .before .before .before .before .before .before .before .before .before .before .blank-at .ensures) _ _ _ _ (c .before .before .before .before .before .before .before .before .before .before .sections .ensures .0) (c .before .before .before .before .before .before .before .before .before .before .sections .ensures .1) (c .before .before .before .before .before .before .before .before .before .before .sections .ensures .2), expand-entries _ _ _ _ (c .before .before .before .before .before .before .before .before .before .before .before .before .before .before .before .before .before .before .before .before .pre .0) _ (c .before .before .before .before .before .before .before .before .before .before .before .before .before .before .blank-at .ensures) _ _ _ _ (c .before .before .before .before .before .before .before .before .before .before .sections .ensures .0) (c .before .before .before .before .before .before .before .before .before .before .sections .ensures .1) (c .before .before .before .before .before .before .before .before .before .before .sections .ensures .2), expand-members _ _ _ _ (c .before .before .before .before .before .before .before .before .before .before .before .before .before .before .before .before .before .before .before .before .pre .0) _ (c .before .before .before .before .before .before .before .before .before .before .before .before .before .before .blank-at .ensures) _ _ _ _ (c .before .before .before .before .before .before .before .before .before .before .sections .ensures .0) (c .before .before .before .before .before .before .before .before .before .before .sections .ensures .1) (c .before .before .before .before .before .before .before .before .before .before .sections .ensures .2), expand-small _ _ _ _ (c .before .before .before .before .before .before .before .before .before .before .before .before .before .before .before .before .before .before .before .before .pre .0) _ (c .before .before .before .before .before .before .before .before .before .before .before .before .before .before .blank-at .ensures) _ _ _ _ (c .before .before .before .before .before .before .before .before .before .before .sections .ensures .0) (c .before .before .before .before .before .before .before .before .before .before .sections .ensures .1) (c .before .before .before .before .before .before .before .before .before .before .sections .ensures .2), expand-room _ _ _ _ (c .before .before .before .before .before .before .before .before .before .before .before .before .before .before .before .before .before .before .before .before .pre .0) _ (c .before .before .before .before .before .before .before .before .before .before .before .before .before .before .blank-at .ensures) _ _ _ _ (c .before .before .before .before .before .before .before .before .before .before .sections .ensures .0) (c .before .before .before .before .before .before .before .before .before .before .sections .ensures .1) (c .before .before .before .before .before .before .before .before .before .before .sections .ensures .2))
 
 -- src/written.rt:70:9
 first-state-requires : tie.Need-first-state-requires
@@ -72,7 +72,7 @@ first-state-requires c κs = search needs
 
 -- src/written.rt:71:56
 counts-requires : tie.Need-counts-requires
-counts-requires c κs = (ordered _ _ _ _ (c .before .before .before .before .before .before .before .before .before .before .before .before .before .before .before .before .before .before .before .before .before .before .before .before .before .before .before .before .before .pre .0) _ (c .before .before .before .before .before .before .before .before .before .before .before .before .before .before .before .before .before .before .before .before .before .before .before .blank-at .ensures) _ _ _ _ (c .before .before .before .before .before .before .before .before .before .before .before .before .before .before .before .before .before .before .before .sections .ensures .0) (c .before .before .before .before .before .before .before .before .before .before .before .before .before .before .before .before .before .before .before .sections .ensures .1), rules-fit _ _ _ _ (c .before .before .before .before .before .before .before .before .before .before .before .before .before .before .before .before .before .before .before .before .before .before .before .before .before .before .before .before .before .pre .0) _ (c .before .before .before .before .before .before .before .before .before .before .before .before .before .before .before .before .before .before .before .before .before .before .before .before .before .before .before .before .before .pre .1))
+counts-requires c κs = (ordered _ _ _ _ (c .before .before .before .before .before .before .before .before .before .before .before .before .before .before .before .before .before .before .before .before .before .before .before .before .before .before .before .before .before .pre .0) _ (c .before .before .before .before .before .before .before .before .before .before .before .before .before .before .before .before .before .before .before .before .before .before .before .blank-at .ensures) _ _ _ _ (c .before .before .before .before .before .before .before .before .before .before .before .before .before .before .before .before .before .before .before .sections .ensures .0) (c .before .before .before .before .before .before .before .before .before .before .before .before .before .before .before .before .before .before .before .sections .ensures .1) (c .before .before .before .before .before .before .before .before .before .before .before .before .before .before .before .before .before .before .before .sections .ensures .2), rules-fit _ _ _ _ (c .before .before .before .before .before .before .before .before .before .before .before .before .before .before .before .before .before .before .before .before .before .before .before .before .before .before .before .before .before .pre .0) _ (c .before .before .before .before .before .before .before .before .before .before .before .before .before .before .before .before .before .before .before .before .before .before .before .before .before .before .before .before .before .pre .1))
 
 -- src/written.rt:71:21
 head-requires : tie.Need-head-requires
@@ -88,7 +88,7 @@ same-length-4 c = ?
 
 -- src/written.rt:50:1
 returns-2 : tie.Need-returns-2
-returns-2 c = λ l. whole _ _ _ _ (c .before .before .before .before .before .before .before .before .before .before .before .before .before .before .before .before .before .before .before .before .before .before .before .before .before .before .before .before .before .before .before .pre .0) _ (c .before .before .before .before .before .before .before .before .before .before .before .before .before .before .before .before .before .before .before .before .before .before .before .before .before .blank-at .ensures) _ _ _ _ (c .before .before .before .before .before .before .before .before .before .before .before .before .before .before .before .before .before .before .before .before .before .sections .ensures .0) (c .before .before .before .before .before .before .before .before .before .before .before .before .before .before .before .before .before .before .before .before .before .sections .ensures .1) (c .before .before .before .before .before .before .before .before .before .before .before .before .before .before .before .before .before .before .before .before .before .before .before .before .before .before .before .before .before .before .before .pre .2) _ (c .before .before .before .before .before .before .before .before .before .before .before .before .before .before .before .rule-lengths .ensures) (search needs) _ _ (c .before .before .before .before .before .before .before .before .before .before .rules .ensures .1) _ (c .before .before .before .before .before .before .before .before .before .before .before .before .before .before .before .before .before .before .before .before .before .before .before .before .before .before .before .before .before .before .before .pre .1) _ (c .before .before .before .before .before .before .before .before .before .before .rules .ensures .0) _ _ _ (c .before .before .before .before .first-state .ensures) (c .before .counts .ensures) (c .head .ensures) l
+returns-2 c = λ l. whole _ _ _ _ (c .before .before .before .before .before .before .before .before .before .before .before .before .before .before .before .before .before .before .before .before .before .before .before .before .before .before .before .before .before .before .before .pre .0) _ (c .before .before .before .before .before .before .before .before .before .before .before .before .before .before .before .before .before .before .before .before .before .before .before .before .before .blank-at .ensures) _ _ _ _ (c .before .before .before .before .before .before .before .before .before .before .before .before .before .before .before .before .before .before .before .before .before .sections .ensures .0) (c .before .before .before .before .before .before .before .before .before .before .before .before .before .before .before .before .before .before .before .before .before .sections .ensures .1) (c .before .before .before .before .before .before .before .before .before .before .before .before .before .before .before .before .before .before .before .before .before .sections .ensures .2) (c .before .before .before .before .before .before .before .before .before .before .before .before .before .before .before .before .before .before .before .before .before .before .before .before .before .before .before .before .before .before .before .pre .2) _ (c .before .before .before .before .before .before .before .before .before .before .before .before .before .before .before .rule-lengths .ensures) (search needs) _ _ (c .before .before .before .before .before .before .before .before .before .before .rules .ensures .1) _ (c .before .before .before .before .before .before .before .before .before .before .before .before .before .before .before .before .before .before .before .before .before .before .before .before .before .before .before .before .before .before .before .pre .1) _ (c .before .before .before .before .before .before .before .before .before .before .rules .ensures .0) _ _ _ (c .before .before .before .before .first-state .ensures) (c .before .counts .ensures) (c .head .ensures) l
 
 pub machine-spec : {M : Type 1} → statement M
 machine-spec =
