@@ -1,5 +1,5 @@
 -- `reader::sections::sections` meets its contract: each section is stored behind the one before it.
-use Rattle.reader.proofs.SheetLaws.{states-scratch, states-room, codes-base, codes-room, held-room, section-tokens, sigma-low, gamma-low, finals-room, header-room, trailing-room, rows-same, sections-written, sheet-same, work-same}
+use Rattle.reader.proofs.SectionLaws.{states-scratch, states-room, codes-base, codes-room, held-room, section-tokens, sigma-low, gamma-low, finals-room, header-room, trailing-room, rows-same, sections-written, sheet-same, work-same}
 use borrow.Author.Needs.{needs}
 use Rattle.reader.proofs.sections.sections.Statement.{statement}
 use Rattle.reader.proofs.sections.sections.Tie as tie

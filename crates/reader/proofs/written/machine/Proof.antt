@@ -1,5 +1,7 @@
 -- `reader::written::machine` meets its contract: the sections and the rules behind them are the machine's sheet, or need more words than it has.
-use Rattle.reader.proofs.SheetLaws.{blank-room, rules-fit, lengths-tokens, lengths-count, lengths-room, needed-fits, too-short, expand-tokens, expand-entries, expand-members, expand-small, expand-room, ordered, whole}
+use Rattle.sheet.proofs.Writes.{stored-length}
+use Rattle.reader.proofs.SheetLaws.{blank-room, head-room, sheet-long, rules-fit, lengths-tokens, lengths-count, lengths-room, needed-fits, too-short, expand-tokens, expand-entries, expand-members, expand-small, expand-room, ordered, whole}
+use mathlib.Core.Path.{_∙_}
 use borrow.Author.Needs.{needs}
 use Rattle.reader.proofs.written.machine.Statement.{statement}
 use Rattle.reader.proofs.written.machine.Tie as tie
@@ -76,19 +78,19 @@ counts-requires c κs = (ordered _ _ _ _ (c .before .before .before .before .bef
 
 -- src/written.rt:71:21
 head-requires : tie.Need-head-requires
-head-requires c κs = ?
+head-requires c κs = head-room _ _ _ _ (c .before .before .before .before .before .before .before .before .before .before .before .before .before .before .before .before .before .before .before .before .before .before .before .before .before .before .before .before .before .before .pre .0) _ _ (c .before .before .before .before .before .before .before .before .before .before .before .before .before .before .before .before .before .before .before .before .sections .ensures .1) (c .before .before .before .before .before .before .before .before .before .rules .kept .0)
 
 -- src/written.rt:50:1
 same-length-3 : tie.Need-same-length-3
-same-length-3 c = ?
+same-length-3 c = c .before .before .before .before .before .before .before .before .before .before .rules .kept .0 ∙ c .before .before .before .before .before .before .before .before .before .before .before .before .before .before .before .before .before .before .before .before .before .sections .ensures .1
 
 -- src/written.rt:50:1
 same-length-4 : tie.Need-same-length-4
-same-length-4 c = ?
+same-length-4 c = stored-length _ _ _ _ _ (c .before .before .before .before .before .before .before .before .before .before .rules .ensures .1) ∙ sheet-long _ _ _ _ (c .before .before .before .before .before .before .before .before .before .before .before .before .before .before .before .before .before .before .before .before .before .sections .ensures .2)
 
 -- src/written.rt:50:1
 returns-2 : tie.Need-returns-2
-returns-2 c = λ l. whole _ _ _ _ (c .before .before .before .before .before .before .before .before .before .before .before .before .before .before .before .before .before .before .before .before .before .before .before .before .before .before .before .before .before .before .before .pre .0) _ (c .before .before .before .before .before .before .before .before .before .before .before .before .before .before .before .before .before .before .before .before .before .before .before .before .before .blank-at .ensures) _ _ _ _ (c .before .before .before .before .before .before .before .before .before .before .before .before .before .before .before .before .before .before .before .before .before .sections .ensures .0) (c .before .before .before .before .before .before .before .before .before .before .before .before .before .before .before .before .before .before .before .before .before .sections .ensures .1) (c .before .before .before .before .before .before .before .before .before .before .before .before .before .before .before .before .before .before .before .before .before .sections .ensures .2) (c .before .before .before .before .before .before .before .before .before .before .before .before .before .before .before .before .before .before .before .before .before .before .before .before .before .before .before .before .before .before .before .pre .2) _ (c .before .before .before .before .before .before .before .before .before .before .before .before .before .before .before .rule-lengths .ensures) (search needs) _ _ (c .before .before .before .before .before .before .before .before .before .before .rules .ensures .1) _ (c .before .before .before .before .before .before .before .before .before .before .before .before .before .before .before .before .before .before .before .before .before .before .before .before .before .before .before .before .before .before .before .pre .1) _ (c .before .before .before .before .before .before .before .before .before .before .rules .ensures .0) _ _ _ (c .before .before .before .before .first-state .ensures) (c .before .counts .ensures) (c .head .ensures) l
+returns-2 c = λ l. whole _ _ _ _ (c .before .before .before .before .before .before .before .before .before .before .before .before .before .before .before .before .before .before .before .before .before .before .before .before .before .before .before .before .before .before .before .pre .0) _ (c .before .before .before .before .before .before .before .before .before .before .before .before .before .before .before .before .before .before .before .before .before .before .before .before .before .blank-at .ensures) _ _ _ _ (c .before .before .before .before .before .before .before .before .before .before .before .before .before .before .before .before .before .before .before .before .before .sections .ensures .0) (c .before .before .before .before .before .before .before .before .before .before .before .before .before .before .before .before .before .before .before .before .before .sections .ensures .1) (c .before .before .before .before .before .before .before .before .before .before .before .before .before .before .before .before .before .before .before .before .before .sections .ensures .2) (c .before .before .before .before .before .before .before .before .before .before .before .before .before .before .before .before .before .before .before .before .before .before .before .before .before .before .before .before .before .before .before .pre .2) _ (c .before .before .before .before .before .before .before .before .before .before .before .before .before .before .before .rule-lengths .ensures) (c .before .before .before .before .before .before .before .before .before .before .before .before .before .if1 .left) _ _ (c .before .before .before .before .before .before .before .before .before .before .rules .ensures .1) _ (c .before .before .before .before .before .before .before .before .before .before .before .before .before .before .before .before .before .before .before .before .before .before .before .before .before .before .before .before .before .before .before .pre .1) _ (c .before .before .before .before .before .before .before .before .before .before .rules .ensures .0) _ _ _ (c .before .before .before .before .first-state .ensures) (c .before .counts .ensures) (c .head .ensures) l
 
 pub machine-spec : {M : Type 1} → statement M
 machine-spec =
