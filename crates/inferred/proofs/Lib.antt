@@ -6,3 +6,4 @@ pub mod RuleSymbols
 pub mod AlphabetsInferred
 pub mod CodesFit
 pub mod InputInferred
+pub mod OfText
