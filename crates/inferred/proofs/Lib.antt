@@ -5,3 +5,5 @@ pub mod StatesInferred
 pub mod RuleSymbols
 pub mod AlphabetsInferred
 pub mod CodesFit
+pub mod InputInferred
+pub mod OfText
