@@ -104,8 +104,14 @@ module _ (text : List ℕ) (count : ℕ) (w first : List ℕ) (r : Ready text co
     -- where the sections end
     joined-length : length (joined s) ≡ length (s .states) + (length (s .sigma) + (length (s .gamma) + (length (s .finals) + (length (s .header) + length (s .trailing)))))
     joined-length =
-        omega (arith, length-append (s .states) (s .sigma ++ (s .gamma ++ (s .finals ++ (s .header ++ s .trailing)))), length-append (s .sigma) (s .gamma ++ (s .finals ++ (s .header ++ s .trailing))),
-        length-append (s .gamma) (s .finals ++ (s .header ++ s .trailing)), length-append (s .finals) (s .header ++ s .trailing), length-append (s .header) (s .trailing))
+        omega (
+          arith,
+          length-append (s .states) (s .sigma ++ (s .gamma ++ (s .finals ++ (s .header ++ s .trailing)))),
+          length-append (s .sigma) (s .gamma ++ (s .finals ++ (s .header ++ s .trailing))),
+          length-append (s .gamma) (s .finals ++ (s .header ++ s .trailing)),
+          length-append (s .finals) (s .header ++ s .trailing),
+          length-append (s .header) (s .trailing),
+        )
 
     end-is : e .trailing ≡ length (joined s)
     unfolding endsOf
@@ -115,8 +121,19 @@ module _ (text : List ℕ) (count : ℕ) (w first : List ℕ) (r : Ready text co
     unfolding sectionsOf
     joined-low =
         let cs : List ℕ = gammaCodes text b (rows count w) first in
-        omega (arith, joined-length, states-few size (rows count w) first w, sigma-few b (rows count w) first cs, gamma-few b (rows count w) first cs, finals-few (rows count w) (getD first 10 0),
-        T.header-few text count w first r (ties text count w first r .shown), T.trailing-few text count w first r (ties text count w first r .shown), code-count text count w first r b, row-size text count w first r, few text count w first r)
+        omega (
+          arith,
+          joined-length,
+          states-few size (rows count w) first w,
+          sigma-few b (rows count w) first cs,
+          gamma-few b (rows count w) first cs,
+          finals-few (rows count w) (getD first 10 0),
+          T.header-few text count w first r (ties text count w first r .shown),
+          T.trailing-few text count w first r (ties text count w first r .shown),
+          code-count text count w first r b,
+          row-size text count w first r,
+          few text count w first r,
+        )
 
     pub ordered : Ordered e
     unfolding endsOf
