@@ -1,4 +1,5 @@
 pub mod Few
 pub mod Bounds
 pub mod Sizes
+pub mod Ties
 pub mod Sheets

@@ -37,7 +37,7 @@ use Rattle.assembler.proofs.MarkLaws.{first-low}
 use Rattle.assembler.proofs.AssembledLaws.{length-entered}
 use Rattle.sheet.specs.Comments.{textWords, header, trailing}
 use Rattle.sheet.specs.Rules.{rules, ruleLengths}
-use Rattle.shown.proofs.Shows.{ItemParsed, Mentions, Said, Shown}
+use Rattle.shown.proofs.Shows.{Said, Shown}
 use Rattle.shown.proofs.BodyShown.{header-shown, trailing-shown, rules-shown, lengths-shown, kept-all}
 use Rattle.infer.specs.States.{Scratch, stateSection, finalSection, firstState}
 use Rattle.infer.proofs.SectionLaws.{first-there}
@@ -48,21 +48,11 @@ use Rattle.machine.specs.Head.{spanOf, countsOf}
 use Rattle.head.specs.Meaning.{spanIn, countsIn, headIn}
 use Rattle.head.specs.Heads.{blankAt, headAt}
 use Rattle.head.proofs.HeadMeans.{head-means}
-use Rattle.head.proofs.ItemSays.{parsed-says}
-use Rattle.answered.specs.Tied.{Tied}
+use Rattle.head.proofs.ItemSays.{said-says}
+use Rattle.answered.proofs.Ties.{Tied, row-size, few, table, no-rule-errors}
 use Rattle.answered.specs.Ready.{linesOf, Ready}
 use Rattle.answered.specs.Sections.{Sections, sectionsOf, joined}
 use Rattle.answered.proofs.Bounds.{comments-few, words-few}
-
--- a list at the end of one that is empty
-none-last : {X : Type 0} (a b : List X) → a ++ b ≡ [] → b ≡ []
-none-last [] b e = e
-none-last (x ∷ a) b e = absurd (let z : _≡_ {A = ℕ} 0 1 = cc in omega arith)
-
--- a state is a word
-state-word : (t : Token) → isState t ≡ true → isWord t ≡ true
-unfolding isState
-state-word t h = by-test (isWord t) (λ y. y) (λ n. let z : false ≡ true = rw n at h in cc)
 
 module _ (text : List ℕ) (count : ℕ) (w first : List ℕ) (r : Ready text count w first) where
   abbrev ts : List Token
@@ -71,39 +61,9 @@ module _ (text : List ℕ) (count : ℕ) (w first : List ℕ) (r : Ready text co
   abbrev ls : List (Line Place)
   ls = linesOf text
 
-  -- ---- the row
-  pub row-size : length (rows count w) ≡ count
-  row-size = ap length (r .row) ∙ length-entered (map tokenOf (tokens (decode text))) ∙ length-map (tokens (decode text)) tokenOf ∙ sym (r .many)
-
-  pub few : count ≤ length text + 1
-  few = omega (arith, r .many, tokens-of-bytes text)
-
-  pub scratch : Scratch (length text + 1) count w
-  scratch = record {
-    few = few;
-    room = omega (arith, r .room);
-    low = λ x h s.
-        let word : isWord (peek (rows count w) x) ≡ true = state-word (peek (rows count w) x) s in
-        let here : x < length (rows count w) = omega (arith, row-size) in
-        omega (arith, r .names .interned x here word, first-low text (rows count w) x here word, row-size, few);
-  }
-
-  table : first ≡ declarations (length (rows count w)) undeclared (entries (rows count w))
-  table = r .declared ∙ ap (λ (n : ℕ). declarations n undeclared (entries (rows count w))) (sym row-size)
-
   -- ---- rules
-  no-rule-errors : A.ruleErrors 0 false (A.bodyOf (linesOf text) .rules) ≡ []
-  unfolding A.diagnosticsOf
-  no-rule-errors =
-      let is : List (Located Place (Item Place)) = A.items (linesOf text) in
-      let a : List (A.Diagnostic Place) = A.lineErrors (linesOf text) in
-      let b : List (A.Diagnostic Place) = A.declarationErrors [] is in
-      let c : List (A.Diagnostic Place) = A.finalErrors (A.statesIn is) [] (A.finalsIn is) in
-      let d : List (A.Diagnostic Place) = A.ruleErrors 0 false (A.bodyOf (linesOf text) .rules) in
-      none-last c d (none-last b (c ++ d) (none-last a (b ++ (c ++ d)) (r .none-found)))
-
   all-kept : A.kept 0 (A.bodyOf (linesOf text) .rules) ≡ A.bodyOf (linesOf text) .rules
-  all-kept = kept-all 0 (A.bodyOf (linesOf text) .rules) no-rule-errors
+  all-kept = kept-all 0 (A.bodyOf (linesOf text) .rules) (no-rule-errors text count w first r)
 
   rules-few : ruleCount (A.bodyOf (linesOf text) .rules) ≤ 262144
   rules-few = omega (arith, kept-within 0 (A.bodyOf (linesOf text) .rules) (omega arith), ap ruleCount all-kept)
@@ -124,7 +84,7 @@ module _ (text : List ℕ) (count : ℕ) (w first : List ℕ) (r : Ready text co
         ∙ sym lengths-are
 
     pub lengths-few : ruleLengths (rows count w) ≤ 262144 * (11 + 7 * count) + 2 * count
-    lengths-few = omega (arith, lengths-shown 0 ts ls shown, words-few ts ls shown rules-few, row-size)
+    lengths-few = omega (arith, lengths-shown 0 ts ls shown, words-few ts ls shown rules-few, row-size text count w first r)
 
     header-two : length (L.flat textWords (header (rows count w))) ≡ 2 * length (A.bodyOf (linesOf text) .header)
     header-two =
@@ -137,21 +97,20 @@ module _ (text : List ℕ) (count : ℕ) (w first : List ℕ) (r : Ready text co
         ap length (trailing-shown 0 ts ls shown) ∙ flat-length L.locatedWords 2 (A.bodyOf (linesOf text) .trailing) (every-any _ (λ c. refl) (A.bodyOf (linesOf text) .trailing)) ∙ n
 
     pub header-few : length (L.flat textWords (header (rows count w))) ≤ 2 * count
-    header-few = omega (arith, header-two, comments-few ts ls shown, row-size)
+    header-few = omega (arith, header-two, comments-few ts ls shown, row-size text count w first r)
 
     pub trailing-few : length (L.flat textWords (trailing (rows count w))) ≤ 2 * count
-    trailing-few = omega (arith, trailing-two, comments-few ts ls shown, row-size)
+    trailing-few = omega (arith, trailing-two, comments-few ts ls shown, row-size text count w first r)
 
   -- ---- what its entries say
   module _ (said : AllMean (Said text (rows count w)) (rows count w) (entries (rows count w)) (linesOf text)) where
     pub head-is : (s : Span) (n : Counts) → (A.first (λ p. p .start) (A.items (linesOf text)) ≡ none → spanIn s ≡ L.headOf (I.machineOf (linesOf text)) .start)
         → countsIn n ≡ L.headOf (I.machineOf (linesOf text)) .counts → headIn (headAt (rows count w) first s n) ≡ L.headOf (I.machineOf (linesOf text))
     head-is s n z c =
-        ap (λ (f : List ℕ). headIn (headAt (rows count w) f s n)) table
-        ∙ head-means (Said text ts) ts (λ f e i q x. parsed-says text (omega (arith, r .short)) ts f e i q (subst (λ (k : ℕ). ItemParsed text ts k i) (ap (λ (e : Entry). e .at) q) (x .1)))
-        (omega (arith, row-size, few, r .short)) (entries ts) ls said s n z c
+        ap (λ (f : List ℕ). headIn (headAt (rows count w) f s n)) (table text count w first r)
+        ∙ head-means (Said text ts) (λ e i x. said-says text (omega (arith, r .short)) ts e i x) ts (omega (arith, row-size text count w first r, few text count w first r, r .short)) (entries ts) ls said s n z c
 
-    blank-is : blankAt (rows count w) (getD first 8 0) ≡ I.machineOf (linesOf text) .blank
+    pub blank-is : blankAt (rows count w) (getD first 8 0) ≡ I.machineOf (linesOf text) .blank
     unfolding headIn headAt L.headOf
     blank-is = ap (λ (h : L.Head). h .blank) (head-is (spanOf (L.headOf (I.machineOf ls) .start)) (countsOf (L.headOf (I.machineOf ls) .counts)) (λ z. refl) refl)
 

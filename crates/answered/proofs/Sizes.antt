@@ -9,7 +9,6 @@ use lib.ListN.{length, getD, take, drop, length-append, length-drop, length-take
 use Rattle.tokens.specs.declared.Token.{Token}
 use Rattle.parser.specs.Row.{peek}
 use Rattle.parser.specs.Views.{isState, isSymbol}
-use Rattle.language.specs.Infer.{member}
 use Rattle.language.specs.Layout.{flat}
 use Rattle.assembler.specs.Rows.{placeOf}
 use Rattle.assembler.specs.Entries.{Entry, behind, entriesFrom, entries}
@@ -17,9 +16,8 @@ use Rattle.sheet.specs.Comments.{spanWords}
 use Rattle.sheet.specs.Rules.{resolve}
 use Rattle.infer.specs.Page.{indicesFrom, indicesIn}
 use Rattle.infer.specs.States.{markAt, nameWords, nameAdds, nameMarks, namesAdd, mention, mentions, startName, finals, statesAdd, stateSection, placeAt, finalSection}
-use Rattle.infer.specs.Codes.{noted, notedAll}
 use Rattle.infer.specs.Symbols.{range, symbols, symbolsIn, lineRange, hasBlank}
-use Rattle.infer.specs.Alphabets.{listedWords, inferredWords, otherWords, candidates, gammaCodes, declaredGamma, gammaWords, inferredSigma, sigmaWords}
+use Rattle.infer.specs.Alphabets.{listedWords, inferredWords, otherWords, declaredGamma, gammaWords, inferredSigma, sigmaWords}
 
 -- one of two lists that are short enough
 either : (b : Bool) (l m : List ℕ) (n : ℕ) → length l ≤ n → length m ≤ n → length (cond b l m) ≤ n
@@ -114,16 +112,6 @@ unfolding symbolsIn
 line-few ts f =
     let n : ℕ = peek ts f .value - (f + 1) in
     omega (arith, symbols-few (take n (drop (f + 1) ts)), length-take n (drop (f + 1) ts), length-drop (f + 1) ts)
-
-noted-few : (cs xs : List ℕ) → length (notedAll cs xs) ≤ length cs + length xs
-unfolding notedAll noted
-noted-few cs [] = omega arith
-noted-few cs (x ∷ xs) =
-    omega (arith, noted-few (noted cs x) xs, either (member eqb cs x) cs (cs ++ x ∷ []) (length cs + 1) (omega arith) (omega (arith, length-append cs (x ∷ []))))
-
-pub codes-few : (text : List ℕ) (b : ℕ) (ts : List Token) (first : List ℕ) → length (gammaCodes text b ts first) ≤ 1 + length (candidates text b ts first)
-unfolding gammaCodes
-codes-few text b ts first = noted-few (b ∷ []) (candidates text b ts first)
 
 module _ (b : ℕ) (ts : List Token) (first cs : List ℕ) where
   listed-few : (f : ℕ) → length (flat (listedWords b) (symbolsIn ts f)) ≤ 3 * length ts

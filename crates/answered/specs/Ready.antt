@@ -15,7 +15,6 @@ use Rattle.assembler.specs.Entered.{entered}
 use Rattle.assembler.specs.Declarations.{undeclared, declarations}
 use Rattle.assembler.specs.Finals.{Interned}
 use Rattle.assembler.specs.Assembled.{wordsFrom}
-use Rattle.answered.specs.Tied.{Tied}
 
 -- the lines of a text
 abbrev pub linesOf : List ℕ → List (Line Span)
@@ -30,4 +29,3 @@ pub record Ready (text : List ℕ) (count : ℕ) (w first : List ℕ) : Type 0 w
   pub names : Interned text (rows count w) (wordsFrom (length text)) w
   pub declared : first ≡ declarations count undeclared (entries (rows count w))
   pub none-found : diagnosticsOf (linesOf text) ≡ []
-  pub tied : Tied text count w first

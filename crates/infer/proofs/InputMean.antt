@@ -17,7 +17,7 @@ valueOf (closed v k) = v
 valueOf unclosed = []
 
 -- a string that ends
-abbrev Ends : Inside → Type 0
+abbrev pub Ends : Inside → Type 0
 Ends (closed v k) = Unit {0}
 Ends unclosed = ⊥
 

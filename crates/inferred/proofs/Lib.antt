@@ -4,3 +4,6 @@ pub mod RuleLines
 pub mod StatesInferred
 pub mod RuleSymbols
 pub mod AlphabetsInferred
+pub mod CodesFit
+pub mod InputInferred
+pub mod OfText

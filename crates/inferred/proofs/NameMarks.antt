@@ -33,7 +33,7 @@ use Rattle.infer.proofs.SectionLaws.{unmarked-kept}
 
 -- ---- states among indices
 -- a state is a word
-state-word : (t : Token) → isState t ≡ true → isWord t ≡ true
+pub state-word : (t : Token) → isState t ≡ true → isWord t ≡ true
 unfolding isState
 state-word t e = go (eqb (t .kind) 0) refl
   where

@@ -29,7 +29,6 @@ use Rattle.assembler.specs.Rows.{rows}
 use Rattle.assembler.specs.Entered.{entered}
 use Rattle.assembler.specs.Records.{recordsOf}
 use Rattle.assembler.specs.Assembled.{Tokenized, Outcome}
-use Rattle.answered.specs.Tied.{Tied}
 use Rattle.answered.specs.Ready.{linesOf, Ready}
 use Rattle.answered.proofs.Few.{diagnostics-few}
 use Rattle.reader.specs.declared.Refusal as R
@@ -149,8 +148,8 @@ module _ (t w : List ℕ) (a : refusalOf t (length w) ≡ none) where
             go [] e = refl
             go (d ∷ ds) e = absurd (omega (arith, o .errors, ap length e))
 
-        pub machine-ready : Tied t count w₂ (r .first) → Ready t count w₂ (r .first)
-        machine-ready tied = record {
+        pub machine-ready : Ready t count w₂ (r .first)
+        machine-ready = record {
           short = short t (length w) a;
           room = omega (arith, o .entered .size, size, room t (length w) a);
           many = n;
@@ -158,7 +157,6 @@ module _ (t w : List ℕ) (a : refusalOf t (length w) ≡ none) where
           names = o .entered .names;
           declared = o .first;
           none-found = none-found;
-          tied = tied;
         }
 
         log-same : log₂ ≡ zeros (length L)

@@ -4,4 +4,5 @@ pub mod AnswerWords
 pub mod Reports
 pub mod Outcomes
 pub mod Calls
+pub mod SectionLaws
 pub mod SheetLaws

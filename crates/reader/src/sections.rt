@@ -1,8 +1,7 @@
 // The sections of the sheet before the rules.
-ghost use Prim.Native.Nat.{_+_, _*_};
+ghost use mathlib.Core.Path.{_≡_};
 ghost use lib.ListN.{length};
 ghost use Rattle.assembler.specs.Rows.{rows};
-ghost use Rattle.infer.specs.Page.{Kept};
 ghost use Rattle.answered.specs.Ready.{Ready};
 ghost use Rattle.answered.specs.Sections.{sectionsOf};
 ghost use Rattle.reader.specs.Sheet.{Written};
@@ -32,13 +31,13 @@ pub fn sections(
     sheet: &mut [u32],
 ) -> Ends
     requires { ⌜ Ready (now text) count (now work) (now first) ⌝ }
-    ensures { λ e. ⌜ Kept (5 * (length (now (text .entry)) + 1)) (now (work .entry)) (now (work .exit)) × Written (sectionsOf (now (text .entry)) blank (rows count (now (work .entry))) (now (first .entry)) (now (work .entry))) (now (sheet .entry)) (now (sheet .exit)) e ⌝ }
+    ensures { λ e. ⌜ (rows count (now (work .exit)) ≡ rows count (now (work .entry))) × (length (now (work .exit)) ≡ length (now (work .entry))) × Written (sectionsOf (now (text .entry)) blank (rows count (now (work .entry))) (now (first .entry)) (now (work .entry))) (now (sheet .entry)) (now (sheet .exit)) e ⌝ }
 {
     let size = text.len() + 1;
     let q = states::section(work, count, size, first, sheet, 0);
-    let n = symbols::gamma_codes(text, work, count, 5 * size, first, blank);
-    let s = symbols::sigma(work, count, 5 * size, n, first, blank, sheet, q);
-    let g = symbols::gamma(work, count, 5 * size, n, first, blank, sheet, s);
+    let n = symbols::gamma_codes(text, work, count, 4 * size, first, blank);
+    let s = symbols::sigma(work, count, 4 * size, n, first, blank, sheet, q);
+    let g = symbols::gamma(work, count, 4 * size, n, first, blank, sheet, s);
     let f = finals::section(work, count, entry::wide(first[10]), sheet, g);
     let h = comments::header(work, count, sheet, f);
     let t = comments::trailing(work, count, sheet, h);

@@ -50,7 +50,7 @@ returns c = (search (needs, report-outcome), search (needs, report-work))
 
 -- src/lib.rt:52:5
 machine-requires : tie.Need-machine-requires
-machine-requires c κs = (machine-ready _ _ (c .before .before .before .before .before .before .before .before .before .before .before .before .before .before .before .before .before .before .before .before .before .before .before .before .before .before .before .pre) _ _ (c .before .before .before .before .before .before .before .before .before .before .before .before .before .tokenize .ensures .0) (c .before .before .before .before .before .before .before .before .before .before .before .before .before .tokenize .ensures .1) (c .before .before .before .before .before .before .before .before .before .before .before .before .before .before .before .before .before .before .before .before .before .before .before .before .before .before .before .args .log .now) [] _ _ _ _ (c .before .before .before .before .before .before .before .before .before .before .before .before .before .before .before .before .before .before .before .before .before .clear .ensures) (c .before .before .before .before .before .before .before .before .assemble .ensures) (search needs) ?, c .before .before .before .before .before .before .before .before .assemble .ensures .rules, zeros-again _ (c .before .before .before .before .before .before .before .before .before .before .before .before .before .before .before .before .before .before .before .before .before .before .before .before .before .before .before .args .sheet .now) (c .before .before .before .before .before .before .before .before .before .before .before .before .before .before .before .before .before .clear2 .ensures))
+machine-requires c κs = (machine-ready _ _ (c .before .before .before .before .before .before .before .before .before .before .before .before .before .before .before .before .before .before .before .before .before .before .before .before .before .before .before .pre) _ _ (c .before .before .before .before .before .before .before .before .before .before .before .before .before .tokenize .ensures .0) (c .before .before .before .before .before .before .before .before .before .before .before .before .before .tokenize .ensures .1) (c .before .before .before .before .before .before .before .before .before .before .before .before .before .before .before .before .before .before .before .before .before .before .before .before .before .before .before .args .log .now) [] _ _ _ _ (c .before .before .before .before .before .before .before .before .before .before .before .before .before .before .before .before .before .before .before .before .before .clear .ensures) (c .before .before .before .before .before .before .before .before .assemble .ensures) (search needs), c .before .before .before .before .before .before .before .before .assemble .ensures .rules, zeros-again _ (c .before .before .before .before .before .before .before .before .before .before .before .before .before .before .before .before .before .before .before .before .before .before .before .before .before .before .before .args .sheet .now) (c .before .before .before .before .before .before .before .before .before .before .before .before .before .before .before .before .before .clear2 .ensures))
 
 -- src/lib.rt:41:1
 same-length-4 : tie.Need-same-length-4

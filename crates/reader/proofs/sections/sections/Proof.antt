@@ -1,5 +1,5 @@
 -- `reader::sections::sections` meets its contract: each section is stored behind the one before it.
-use Rattle.reader.proofs.SheetLaws.{states-scratch, states-room, codes-base, codes-room, held-room, section-tokens, sigma-low, gamma-low, finals-room, header-room, trailing-room, sections-kept, sections-written, sheet-same, work-same}
+use Rattle.reader.proofs.SectionLaws.{states-scratch, states-room, codes-base, codes-room, held-room, section-tokens, sigma-low, gamma-low, finals-room, header-room, trailing-room, rows-same, sections-written, sheet-same, work-same}
 use borrow.Author.Needs.{needs}
 use Rattle.reader.proofs.sections.sections.Statement.{statement}
 use Rattle.reader.proofs.sections.sections.Tie as tie
@@ -78,7 +78,7 @@ same-length-2 c = sheet-same _ _ _ _ (c .before .before .before .before .before 
 
 -- src/sections.rt:26:1
 returns : tie.Need-returns
-returns c = (sections-kept _ _ _ _ (c .before .before .before .before .before .before .before .before .before .before .before .before .before .before .before .before .before .before .before .before .before .before .before .before .before .before .before .before .before .before .before .before .before .before .before .before .before .before .before .before .before .pre) _ (c .before .before .before .before .before .before .before .before .before .before .before .before .before .before .before .before .before .before .before .before .before .before .before .before .before .before .before .before .before .before .before .before .before .before .before .section .ensures .0) _ _ _ (c .before .before .before .before .before .before .before .before .before .before .before .before .before .before .before .before .before .before .before .before .before .before .before .before .before .before .before .before .before .gamma-codes .ensures) _ _ _ (c .before .before .before .before .before .before .before .before .before .before .before .before .before .before .before .before .before .before .before .before .before .before .before .before .before .before .before .before .before .before .before .before .before .before .before .section .ensures .1) _ _ (c .before .before .before .before .before .before .before .before .before .before .before .before .before .before .before .before .before .before .before .before .before .before .before .before .sigma .ensures) _ _ (c .before .before .before .before .before .before .before .before .before .before .before .before .before .before .before .before .before .before .before .gamma .ensures) _ (c .before .before .before .before .before .before .before .before .before .before .before .before .before .before .wide .ensures .0) _ _ (c .before .before .before .before .before .before .before .before .before .before .before .before .section2 .ensures) _ _ (c .before .before .before .before .before .before .before .header .ensures) _ _ (c .before .before .trailing .ensures), sections-written _ _ _ _ (c .before .before .before .before .before .before .before .before .before .before .before .before .before .before .before .before .before .before .before .before .before .before .before .before .before .before .before .before .before .before .before .before .before .before .before .before .before .before .before .before .before .pre) _ (c .before .before .before .before .before .before .before .before .before .before .before .before .before .before .before .before .before .before .before .before .before .before .before .before .before .before .before .before .before .before .before .before .before .before .before .section .ensures .0) _ _ _ (c .before .before .before .before .before .before .before .before .before .before .before .before .before .before .before .before .before .before .before .before .before .before .before .before .before .before .before .before .before .gamma-codes .ensures) _ _ _ (c .before .before .before .before .before .before .before .before .before .before .before .before .before .before .before .before .before .before .before .before .before .before .before .before .before .before .before .before .before .before .before .before .before .before .before .section .ensures .1) _ _ (c .before .before .before .before .before .before .before .before .before .before .before .before .before .before .before .before .before .before .before .before .before .before .before .before .sigma .ensures) _ _ (c .before .before .before .before .before .before .before .before .before .before .before .before .before .before .before .before .before .before .before .gamma .ensures) _ (c .before .before .before .before .before .before .before .before .before .before .before .before .before .before .wide .ensures .0) _ _ (c .before .before .before .before .before .before .before .before .before .before .before .before .section2 .ensures) _ _ (c .before .before .before .before .before .before .before .header .ensures) _ _ (c .before .before .trailing .ensures))
+returns c = (rows-same _ _ _ _ (c .before .before .before .before .before .before .before .before .before .before .before .before .before .before .before .before .before .before .before .before .before .before .before .before .before .before .before .before .before .before .before .before .before .before .before .before .before .before .before .before .before .pre) _ (c .before .before .before .before .before .before .before .before .before .before .before .before .before .before .before .before .before .before .before .before .before .before .before .before .before .before .before .before .before .before .before .before .before .before .before .section .ensures .0) _ _ _ (c .before .before .before .before .before .before .before .before .before .before .before .before .before .before .before .before .before .before .before .before .before .before .before .before .before .before .before .before .before .gamma-codes .ensures) _ _ _ (c .before .before .before .before .before .before .before .before .before .before .before .before .before .before .before .before .before .before .before .before .before .before .before .before .before .before .before .before .before .before .before .before .before .before .before .section .ensures .1) _ _ (c .before .before .before .before .before .before .before .before .before .before .before .before .before .before .before .before .before .before .before .before .before .before .before .before .sigma .ensures) _ _ (c .before .before .before .before .before .before .before .before .before .before .before .before .before .before .before .before .before .before .before .gamma .ensures) _ (c .before .before .before .before .before .before .before .before .before .before .before .before .before .before .wide .ensures .0) _ _ (c .before .before .before .before .before .before .before .before .before .before .before .before .section2 .ensures) _ _ (c .before .before .before .before .before .before .before .header .ensures) _ _ (c .before .before .trailing .ensures), work-same _ _ _ _ (c .before .before .before .before .before .before .before .before .before .before .before .before .before .before .before .before .before .before .before .before .before .before .before .before .before .before .before .before .before .before .before .before .before .before .before .before .before .before .before .before .before .pre) _ (c .before .before .before .before .before .before .before .before .before .before .before .before .before .before .before .before .before .before .before .before .before .before .before .before .before .before .before .before .before .before .before .before .before .before .before .section .ensures .0) _ _ _ (c .before .before .before .before .before .before .before .before .before .before .before .before .before .before .before .before .before .before .before .before .before .before .before .before .before .before .before .before .before .gamma-codes .ensures) _ _ _ (c .before .before .before .before .before .before .before .before .before .before .before .before .before .before .before .before .before .before .before .before .before .before .before .before .before .before .before .before .before .before .before .before .before .before .before .section .ensures .1) _ _ (c .before .before .before .before .before .before .before .before .before .before .before .before .before .before .before .before .before .before .before .before .before .before .before .before .sigma .ensures) _ _ (c .before .before .before .before .before .before .before .before .before .before .before .before .before .before .before .before .before .before .before .gamma .ensures) _ (c .before .before .before .before .before .before .before .before .before .before .before .before .before .before .wide .ensures .0) _ _ (c .before .before .before .before .before .before .before .before .before .before .before .before .section2 .ensures) _ _ (c .before .before .before .before .before .before .before .header .ensures) _ _ (c .before .before .trailing .ensures), sections-written _ _ _ _ (c .before .before .before .before .before .before .before .before .before .before .before .before .before .before .before .before .before .before .before .before .before .before .before .before .before .before .before .before .before .before .before .before .before .before .before .before .before .before .before .before .before .pre) _ (c .before .before .before .before .before .before .before .before .before .before .before .before .before .before .before .before .before .before .before .before .before .before .before .before .before .before .before .before .before .before .before .before .before .before .before .section .ensures .0) _ _ _ (c .before .before .before .before .before .before .before .before .before .before .before .before .before .before .before .before .before .before .before .before .before .before .before .before .before .before .before .before .before .gamma-codes .ensures) _ _ _ (c .before .before .before .before .before .before .before .before .before .before .before .before .before .before .before .before .before .before .before .before .before .before .before .before .before .before .before .before .before .before .before .before .before .before .before .section .ensures .1) _ _ (c .before .before .before .before .before .before .before .before .before .before .before .before .before .before .before .before .before .before .before .before .before .before .before .before .sigma .ensures) _ _ (c .before .before .before .before .before .before .before .before .before .before .before .before .before .before .before .before .before .before .before .gamma .ensures) _ (c .before .before .before .before .before .before .before .before .before .before .before .before .before .before .wide .ensures .0) _ _ (c .before .before .before .before .before .before .before .before .before .before .before .before .section2 .ensures) _ _ (c .before .before .before .before .before .before .before .header .ensures) _ _ (c .before .before .trailing .ensures))
 
 pub sections-spec : {M : Type 1} → statement M
 sections-spec =
