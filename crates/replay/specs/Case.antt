@@ -4,7 +4,7 @@ use mathlib.Core.Bool.{Bool, true, false, cond, _&&_}
 use mathlib.Core.List.{List, [], _∷_}
 use lib.Dec.{eqb, leb, ltb}
 use lib.ListN.{length, getD, take, drop}
-use Rattle.language.specs.Outcome.{ReadOutcome, replyWords, readOutcome}
+use Rattle.language.specs.Outcome.{ReadOutcome, replyWords, readOutcome, WriteOutcome, writeWords}
 use Rattle.reader.specs.Reading.{leavesWorkNumber}
 
 -- the little-endian word at an index of stored bytes, 0 behind the last
@@ -60,6 +60,15 @@ outputFrom c from n i (x ∷ xs) = eqb x (byteWanted c from n i) && outputFrom c
 unfoldable pub outputLeft : List ℕ → ℕ → ℕ → List ℕ → Bool
 unfolding outputFrom
 outputLeft c from n row = leb n (length row) && outputFrom c from n 0 row
+
+-- whether it is where what is stored ends at an offset; the word 8 is its mark
+unfoldable pub outputAt : List ℕ → ℕ → List ℕ → Bool
+outputAt c end row = cond (ltb end (marked (wordAt c 8))) false (outputLeft c (end - marked (wordAt c 8)) (marked (wordAt c 8)) row)
+
+-- whether an outcome of writing is the stored one, with the first words of the answer at the word 45
+unfoldable pub formAgrees : List ℕ → List ℕ → ℕ → WriteOutcome → Bool
+formAgrees before c end o =
+    left before c 45 3 (writeWords (o .reply)) && (rowsLeft before c (o .log) (o .sheet) && outputAt c end (o .output))
 
 -- the program's buffers: what they hold before a call, work, log and sheet
 pub record Rooms (b w l s : List ℕ) : Type 0 where
