@@ -18,7 +18,7 @@ use Rattle.reader.specs.declared.Answer.the-variants.{Machine, Diagnostics, Ref
 use Rattle.reader.specs.Answer.{replyIn, readIn, leavesWork}
 use Rattle.reader.specs.Reading.{leavesWorkNumber}
 use Rattle.writer.specs.Given.{Given, given, givenBy, answerRow}
-use Rattle.replay.specs.Case.{wordAt, marked, wanted, leftFrom, left, rowsLeft, workLeft, byteWanted, outputFrom, outputLeft, outputAt, agrees, formAgrees, readingAgrees}
+use Rattle.replay.specs.Case.{wordAt, marked, wanted, leftFrom, left, rowsLeft, workLeft, byteWanted, outputFrom, outputLeft, outputAt, agrees, formAgrees, readingAgrees, writingAgrees}
 
 -- ---- a word
 module _ (c : List ℕ) (i : ℕ) where
@@ -313,3 +313,37 @@ module _ (before c : List ℕ) (w l s n : ℕ) (ew : w ≡ wordAt c 2) (el : l �
             let b′ : length (take l log) ≡ l = simp length-take (omega arith) in
             let d′ : length (take s sheet) ≡ s = simp length-take (omega arith) in
             rw (← ew, ← el, ← es, ← en, le-ltb 40960 w hw, le-ltb 16384 l hl, le-ltb 16384 s hs, le-ltb (length c) n h) (rw (text-part c n h, a′, b′, d′) at q)
+
+module _ (before c : List ℕ) (w l s o n : ℕ) (ew : w ≡ wordAt c 2) (el : l ≡ wordAt c 3) (es : s ≡ wordAt c 4) (eo : o ≡ wordAt c 5) (en : n ≡ wordAt c 1) where
+  pub form-work-long : 40960 < w → false ≡ writingAgrees before c
+  unfolding writingAgrees
+  form-work-long h = rw (← ew, lt-ltb 40960 w h)
+
+  module _ (hw : w ≤ 40960) where
+    pub form-log-long : 16384 < l → false ≡ writingAgrees before c
+    unfolding writingAgrees
+    form-log-long h = rw (← ew, ← el, le-ltb 40960 w hw, lt-ltb 16384 l h)
+
+    module _ (hl : l ≤ 16384) where
+      pub form-sheet-long : 16384 < s → false ≡ writingAgrees before c
+      unfolding writingAgrees
+      form-sheet-long h = rw (← ew, ← el, ← es, le-ltb 40960 w hw, le-ltb 16384 l hl, lt-ltb 16384 s h)
+
+      module _ (hs : s ≤ 16384) where
+        pub form-output-long : 65536 < o → false ≡ writingAgrees before c
+        unfolding writingAgrees
+        form-output-long h = rw (← ew, ← el, ← es, ← eo, le-ltb 40960 w hw, le-ltb 16384 l hl, le-ltb 16384 s hs, lt-ltb 65536 o h)
+
+        module _ (ho : o ≤ 65536) where
+          pub form-text-long : length c < n → false ≡ writingAgrees before c
+          unfolding writingAgrees
+          form-text-long h = rw (← ew, ← el, ← es, ← eo, ← en, le-ltb 40960 w hw, le-ltb 16384 l hl, le-ltb 16384 s hs, le-ltb 65536 o ho, lt-ltb (length c) n h)
+
+          pub form-written : n ≤ length c → (r : Bool) (work log sheet out : List ℕ) → r ≡ formAgrees before c (length c - n) (writeOutcome (take (length c - (length c - n)) (drop (length c - n) c)) (length (take w work)) (take (length (take l log)) before) (take (length (take s sheet)) before) (replicate (length (take o out)) 165)) → w ≤ length work → l ≤ length log → s ≤ length sheet → o ≤ length out → r ≡ writingAgrees before c
+          unfolding writingAgrees
+          form-written h r work log sheet out q a b d f =
+              let a′ : length (take w work) ≡ w = simp length-take (omega arith) in
+              let b′ : length (take l log) ≡ l = simp length-take (omega arith) in
+              let d′ : length (take s sheet) ≡ s = simp length-take (omega arith) in
+              let f′ : length (take o out) ≡ o = simp length-take (omega arith) in
+              rw (← ew, ← el, ← es, ← eo, ← en, le-ltb 40960 w hw, le-ltb 16384 l hl, le-ltb 16384 s hs, le-ltb 65536 o ho, le-ltb (length c) n h) (rw (text-part c n h, a′, b′, d′, f′) at q)

@@ -3,8 +3,8 @@ use Prim.Native.Nat.{ℕ, suc, _+_, _-_, _*_, _/_, _≤_}
 use mathlib.Core.Bool.{Bool, true, false, cond, _&&_}
 use mathlib.Core.List.{List, [], _∷_}
 use lib.Dec.{eqb, leb, ltb}
-use lib.ListN.{length, getD, take, drop}
-use Rattle.language.specs.Outcome.{ReadOutcome, replyWords, readOutcome, WriteOutcome, writeWords}
+use lib.ListN.{length, getD, take, drop, replicate}
+use Rattle.language.specs.Outcome.{ReadOutcome, replyWords, readOutcome, WriteOutcome, writeWords, writeOutcome}
 use Rattle.reader.specs.Reading.{leavesWorkNumber}
 
 -- the little-endian word at an index of stored bytes, 0 behind the last
@@ -85,3 +85,13 @@ readingAgrees before c =
     cond (ltb 16384 (wordAt c 4)) false (
     cond (ltb (length c) (wordAt c 1)) false (
     agrees before c (readOutcome (drop (length c - wordAt c 1) c) (wordAt c 2) (take (wordAt c 3) before) (take (wordAt c 4) before))))))
+
+-- whether writing its form has
+unfoldable pub writingAgrees : List ℕ → List ℕ → Bool
+writingAgrees before c =
+    cond (ltb 40960 (wordAt c 2)) false (
+    cond (ltb 16384 (wordAt c 3)) false (
+    cond (ltb 16384 (wordAt c 4)) false (
+    cond (ltb 65536 (wordAt c 5)) false (
+    cond (ltb (length c) (wordAt c 1)) false (
+    formAgrees before c (length c - wordAt c 1) (writeOutcome (drop (length c - wordAt c 1) c) (wordAt c 2) (take (wordAt c 3) before) (take (wordAt c 4) before) (replicate (wordAt c 5) 165)))))))

@@ -5,7 +5,7 @@ ghost use mathlib.Core.Path.{_≡_};
 ghost use Prim.Native.Nat.{_+_, _<_, _≤_};
 ghost use lib.ListN.{length, replicate, take};
 ghost use Rattle.language.specs.Outcome.{readOutcome, writeOutcome};
-ghost use Rattle.replay.specs.Case.{wordAt, marked, wanted, left, rowsLeft, workLeft, agrees, byteWanted, outputLeft, outputAt, formAgrees, Rooms, readingAgrees};
+ghost use Rattle.replay.specs.Case.{wordAt, marked, wanted, left, rowsLeft, workLeft, agrees, byteWanted, outputLeft, outputAt, formAgrees, Rooms, readingAgrees, writingAgrees};
 
 // The mark that says that a row is left untouched.
 const UNTOUCHED: u32 = 0xffff_ffff;
@@ -323,6 +323,7 @@ fn writing_agrees(
     output: &mut [u8],
 ) -> bool
     requires { ⌜ Rooms (now before) (now work) (now log) (now sheet) × (65536 ≤ length (now output)) ⌝ }
+    ensures { λ r. ⌜ r ≡ writingAgrees (now (before .entry)) (now (case .entry)) ⌝ }
 {
     let w = size_at(case, 2);
     let l = size_at(case, 3);
