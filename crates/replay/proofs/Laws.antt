@@ -6,17 +6,19 @@ use native.Mathlib.Numerals.{add-one}
 use mathlib.Core.Bool.{Bool, true, false, cond, _&&_}
 use mathlib.Core.List.{List, [], _∷_, _++_, append-nil}
 use lib.Dec.{eqb, leb, ltb}
-use lib.ListN.{length, length-take, length-drop, getD, take, drop, drop-of-length-le}
+use lib.ListN.{length, length-take, length-drop, replicate, set, getD, take, drop, drop-of-length-le}
 use lib.Seq.{drop-cons, getD-take, take-all}
+use borrow.Author.Fill.{fill-more}
 use borrow.Author.Tests.{eq-eqb, ne-eqb, le-leb, lt-leb, lt-ltb, le-ltb}
-use Rattle.language.specs.Outcome.{ReadOutcome, readOutcome, replyWords, replyNumber}
+use Rattle.language.specs.Outcome.{ReadOutcome, readOutcome, replyWords, replyNumber, WriteOutcome, WriteReply, writeOutcome, writeWords}
 use Rattle.lexer.proofs.Scans.{byTest}
 use Rattle.reader.specs.declared.Refusal.the-variants.{TextTooLong, WorkTooShort, InvalidUtf8, OutsideSet, LogTooShort, SheetTooShort}
 use Rattle.reader.specs.declared.Answer.{Answer}
 use Rattle.reader.specs.declared.Answer.the-variants.{Machine, Diagnostics, Refused}
 use Rattle.reader.specs.Answer.{replyIn, readIn, leavesWork}
 use Rattle.reader.specs.Reading.{leavesWorkNumber}
-use Rattle.replay.specs.Case.{wordAt, marked, wanted, leftFrom, left, rowsLeft, workLeft, agrees, readingAgrees}
+use Rattle.writer.specs.Given.{Given, given, givenBy, answerRow}
+use Rattle.replay.specs.Case.{wordAt, marked, wanted, leftFrom, left, rowsLeft, workLeft, byteWanted, outputFrom, outputLeft, outputAt, agrees, formAgrees, readingAgrees, writingAgrees}
 
 -- ---- a word
 module _ (c : List ℕ) (i : ℕ) where
@@ -78,6 +80,41 @@ module _ (before c : List ℕ) (from m : ℕ) (row : List ℕ) where
       let k : marked m ≤ length row = omega arith in
       rw (le-leb (marked m) (length row) k) (sym (ap (leftFrom before c from m i) (drop-of-length-le row h)) ∙ inv)
 
+-- ---- an output, likewise
+module _ (c : List ℕ) (from n : ℕ) where
+  pub byte-in : (i : ℕ) → i < n → getD c (from + i) 0 ≡ byteWanted c from n i
+  unfolding byteWanted
+  byte-in i h = rw (lt-ltb i n h)
+
+  pub byte-out : (i : ℕ) → n ≤ i → 165 ≡ byteWanted c from n i
+  unfolding byteWanted
+  byte-out i h = rw (le-ltb i n h)
+
+  module _ (row : List ℕ) where
+    pub output-short : length row < n → false ≡ outputLeft c from n row
+    unfolding outputLeft
+    output-short h = rw (lt-leb n (length row) h)
+
+    module _ (i : ℕ) (v : Bool) (inv : outputFrom c from n i (drop i row) ≡ v) (h : i < length row) (w : ℕ) (e : w ≡ byteWanted c from n i) where
+      output-parted : (eqb (getD row i 0) w && outputFrom c from n (suc i) (drop (suc i) row)) ≡ v
+      unfolding outputFrom
+      output-parted = rw e (sym (ap (outputFrom c from n i) (drop-cons row i 0 h)) ∙ inv)
+
+      pub output-on : getD row i 0 ≡ w → outputFrom c from n (i + 1) (drop (i + 1) row) ≡ v
+      output-on q =
+          let p : (eqb (getD row i 0) w && outputFrom c from n (suc i) (drop (suc i) row)) ≡ outputFrom c from n (suc i) (drop (suc i) row) = rw (eq-eqb (getD row i 0) w q) in
+          rw add-one (sym p ∙ output-parted)
+
+      pub output-off : n ≤ length row → (getD row i 0 ≡ w → ⊥) → v ≡ outputFrom c from n 0 row → false ≡ outputLeft c from n row
+      unfolding outputLeft
+      output-off k f j =
+          let p : (eqb (getD row i 0) w && outputFrom c from n (suc i) (drop (suc i) row)) ≡ false = rw (ne-eqb (getD row i 0) w f) in
+          rw (le-leb n (length row) k) (sym p ∙ output-parted ∙ j)
+
+    pub output-end : (i : ℕ) → outputFrom c from n i (drop i row) ≡ outputFrom c from n 0 row → length row ≤ i → n ≤ length row → true ≡ outputLeft c from n row
+    unfolding outputLeft outputFrom
+    output-end i inv h k = rw (le-leb n (length row) k) (sym (ap (outputFrom c from n i) (drop-of-length-le row h)) ∙ inv)
+
 -- ---- the rows of a case
 module _ (before c log sheet : List ℕ) (m : ℕ) (e : m ≡ wordAt c 6) where
   pub rows-first : (v : Bool) → v ≡ left before c 48 m log → v ≡ false → false ≡ rowsLeft before c log sheet
@@ -101,6 +138,18 @@ module _ (n : ℕ) (before c work : List ℕ) where
   pub work-free : (n ≡ 1 → ⊥) → (n ≡ 2 → ⊥) → true ≡ workLeft n before c work
   unfolding workLeft
   work-free f g = rw (ne-eqb n 1 f, ne-eqb n 2 g)
+
+-- ---- an output filled with dirt
+module _ (d l : List ℕ) (i : ℕ) (e : l ≡ replicate i 165 ++ drop i d) where
+  pub filled-more : i < length l → length l ≡ length d → set l i 165 ≡ replicate (i + 1) 165 ++ drop (i + 1) d
+  filled-more g q =
+      let h : i < length d = omega arith in
+      ap (λ (l : List ℕ). set l i 165) e ∙ fill-more i 165 d h
+
+  pub filled-all : i ≤ length d → length l ≤ i → length l ≡ length d → l ≡ replicate (length d) 165
+  filled-all h g q =
+      let z : i ≡ length d = omega arith in
+      e ∙ ap (λ (r : List ℕ). replicate i 165 ++ r) (drop-of-length-le d {i = i} (omega arith)) ∙ append-nil (replicate i 165) ∙ ap (λ (k : ℕ). replicate k 165) z
 
 -- ---- a row filled with the front of another
 pub copied : (before row row′ : List ℕ) → row′ ≡ take (length row) before ++ drop (length row) row → row′ ≡ take (length row) before
@@ -174,6 +223,65 @@ module _ (before c : List ℕ) (a : Answer) (row log sheet : List ℕ) (o : Read
         (λ y. rw y) in
         k ∙ sym p ∙ rows-of
 
+-- ---- a form
+module _ (c : List ℕ) (end : ℕ) (row : List ℕ) (n m : ℕ) (em : m ≡ wordAt c 8) (en : n ≡ marked m) where
+  stored : n ≡ marked (wordAt c 8)
+  stored = en ∙ ap marked em
+
+  pub output-before : end < n → false ≡ outputAt c end row
+  unfolding outputAt
+  output-before h = rw (← stored, lt-ltb end n h)
+
+  pub output-there : n ≤ end → (r : Bool) → r ≡ outputLeft c (end - n) n row → r ≡ outputAt c end row
+  unfolding outputAt
+  output-there h r q = rw (← stored, le-ltb end n h) q
+
+pub soiled-form : (before c text work work′ log log′ sheet sheet′ out out′ : List ℕ) (end : ℕ) (r : Bool) → length work ≤ length before → work′ ≡ take (length work) before → log′ ≡ take (length log) before → sheet′ ≡ take (length sheet) before → out′ ≡ replicate (length out) 165 → r ≡ formAgrees before c end (writeOutcome text (length work′) log′ sheet′ out′) → r ≡ formAgrees before c end (writeOutcome text (length work) (take (length log) before) (take (length sheet) before) (replicate (length out) 165))
+soiled-form before c text work work′ log log′ sheet sheet′ out out′ end r h ew el es eo q =
+    let k : length work′ ≡ length work = ap length ew ∙ simp length-take (omega arith) in
+    rw (k, el, es, eo) at q
+
+answer-row : (r : WriteReply) (row : List ℕ) → length row ≡ 36 → answerRow r row ≡ writeWords r
+unfolding answerRow
+answer-row r row e =
+    let h : 36 ≤ length row = omega arith in
+    let k : length row ≤ 36 = omega arith in
+    ap (λ (b : Bool). elim b [ true ↦ writeWords r ++ drop 36 row | false ↦ row ]) (le-leb 36 (length row) h) ∙ rw (drop-of-length-le row k)
+
+module _ (before c : List ℕ) (end n : ℕ) (row row′ log sheet out : List ℕ) (o : WriteOutcome) (e : given n row′ log sheet out ≡ givenBy o row) (l : length row ≡ 36) (u : Bool) (eu : u ≡ left before c 45 3 row′) where
+  form-row : u ≡ left before c 45 3 (writeWords (o .reply))
+  unfolding givenBy
+  form-row = eu ∙ ap (λ (g : Given). left before c 45 3 (g .row)) e ∙ ap (left before c 45 3) (answer-row (o .reply) row l)
+
+  pub form-answer : u ≡ false → false ≡ formAgrees before c end o
+  unfolding formAgrees
+  form-answer f = rw (← form-row, f)
+
+  module _ (t : u ≡ true) (v : Bool) (ev : v ≡ rowsLeft before c log sheet) where
+    form-rows-of : v ≡ rowsLeft before c (o .log) (o .sheet)
+    unfolding givenBy
+    form-rows-of = ev ∙ ap (λ (g : Given). rowsLeft before c (g .log) (g .sheet)) e
+
+    pub form-rows : v ≡ false → false ≡ formAgrees before c end o
+    unfolding formAgrees
+    form-rows f = rw (← form-row, t, ← form-rows-of, f)
+
+    module _ (p : v ≡ true) (w : Bool) (ew : w ≡ outputAt c end out) where
+      form-output-of : w ≡ formAgrees before c end o
+      unfolding formAgrees givenBy
+      form-output-of = rw (← form-row, t, ← form-rows-of, p) (ew ∙ ap (λ (g : Given). outputAt c end (g .output)) e)
+
+      pub form-output : w ≡ false → false ≡ formAgrees before c end o
+      form-output f = sym f ∙ form-output-of
+
+      pub form-work : w ≡ true → (x : Bool) (work work′ : List ℕ) → x ≡ workLeft n before c work′ → (leavesWorkNumber n ≡ true → work′ ≡ work) → work ≡ take (length work) before → x ≡ formAgrees before c end o
+      unfolding workLeft
+      form-work g x work work′ ex f d =
+          let k : x ≡ true = ex ∙ byTest (leavesWorkNumber n)
+          (λ y. rw y (rw (f y) (untouched before c work d)))
+          (λ y. rw y) in
+          k ∙ sym g ∙ form-output-of
+
 -- ---- a case
 text-part : (c : List ℕ) (n : ℕ) → n ≤ length c → take (length c - (length c - n)) (drop (length c - n) c) ≡ drop (length c - n) c
 text-part c n h = take-all (length c - (length c - n)) (drop (length c - n) c) (simp length-drop (omega arith))
@@ -205,3 +313,37 @@ module _ (before c : List ℕ) (w l s n : ℕ) (ew : w ≡ wordAt c 2) (el : l �
             let b′ : length (take l log) ≡ l = simp length-take (omega arith) in
             let d′ : length (take s sheet) ≡ s = simp length-take (omega arith) in
             rw (← ew, ← el, ← es, ← en, le-ltb 40960 w hw, le-ltb 16384 l hl, le-ltb 16384 s hs, le-ltb (length c) n h) (rw (text-part c n h, a′, b′, d′) at q)
+
+module _ (before c : List ℕ) (w l s o n : ℕ) (ew : w ≡ wordAt c 2) (el : l ≡ wordAt c 3) (es : s ≡ wordAt c 4) (eo : o ≡ wordAt c 5) (en : n ≡ wordAt c 1) where
+  pub form-work-long : 40960 < w → false ≡ writingAgrees before c
+  unfolding writingAgrees
+  form-work-long h = rw (← ew, lt-ltb 40960 w h)
+
+  module _ (hw : w ≤ 40960) where
+    pub form-log-long : 16384 < l → false ≡ writingAgrees before c
+    unfolding writingAgrees
+    form-log-long h = rw (← ew, ← el, le-ltb 40960 w hw, lt-ltb 16384 l h)
+
+    module _ (hl : l ≤ 16384) where
+      pub form-sheet-long : 16384 < s → false ≡ writingAgrees before c
+      unfolding writingAgrees
+      form-sheet-long h = rw (← ew, ← el, ← es, le-ltb 40960 w hw, le-ltb 16384 l hl, lt-ltb 16384 s h)
+
+      module _ (hs : s ≤ 16384) where
+        pub form-output-long : 65536 < o → false ≡ writingAgrees before c
+        unfolding writingAgrees
+        form-output-long h = rw (← ew, ← el, ← es, ← eo, le-ltb 40960 w hw, le-ltb 16384 l hl, le-ltb 16384 s hs, lt-ltb 65536 o h)
+
+        module _ (ho : o ≤ 65536) where
+          pub form-text-long : length c < n → false ≡ writingAgrees before c
+          unfolding writingAgrees
+          form-text-long h = rw (← ew, ← el, ← es, ← eo, ← en, le-ltb 40960 w hw, le-ltb 16384 l hl, le-ltb 16384 s hs, le-ltb 65536 o ho, lt-ltb (length c) n h)
+
+          pub form-written : n ≤ length c → (r : Bool) (work log sheet out : List ℕ) → r ≡ formAgrees before c (length c - n) (writeOutcome (take (length c - (length c - n)) (drop (length c - n) c)) (length (take w work)) (take (length (take l log)) before) (take (length (take s sheet)) before) (replicate (length (take o out)) 165)) → w ≤ length work → l ≤ length log → s ≤ length sheet → o ≤ length out → r ≡ writingAgrees before c
+          unfolding writingAgrees
+          form-written h r work log sheet out q a b d f =
+              let a′ : length (take w work) ≡ w = simp length-take (omega arith) in
+              let b′ : length (take l log) ≡ l = simp length-take (omega arith) in
+              let d′ : length (take s sheet) ≡ s = simp length-take (omega arith) in
+              let f′ : length (take o out) ≡ o = simp length-take (omega arith) in
+              rw (← ew, ← el, ← es, ← eo, ← en, le-ltb 40960 w hw, le-ltb 16384 l hl, le-ltb 16384 s hs, le-ltb 65536 o ho, le-ltb (length c) n h) (rw (text-part c n h, a′, b′, d′, f′) at q)

@@ -3,8 +3,8 @@ use Prim.Native.Nat.{ℕ, suc, _+_, _-_, _*_, _/_, _≤_}
 use mathlib.Core.Bool.{Bool, true, false, cond, _&&_}
 use mathlib.Core.List.{List, [], _∷_}
 use lib.Dec.{eqb, leb, ltb}
-use lib.ListN.{length, getD, take, drop}
-use Rattle.language.specs.Outcome.{ReadOutcome, replyWords, readOutcome}
+use lib.ListN.{length, getD, take, drop, replicate}
+use Rattle.language.specs.Outcome.{ReadOutcome, replyWords, readOutcome, WriteOutcome, writeWords, writeOutcome}
 use Rattle.reader.specs.Reading.{leavesWorkNumber}
 
 -- the little-endian word at an index of stored bytes, 0 behind the last
@@ -61,6 +61,15 @@ unfoldable pub outputLeft : List ℕ → ℕ → ℕ → List ℕ → Bool
 unfolding outputFrom
 outputLeft c from n row = leb n (length row) && outputFrom c from n 0 row
 
+-- whether it is where what is stored ends at an offset; the word 8 is its mark
+unfoldable pub outputAt : List ℕ → ℕ → List ℕ → Bool
+outputAt c end row = cond (ltb end (marked (wordAt c 8))) false (outputLeft c (end - marked (wordAt c 8)) (marked (wordAt c 8)) row)
+
+-- whether an outcome of writing is the stored one, with the first words of the answer at the word 45
+unfoldable pub formAgrees : List ℕ → List ℕ → ℕ → WriteOutcome → Bool
+formAgrees before c end o =
+    left before c 45 3 (writeWords (o .reply)) && (rowsLeft before c (o .log) (o .sheet) && outputAt c end (o .output))
+
 -- the program's buffers: what they hold before a call, work, log and sheet
 pub record Rooms (b w l s : List ℕ) : Type 0 where
   pub before : 40960 ≤ length b
@@ -76,3 +85,13 @@ readingAgrees before c =
     cond (ltb 16384 (wordAt c 4)) false (
     cond (ltb (length c) (wordAt c 1)) false (
     agrees before c (readOutcome (drop (length c - wordAt c 1) c) (wordAt c 2) (take (wordAt c 3) before) (take (wordAt c 4) before))))))
+
+-- whether writing its form has
+unfoldable pub writingAgrees : List ℕ → List ℕ → Bool
+writingAgrees before c =
+    cond (ltb 40960 (wordAt c 2)) false (
+    cond (ltb 16384 (wordAt c 3)) false (
+    cond (ltb 16384 (wordAt c 4)) false (
+    cond (ltb 65536 (wordAt c 5)) false (
+    cond (ltb (length c) (wordAt c 1)) false (
+    formAgrees before c (length c - wordAt c 1) (writeOutcome (drop (length c - wordAt c 1) c) (wordAt c 2) (take (wordAt c 3) before) (take (wordAt c 4) before) (replicate (wordAt c 5) 165)))))))

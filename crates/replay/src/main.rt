@@ -4,8 +4,8 @@
 ghost use mathlib.Core.Path.{_≡_};
 ghost use Prim.Native.Nat.{_+_, _<_, _≤_};
 ghost use lib.ListN.{length, replicate, take};
-ghost use Rattle.language.specs.Outcome.{readOutcome};
-ghost use Rattle.replay.specs.Case.{wordAt, marked, wanted, left, rowsLeft, workLeft, agrees, byteWanted, outputLeft, Rooms, readingAgrees};
+ghost use Rattle.language.specs.Outcome.{readOutcome, writeOutcome};
+ghost use Rattle.replay.specs.Case.{wordAt, marked, wanted, left, rowsLeft, workLeft, agrees, byteWanted, outputLeft, outputAt, formAgrees, Rooms, readingAgrees, writingAgrees};
 
 // The mark that says that a row is left untouched.
 const UNTOUCHED: u32 = 0xffff_ffff;
@@ -149,6 +149,19 @@ fn output_left(case: &[u8], from: usize, n: usize, output: &[u8]) -> bool
     true
 }
 
+// Whether an output is left as stored, where what is stored ends at an offset.
+fn output_at(case: &[u8], end: usize, output: &[u8]) -> bool
+    requires { ⌜ end ≤ length (now case) ⌝ }
+    ensures { λ r. ⌜ r ≡ outputAt (now (case .entry)) end (now (output .entry)) ⌝ }
+{
+    let n = marked(word_at(case, 8));
+    if end < n {
+        false
+    } else {
+        output_left(case, end - n, n, output)
+    }
+}
+
 // Fills a row with the front of another.
 fn soil(before: &[u32], row: &mut [u32])
     requires { ⌜ length (now row) ≤ length (now before) ⌝ }
@@ -210,33 +223,32 @@ fn read_agrees(
     answer_agrees(before, case, text, work, log, sheet)
 }
 
-// Whether a writing call of a text, with dirty buffers, agrees with what is stored.
+// Whether a writing call of a text, with dirty buffers, agrees with what is stored; the output's bytes end at an offset.
 fn form_agrees(
     before: &[u32],
     case: &[u8],
+    end: usize,
     text: &[u8],
     work: &mut [u32],
     log: &mut [u32],
     sheet: &mut [u32],
     output: &mut [u8],
 ) -> bool
-    requires { ⌜ (40960 ≤ length (now before)) × (length (now work) ≤ length (now before)) × (length (now log) ≤ length (now before)) × (length (now sheet) ≤ length (now before)) × (length (now text) ≤ length (now case)) ⌝ }
+    requires { ⌜ (40960 ≤ length (now before)) × (now work ≡ take (length (now work)) (now before)) × (length (now work) ≤ length (now before)) × (length (now log) ≤ length (now before)) × (length (now sheet) ≤ length (now before)) × (end ≤ length (now case)) ⌝ }
+    ensures { λ r. ⌜ r ≡ formAgrees (now (before .entry)) (now (case .entry)) end (writeOutcome (now (text .entry)) (length (now (work .entry))) (now (log .entry)) (now (sheet .entry)) (now (output .entry))) ⌝ }
 {
     let mut answer = [7u32; 36];
     let number = writer::pevzoncs_write(text, work, log, sheet, output, &mut answer);
-    let n = marked(word_at(case, 8));
-    let end = case.len() - text.len();
-    if end < n {
-        return false;
-    }
-    if !output_left(case, end - n, n, output) {
-        return false;
-    }
-    if !left(before, case, 45, 3, &answer) {
-        return false;
-    }
-    if rows_left(before, case, log, sheet) {
-        work_left(number, before, case, work)
+    if left(before, case, 45, 3, &answer) {
+        if rows_left(before, case, log, sheet) {
+            if output_at(case, end, output) {
+                work_left(number, before, case, work)
+            } else {
+                false
+            }
+        } else {
+            false
+        }
     } else {
         false
     }
@@ -246,19 +258,21 @@ fn form_agrees(
 fn write_agrees(
     before: &[u32],
     case: &[u8],
+    end: usize,
     text: &[u8],
     work: &mut [u32],
     log: &mut [u32],
     sheet: &mut [u32],
     output: &mut [u8],
 ) -> bool
-    requires { ⌜ (40960 ≤ length (now before)) × (length (now work) ≤ length (now before)) × (length (now log) ≤ length (now before)) × (length (now sheet) ≤ length (now before)) × (length (now text) ≤ length (now case)) ⌝ }
+    requires { ⌜ (40960 ≤ length (now before)) × (length (now work) ≤ length (now before)) × (length (now log) ≤ length (now before)) × (length (now sheet) ≤ length (now before)) × (end ≤ length (now case)) ⌝ }
+    ensures { λ r. ⌜ r ≡ formAgrees (now (before .entry)) (now (case .entry)) end (writeOutcome (now (text .entry)) (length (now (work .entry))) (take (length (now (log .entry))) (now (before .entry))) (take (length (now (sheet .entry))) (now (before .entry))) (replicate (length (now (output .entry))) 165)) ⌝ }
 {
     soil(before, work);
     soil(before, log);
     soil(before, sheet);
     soil_output(output);
-    form_agrees(before, case, text, work, log, sheet, output)
+    form_agrees(before, case, end, text, work, log, sheet, output)
 }
 
 // Whether the reading call agrees with a case; one whose lengths are beyond the program's buffers does not.
@@ -309,6 +323,7 @@ fn writing_agrees(
     output: &mut [u8],
 ) -> bool
     requires { ⌜ Rooms (now before) (now work) (now log) (now sheet) × (65536 ≤ length (now output)) ⌝ }
+    ensures { λ r. ⌜ r ≡ writingAgrees (now (before .entry)) (now (case .entry)) ⌝ }
 {
     let w = size_at(case, 2);
     let l = size_at(case, 3);
@@ -316,12 +331,25 @@ fn writing_agrees(
     let o = size_at(case, 5);
     let n = size_at(case, 1);
     let e = case.len();
-    if WORK < w || ROW < l || ROW < s || OUTPUT < o || e < n {
+    if WORK < w {
+        return false;
+    }
+    if ROW < l {
+        return false;
+    }
+    if ROW < s {
+        return false;
+    }
+    if OUTPUT < o {
+        return false;
+    }
+    if e < n {
         return false;
     }
     write_agrees(
         before,
         case,
+        e - n,
         &case[e - n..e],
         &mut work[..w],
         &mut log[..l],

@@ -1,17 +1,18 @@
--- `replay::replay` meets its contract: the lengths of the buffers stay, and a case's kind is a place of the tally.
+-- `replay::replay` meets its contract: the lengths of the buffers stay.
 use mathlib.Core.Path.{_≡_}
 use Prim.Native.Nat.{_-_, _≤_}
-use lib.ListN.{length}
+use native.Mathlib.Omega.{arith}
+use lib.ListN.{length, length-take}
 use borrow.Author.Needs.{needs}
 use Rattle.replay.proofs.replay.Statement.{statement}
 use Rattle.replay.proofs.replay.Tie as tie
 
 abbrev Inv-loop : tie.InvT-loop
-Inv-loop n before case₀ work₀ log₀ sheet₀ tally₀ i₀ t10 case work log sheet tally i =
-    (i ≤ n) × (length case ≡ length case₀) × (length work ≡ length work₀) × (length log ≡ length log₀) × (length sheet ≡ length sheet₀)
+Inv-loop n before case₀ work₀ log₀ sheet₀ output₀ tally₀ i₀ case work log sheet output tally i =
+    (i ≤ n) × (length case ≡ length case₀) × (length work ≡ length work₀) × (length log ≡ length log₀) × (length sheet ≡ length sheet₀) × (length output ≡ length output₀)
 
 abbrev μ-loop : tie.MeasureT-loop
-μ-loop n before case₀ work₀ log₀ sheet₀ tally₀ i₀ t10 case work log sheet tally i = n - i
+μ-loop n before case₀ work₀ log₀ sheet₀ output₀ tally₀ i₀ case work log sheet output tally i = n - i
 
 pub replay-spec : {M : Type 1} → statement M
 replay-spec =
@@ -22,12 +23,9 @@ replay-spec =
     (λ c. search needs)
     (λ c κs. search needs)
     (λ c. search needs)
-    (λ c. search needs)
+    (λ c. simp length-take (omega arith))
     (λ c κs. search needs)
     (λ c. search needs)
-    (λ c. search needs)
-    (λ c. search needs)
-    (λ c κs. search needs)
     (λ c. search needs)
     (λ c. search needs)
     (λ c. search needs)

@@ -5,10 +5,10 @@ use Rattle.replay.proofs.say_kinds.Statement.{statement}
 use Rattle.replay.proofs.say_kinds.Tie as tie
 
 abbrev Inv-loop : tie.InvT-loop
-Inv-loop tally k₀ k = k ≤ 9
+Inv-loop tally from k₀ k = k ≤ 9
 
 abbrev μ-loop : tie.MeasureT-loop
-μ-loop tally k₀ k = 9 - k
+μ-loop tally from k₀ k = 9 - k
 
 pub say-kinds-spec : {M : Type 1} → statement M
 say-kinds-spec =
@@ -16,6 +16,7 @@ say-kinds-spec =
     (tie.spec
     Inv-loop
     μ-loop
+    (λ c. search needs)
     (λ c. search needs)
     (λ c. search needs)
     (λ c. search needs)
