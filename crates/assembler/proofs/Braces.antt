@@ -27,7 +27,7 @@ balanced b (t ∷ ts) = cond (eqb (t .kind) 6) (cond b false (balanced true ts))
 abbrev pub between : List Token → ℕ → ℕ → List Token
 between ts i j = take (j - i) (drop i ts)
 
-false-true : {X : Type 0} → false ≡ true → X
+pub false-true : {X : Type 0} → false ≡ true → X
 false-true e = absurd (let z : _≡_ {A = ℕ} 0 1 = cc in omega arith)
 
 balanced-append : (b : Bool) (l r : List Token) → balanced b l ≡ true → balanced b (l ++ r) ≡ balanced false r
@@ -90,7 +90,7 @@ not-brace t n e a b =
     let k : t .kind ≡ n = eqb-true (t .kind) n e in
     (ne-eqb (t .kind) 6 (λ z. a (sym k ∙ z)), ne-eqb (t .kind) 7 (λ z. b (sym k ∙ z)))
 
-symbol-brace : (t : Token) → isSymbol t ≡ true → (eqb (t .kind) 6 ≡ false) × (eqb (t .kind) 7 ≡ false)
+pub symbol-brace : (t : Token) → isSymbol t ≡ true → (eqb (t .kind) 6 ≡ false) × (eqb (t .kind) 7 ≡ false)
 unfolding isSymbol
 symbol-brace t e =
     by-test (eqb (t .kind) 0) (λ y. not-brace t 0 y (λ z. omega arith) (λ z. omega arith)) λ n₀.

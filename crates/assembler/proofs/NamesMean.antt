@@ -36,7 +36,7 @@ unfolding seen
 seen-append view [] b = refl
 seen-append view (t ∷ a) b = seen-on (view (t .kind)) (t .place) (seen view (a ++ b)) (seen view a) (seen view b) (seen-append view a b)
 
-seen-by : {A : Type 0} (view : TokenKind → Option A) (t : Lexed Place) (m : List (Lexed Place)) (o : Option A) → view (t .kind) ≡ o → seen view (t ∷ m) ≡ seenOn o (t .place) (seen view m)
+pub seen-by : {A : Type 0} (view : TokenKind → Option A) (t : Lexed Place) (m : List (Lexed Place)) (o : Option A) → view (t .kind) ≡ o → seen view (t ∷ m) ≡ seenOn o (t .place) (seen view m)
 unfolding seen
 seen-by {A} view t m o e = ap (λ (o : Option A). seenOn o (t .place) (seen view m)) e
 
@@ -59,7 +59,7 @@ no-state t k s e n =
     go (some w) e = absurd (let z : _≡_ {A = ℕ} 0 1 = cc in omega arith)
 
 -- a state is spelled by a word
-state-word : (k : TokenKind) (w : List ℕ) → stateIn k ≡ some w → k ≡ word w
+pub state-word : (k : TokenKind) (w : List ℕ) → stateIn k ≡ some w → k ≡ word w
 unfolding stateIn
 state-word (word v) w e = by-test (same v (codes "_")) (λ y. let z : none ≡ some w = rw y at e in absurd (let o : _≡_ {A = ℕ} 0 1 = cc in omega arith)) (λ n. let z : some v ≡ some w = rw n at e in let q : v ≡ w = cc in ap word q)
 state-word (number v) w e = absurd (let o : _≡_ {A = ℕ} 0 1 = cc in omega arith)

@@ -80,7 +80,7 @@ counted-by closes w p s h = rw (h .0, h .1)
 counted-by (reads x) w p s h = rw (h .0, h .1, h .2)
 counted-by passes w p s h = rw (h .0, h .1, h .2)
 
-balanced-by : (r : ReadPart) (w : Token) (b : Bool) (ws : List Token) → Reads r w
+pub balanced-by : (r : ReadPart) (w : Token) (b : Bool) (ws : List Token) → Reads r w
     → balanced b (w ∷ ws) ≡ elim r [ opens ↦ cond b false (balanced true ws) | closes ↦ cond b (balanced false ws) false | passes ↦ balanced b ws | reads x ↦ balanced b ws ]
 unfolding balanced
 balanced-by opens w b ws h = rw h

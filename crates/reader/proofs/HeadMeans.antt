@@ -1,13 +1,12 @@
 -- The head over the row is that of the machine which the lines stand for, if the tokens behind each entry say what its item declares.
-use mathlib.Core.Path.{_≡_, refl, sym, ap, ap₂, subst, _∙_}
-use mathlib.Core.Bool.{Bool, true, false, cond}
-use mathlib.Core.List.{List, [], _∷_, _++_}
+use mathlib.Core.Path.{_≡_, sym, ap, _∙_}
+use mathlib.Core.Bool.{cond}
+use mathlib.Core.List.{List, _++_}
 use mathlib.Core.Option.{Option, none, some}
-use Prim.Native.Nat.{ℕ, suc, _+_, _≤_, _<_}
+use Prim.Native.Nat.{ℕ, suc, _+_, _≤_}
 use native.Mathlib.Omega.{arith}
-use borrow.Author.Tests.{le-ltb}
-use lib.Dec.{eqb, leb, ltb}
-use lib.ListN.{length, getD, drop, getD-replicate}
+use lib.Dec.{leb, ltb}
+use lib.ListN.{length, getD}
 use lib.Seq.{getD-drop}
 use Rattle.lexer.specs.declared.Span.{Span as Place}
 use Rattle.tokens.specs.declared.Token.{Token}
@@ -22,13 +21,13 @@ use Rattle.assembler.specs.Rows as R
 use Rattle.assembler.specs.Entries.{Entry, entryAt}
 use Rattle.assembler.specs.Declarations.{undeclared, declarations}
 use Rattle.assembler.specs.Records.{placeIn}
-use Rattle.assembler.proofs.Means.{number, ItemMeans, AllMean}
+use Rattle.assembler.proofs.Means.{AllMean}
 use Rattle.sheet.specs.Rules.{resolve}
 use Rattle.machine.specs.declared.Span.{Span}
 use Rattle.machine.specs.declared.Counts.{Counts}
 use Rattle.reader.specs.Answer.{spanIn, kindIn, decoderIn, countsIn, headIn}
-use Rattle.reader.specs.Heads.{noSpan, placeAt, textOf, textAt, kindOf, kindAt, decoderOf, decoderAt, tapesAt, blankAt, startAt, declaredIn, mapIn, headAt}
-use Rattle.reader.proofs.Declared.{Agrees, fills, Declared, absent, present, declared-first}
+use Rattle.reader.specs.Heads.{placeAt, textOf, textAt, kindOf, kindAt, decoderOf, decoderAt, tapesAt, blankAt, startAt, declaredIn, mapIn, headAt}
+use Rattle.shown.proofs.Declared.{fills, Declared, absent, present, declared-part}
 
 -- a token's place
 abbrev pub at : Token → Place
@@ -137,10 +136,6 @@ module _ (X : Entry → Item Place → Type 0) (says : (e : Entry) (i : Item Pla
   abbrev firsts : List ℕ
   firsts = declarations (length ts) undeclared es
 
-  declared : {B : Type 0} (part : A.Parts Place → Option B) (k : ℕ) → k < 11 → ((i : Item Place) → Agrees (part (A.parts i)) (eqb (number i) k)) → Declared X ts part (getD firsts k 0) (A.items ls)
-  declared part k low agrees =
-      declared-first X ts part k low agrees undeclared es ls all refl (le-ltb (getD undeclared k 0) (length ts) (omega (arith, getD-replicate {A = ℕ} 11 k 0xffffffff 0 low)))
-
   -- given the place of the first state, where no start is declared, and the section counts
   pub head-means : (s : Span) (n : Counts)
       → (A.first (λ p. p .start) (A.items ls) ≡ none → spanIn s ≡ L.headOf (machineOf ls) .start)
@@ -149,16 +144,16 @@ module _ (X : Entry → Item Place → Type 0) (says : (e : Entry) (i : Item Pla
   unfolding headIn headAt declaredIn mapIn L.headOf machineOf A.blankOf A.statesIn
   head-means s n z c =
       let is = A.items ls in
-      let m = declared (λ p. p .machine) 0 (omega arith) (λ i. fills i .0) in
-      let k = declared (λ p. p .kind) 1 (omega arith) (λ i. fills i .1) in
-      let x = declared (λ p. p .input) 2 (omega arith) (λ i. fills i .2) in
-      let o = declared (λ p. p .output) 3 (omega arith) (λ i. fills i .3) in
-      let t = declared (λ p. p .tapes) 4 (omega arith) (λ i. fills i .4) in
-      let q = declared (λ p. p .states) 5 (omega arith) (λ i. fills i .5) in
-      let sig = declared (λ p. p .sigma) 6 (omega arith) (λ i. fills i .6) in
-      let gam = declared (λ p. p .gamma) 7 (omega arith) (λ i. fills i .7) in
-      let b = declared (λ p. p .blank) 8 (omega arith) (λ i. fills i .8) in
-      let st = declared (λ p. p .start) 9 (omega arith) (λ i. fills i .9) in
+      let m = declared-part X ts (λ p. p .machine) 0 (omega arith) (λ i. fills i .0) few es ls all in
+      let k = declared-part X ts (λ p. p .kind) 1 (omega arith) (λ i. fills i .1) few es ls all in
+      let x = declared-part X ts (λ p. p .input) 2 (omega arith) (λ i. fills i .2) few es ls all in
+      let o = declared-part X ts (λ p. p .output) 3 (omega arith) (λ i. fills i .3) few es ls all in
+      let t = declared-part X ts (λ p. p .tapes) 4 (omega arith) (λ i. fills i .4) few es ls all in
+      let q = declared-part X ts (λ p. p .states) 5 (omega arith) (λ i. fills i .5) few es ls all in
+      let sig = declared-part X ts (λ p. p .sigma) 6 (omega arith) (λ i. fills i .6) few es ls all in
+      let gam = declared-part X ts (λ p. p .gamma) 7 (omega arith) (λ i. fills i .7) few es ls all in
+      let b = declared-part X ts (λ p. p .blank) 8 (omega arith) (λ i. fills i .8) few es ls all in
+      let st = declared-part X ts (λ p. p .start) 9 (omega arith) (λ i. fills i .9) few es ls all in
       let blank : blankAt ts (getD firsts 8 0) ≡ A.blankOf is = blank-means X says ts is (getD firsts 8 0) b in
       let e₁ : spanIn (textAt ts (getD firsts 0 0)) ≡ L.headOf (machineOf ls) .name = text X says ts is (getD firsts 0 0) (λ p. p .machine) (λ e p x y h. y .machine x h) m in
       let e₂ : spanIn (textAt ts (getD firsts 2 0)) ≡ L.headOf (machineOf ls) .input = text X says ts is (getD firsts 2 0) (λ p. p .input) (λ e p x y h. y .input x h .0) x in

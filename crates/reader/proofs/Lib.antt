@@ -4,7 +4,6 @@ pub mod AnswerWords
 pub mod HeadLaws
 pub mod Reports
 pub mod Outcomes
-pub mod Declared
 pub mod HeadMeans
 pub mod TokenSays
 pub mod ItemSays

@@ -1,30 +1,24 @@
 -- What the words of a token say of the head is what the token means, where the views of a line take it for what is due.
-use mathlib.Core.Path.{_≡_, refl, sym, ap, ap₂, subst, _∙_}
-use mathlib.Core.Bool.{Bool, true, false, cond, not, _&&_, _||_}
+use mathlib.Core.Path.{_≡_, refl, sym, ap, _∙_}
+use mathlib.Core.Bool.{Bool, true, false, cond, not}
 use mathlib.Core.List.{List, [], _∷_}
-use mathlib.Core.Option.{Option, none, some}
-use Prim.Native.Nat.{ℕ, suc, _+_, _-_, _*_, _%_, _≤_, _<_, _^_, min}
+use mathlib.Core.Option.{none, some}
+use Prim.Native.Nat.{ℕ, _+_, _-_, _%_, _≤_, _<_, _^_, min}
 use native.Mathlib.Omega.{arith}
 use native.Mathlib.Nat.{mod-eq-of-lt, min-eq-left, min-eq-right}
-use borrow.Author.Tests.{lt-ltb, le-ltb, le-leb, lt-leb, leb-true, leb-false, eqb-true}
-use lib.Dec.{eqb, leb, ltb}
+use borrow.Author.Tests.{leb-true, leb-false, eqb-true}
+use lib.Dec.{eqb, leb}
 use lib.ListN.{length}
 use Rattle.diag.proofs.Cases.{by-test}
-use Rattle.chars.proofs.Tests.{and-both}
 use Rattle.lexer.specs.declared.Span.{Span as Place}
-use Rattle.lexer.specs.Tokens.{isAsciiDigit, TokenKind, word, number, quoted, str, sign, comment, newline, unterminatedString, unterminatedQuote}
-use Rattle.lexer.specs.Words.{position, keyword, wordValue, valueFrom, value, signNumber, kindNumber, tokenValue}
-use Rattle.lexer.proofs.Scans.{digit-range}
+use Rattle.lexer.specs.Tokens.{TokenKind, word, number, quoted, str, sign, comment, newline, unterminatedString, unterminatedQuote}
+use Rattle.lexer.specs.Words.{position, keyword, wordValue, value, kindNumber, tokenValue}
 use Rattle.lexer.proofs.Placed.{Placed}
-use Rattle.lexer.proofs.Steps.{digits, Good}
 use Rattle.parser.specs.Meaning.{tokenOf}
 use Rattle.parser.proofs.Tables.{Codes, Row, row, find, known, member, valued, table-rule}
-use Rattle.parser.proofs.Views.{Unnamed, sign-rule, unnamed-number}
 use Rattle.parser.proofs.Keywords.{outputRows, output-rule}
-use Rattle.language.specs.Machine.{Located, Kind, acceptor, transducer, enumerator, beaver, BitOrder, lsb, msb, Decoder, asWord, asUnary, asBinary}
-use Rattle.language.specs.Parser.{when}
-use Rattle.language.specs.Lines.{RawSymbol, rawBlank, glyph, stringIn, symbolIn, oneCharacter, bare, bracket, meaningOf, kinds, OutputWord, wordOutput, unaryOutput, binaryOutput, outputs, orders}
-use Rattle.language.specs.Assembly as A
+use Rattle.language.specs.Machine.{Kind, acceptor, transducer, enumerator, beaver, BitOrder, lsb, msb, Decoder, asWord, asUnary, asBinary}
+use Rattle.language.specs.Lines.{stringIn, meaningOf, kinds, OutputWord, wordOutput, unaryOutput, binaryOutput, outputs, orders}
 use Rattle.tokens.specs.declared.Token.{Token as Words}
 use Rattle.sheet.specs.Rules.{resolve}
 use Rattle.language.specs.Infer.{tapesOf}
@@ -120,65 +114,3 @@ number-says w p =
     (λ z. ap (λ (n : ℕ). leb n 255) (min-eq-left {n = value w} {m = 18446744073709551615} (leb-true (value w) 18446744073709551615 z)) ∙ x)
     (λ z. let g : 18446744073709551615 < value w = leb-false (value w) 18446744073709551615 z in ap (λ (n : ℕ). leb n 255) (min-eq-right {n = 18446744073709551615} {m = value w} (omega arith))) in
     rw (a, tapesOf, b))
-
--- ---- symbols
--- a bare character
-bare-says : (x b c : ℕ) → cond (eqb c x) b c ≡ A.resolve b (bare x c)
-unfolding A.resolve bare
-bare-says x b c = by-test (eqb c x) (λ y. rw (bare, y)) (λ n. rw (bare, n))
-
--- a digit
-digit-says : (c : ℕ) → digits (c ∷ []) ≡ true → (0x30 + min (value (c ∷ [])) 256) % 2 ^ 32 ≡ c
-unfolding value valueFrom
-digit-says c g =
-    let h = digit-range c (and-both (isAsciiDigit c) true g .0) in
-    let v : 0x30 + min (valueFrom 0 (c ∷ [])) 256 ≡ c = omega arith in
-    ap (λ (n : ℕ). n % 2 ^ 32) v ∙ mod-eq-of-lt (omega arith)
-
--- what a symbol view says of a sign, by both
-module _ (b : ℕ) (p q : Place) where
-  abbrev signed : ℕ → Words
-  signed d = tokenOf (record { kind = sign d; place = p; inner = q })
-
-  abbrev means : Option RawSymbol → Option ℕ
-  means none = none
-  means (some s) = some (A.resolve b s)
-
-  abbrev reads : Option RawSymbol → ℕ → Option ℕ
-  reads none n = none
-  reads (some s) n = some n
-
-  both : (t : Bool) (x : RawSymbol) → means (when t x) ≡ reads (when t x) (A.resolve b x)
-  both true x = refl
-  both false x = refl
-
-  other-says : (d : ℕ) → signNumber d ≡ 11 → resolve b (signed d) ≡ A.resolve b (bare 0x2423 d)
-  unfolding resolve tokenOf kindNumber tokenValue
-  other-says d h = rw h (bare-says 0x2423 b d)
-
-  sign-says : (c : ℕ) → means (symbolIn (sign c)) ≡ reads (symbolIn (sign c)) (resolve b (signed c))
-  unfolding symbolIn bracket tokenOf kindNumber tokenValue
-  sign-says =
-      sign-rule (λ c. means (symbolIn (sign c))) (λ c. reads (symbolIn (sign c)) (resolve b (signed c))) refl refl refl refl refl refl refl
-      (λ d u.
-      both (not (bracket d || eqb d 0x2A || eqb d 0x3B)) (bare 0x2423 d) ∙ ap (reads (symbolIn (sign d))) (sym (other-says d (unnamed-number d u))))
-
-pub symbol-says : (b : ℕ) (k : TokenKind) (p q : Place) → Good k → (s : RawSymbol) → symbolIn k ≡ some s → resolve b (tokenOf (record { kind = k; place = p; inner = q })) ≡ A.resolve b s
-unfolding resolve A.resolve tokenOf kindNumber tokenValue symbolIn oneCharacter wordValue
-symbol-says b (word []) p q g s e = none-some s e
-symbol-says b (word (c ∷ [])) p q g s e = let z : bare 0x5F c ≡ s = cc in bare-says 0x5F b c ∙ ap (A.resolve b) z
-symbol-says b (word (c ∷ d ∷ w)) p q g s e = none-some s e
-symbol-says b (number []) p q g s e = none-some s e
-symbol-says b (number (c ∷ [])) p q g s e = let z : glyph c ≡ s = cc in digit-says c g ∙ ap (A.resolve b) z
-symbol-says b (number (c ∷ d ∷ w)) p q g s e = none-some s e
-symbol-says b (quoted c) p q g s e = let z : glyph c ≡ s = cc in ap (A.resolve b) z
-symbol-says b (sign c) p q g s e =
-    let y : some (A.resolve b s) ≡ some (resolve b (tokenOf (record { kind = sign c; place = p; inner = q }))) =
-    sym (ap (means b p q) e) ∙ sign-says b p q c ∙ ap (λ (o : Option RawSymbol). reads b p q o (resolve b (tokenOf (record { kind = sign c; place = p; inner = q })))) e in
-    let z : A.resolve b s ≡ resolve b (tokenOf (record { kind = sign c; place = p; inner = q })) = cc in
-    sym z
-symbol-says b (str v) p q g s e = none-some s e
-symbol-says b (comment v) p q g s e = none-some s e
-symbol-says b newline p q g s e = none-some s e
-symbol-says b unterminatedString p q g s e = none-some s e
-symbol-says b unterminatedQuote p q g s e = none-some s e

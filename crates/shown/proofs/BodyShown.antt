@@ -1,13 +1,11 @@
 -- Header, trailing comments, rules and their lengths are the language's, for a row whose lines show the language's lines.
 use mathlib.Core.Path.{_≡_, refl, sym, ap, subst, _∙_}
 use mathlib.Core.Bool.{Bool, true, false, cond}
-use mathlib.Core.List.{List, [], _∷_, _++_, append-assoc, append-nil}
-use mathlib.Core.Option.{Option, none, some}
-use Prim.Native.Nat.{ℕ, zero, suc, _+_, _-_, _*_, _≤_, _<_}
+use mathlib.Core.List.{List, [], _∷_, _++_, append-nil}
+use mathlib.Core.Option.{Option, none}
+use Prim.Native.Nat.{ℕ, _+_, _-_, _*_, _≤_, _<_}
 use native.Mathlib.Omega.{arith}
-use native.Mathlib.Numerals.{add-one}
 use borrow.Author.Tests.{le-leb, lt-leb, lt-ltb, le-ltb, eq-eqb, ne-eqb}
-use lib.Dec.{eqb, leb, ltb}
 use lib.ListN.{length, take, drop}
 use lib.Seq.{take-add, drop-drop}
 use Rattle.lexer.specs.declared.Span.{Span as Place}
@@ -26,7 +24,7 @@ use Rattle.sheet.specs.declared.comments.Pending.{Pending}
 use Rattle.sheet.specs.Comments.{textWords, commentsIn, between, next, nothing, passed, passedAll, leadFrom, headerOf, headerFrom, header, trailing}
 use Rattle.sheet.specs.Rules.{expanded, lineRules, rulesFrom, rules, lineLength, lengthsFrom, ruleLengths}
 use Rattle.sheet.proofs.CommentLaws.{comments-append, comments-one, comments-no, between-none, between-on}
-use Rattle.shown.proofs.Shows.{RuleShows, CommentShows, ItemShows, Shows, Shown}
+use Rattle.shown.proofs.Shows.{CommentShows, ItemShows, Shown}
 use Rattle.shown.proofs.RulesShown.{line-shown, leading-shown}
 
 abbrev Comments : Type 0

@@ -2,3 +2,11 @@ pub mod Shows
 pub mod TokensShow
 pub mod RulesShown
 pub mod BodyShown
+pub mod ListsShown
+pub mod ReadsShown
+pub mod ItemTaken
+pub mod MentionsShown
+pub mod LineTokens
+pub mod LineShown
+pub mod Declared
+pub mod TextShown

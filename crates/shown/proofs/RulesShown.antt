@@ -1,22 +1,20 @@
 -- The rules of a line are the language's, word by word.
-use mathlib.Core.Path.{_≡_, refl, sym, ap, subst, _∙_}
-use mathlib.Core.Bool.{Bool, true, false, cond}
+use mathlib.Core.Path.{_≡_, refl, sym, ap, _∙_}
 use mathlib.Core.List.{List, [], _∷_, _++_, map}
-use mathlib.Core.Option.{Option, none, some}
-use Prim.Native.Nat.{ℕ, zero, suc, _+_, _*_, _≤_, _<_}
+use mathlib.Core.Option.{Option, none}
+use Prim.Native.Nat.{ℕ, suc, _+_, _*_}
 use native.Mathlib.Omega.{arith}
 use lib.ListN.{length}
 use Rattle.lexer.specs.declared.Span.{Span as Place}
 use Rattle.diag.specs.declared.Span.{Span}
 use Rattle.tokens.specs.declared.Token.{Token}
 use Rattle.parser.specs.Row.{peek}
-use Rattle.language.specs.Machine.{Located, Dir, Action, Rule as Made}
+use Rattle.language.specs.Machine.{Located, Dir, Action}
 use Rattle.language.specs.Lines.{RawSymbol, RawTransition}
 use Rattle.language.specs.Assembly as A
 use Rattle.language.specs.Layout as L
 use Rattle.assembler.specs.Rows.{placeOf}
-use Rattle.sheet.specs.declared.rules.Rule.{Rule}
-use Rattle.sheet.specs.Comments.{spanWords, textOf, textWords, between}
+use Rattle.sheet.specs.Comments.{spanWords, textWords, between}
 use Rattle.sheet.specs.Rules.{noSpan, resolve, written, moveOf, firstEntry, ruleAt, setsOf, ownPlace, tapeWords, tapesWords, placesWords, headWords, ruleWords, dressed, expanded}
 use Rattle.shown.proofs.Shows.{Both, no-members, members, SymbolShows, WriteShows, MoveShows, everySecond, RuleShows}
 use Rattle.sheet.proofs.CommentLaws.{length-texts}

@@ -22,13 +22,13 @@ use Rattle.language.specs.Lines.{RawSymbol, RawTransition, Text, Item, machineI
 use Rattle.language.specs.Assembly as A
 use Rattle.language.specs.Layout as L
 use Rattle.assembler.specs.Rows.{placeOf}
-use Rattle.assembler.specs.Entries.{Entry}
+use Rattle.assembler.specs.Entries.{Entry, entryAt}
 use Rattle.assembler.specs.Rules.{combinations}
 use Rattle.assembler.specs.Finals.{namesOf}
 use Rattle.assembler.proofs.Means.{number}
 use Rattle.assembler.proofs.FinalsMean.{NameIs, AllNames}
 use Rattle.assembler.proofs.EntriesMean.{Lines}
-use Rattle.sheet.specs.Comments.{spanWords, textOf, textWords, between, next}
+use Rattle.sheet.specs.Comments.{spanWords, textWords, between, next}
 use Rattle.sheet.specs.Rules.{resolve, written, moveOf, firstEntry, setsOf, ownPlace, readTokens}
 
 -- two lists whose members correspond
@@ -197,4 +197,4 @@ Shown text ts i ls = Lines (Shows text ts) ts i ls
 
 -- what holds of each entry and its item in the row of any text, with diagnostics or without
 abbrev pub Said : List ℕ → List Token → Entry → Item Place → Type 0
-Said text ts e k = Mentions text ts (e .at) k × ItemParsed text ts (e .at) k
+Said text ts e k = Mentions text ts (e .at) k × ItemParsed text ts (e .at) k × (e ≡ entryAt ts (e .at))

@@ -1,13 +1,12 @@
 -- What the row's tokens say of symbols, writes, directions and comments is what the language's views say of the text's tokens.
-use mathlib.Core.Path.{_≡_, refl, sym, ap, subst, _∙_}
+use mathlib.Core.Path.{_≡_, refl, sym, ap, _∙_}
 use mathlib.Core.Bool.{Bool, true, false, cond, not, _&&_, _||_}
-use mathlib.Core.List.{List, [], _∷_, _++_}
+use mathlib.Core.List.{List, [], _∷_}
 use mathlib.Core.Option.{Option, none, some}
-use Prim.Native.Nat.{ℕ, zero, suc, _+_, _-_, _*_, _≤_, _<_, _^_, _%_, min}
+use Prim.Native.Nat.{ℕ, _+_, _-_, _*_, _<_, _^_, _%_, min}
 use native.Mathlib.Omega.{arith}
-use native.Mathlib.Nat.{mod-eq-of-lt, min-eq-left}
-use borrow.Author.Tests.{eq-eqb, ne-eqb, eqb-true, leb-true}
-use lib.Dec.{eqb, leb}
+use native.Mathlib.Nat.{mod-eq-of-lt}
+use lib.Dec.{eqb}
 use lib.ListN.{length}
 use Rattle.lexer.specs.declared.Span.{Span as Place}
 use Rattle.lexer.specs.Tokens.{TokenKind, word, number, quoted, str, sign, comment, newline, unterminatedString, unterminatedQuote, Token as Lexed}
@@ -18,25 +17,24 @@ use Rattle.lexer.proofs.Steps.{Good}
 use Rattle.lexer.proofs.Placed.{Placed}
 use Rattle.tokens.specs.declared.Token.{Token}
 use Rattle.parser.specs.Meaning.{tokenOf, commentOf, Sound}
-use Rattle.parser.proofs.Views.{tok, Unnamed, sign-rule, unnamed-number, isSome, names-star, sees-sign}
+use Rattle.parser.proofs.Views.{tok, sign-rule, unnamed-number, isSome, names-star, sees-sign}
 use Rattle.parser.specs.Views.{isKind}
-use Rattle.language.specs.Machine.{Located, Dir, left, right, stay}
+use Rattle.language.specs.Machine.{Dir, left, right, stay}
 use Rattle.language.specs.Parser.{isSign, when}
 use Rattle.language.specs.Lines.{RawSymbol, rawBlank, glyph, symbolIn, writeIn, directionIn, fromChar, bare, bracket, oneCharacter}
 use Rattle.language.specs.Assembly as A
 use Rattle.language.specs.Layout as L
-use Rattle.diag.proofs.Cases.{by-test}
 use Rattle.assembler.specs.Rows.{placeOf}
-use Rattle.sheet.specs.Comments.{spanWords, textOf, textWords}
+use Rattle.sheet.specs.Comments.{spanWords, textWords}
 use Rattle.sheet.specs.Rules.{resolve, written, moveOf}
 use Rattle.shown.proofs.Shows.{SymbolShows, WriteShows, MoveShows}
 
 -- an option that is some
 module _ {X : Type 0} where
-  some-of : (a b : X) → some a ≡ some b → a ≡ b
+  pub some-of : (a b : X) → some a ≡ some b → a ≡ b
   some-of a b e = cc
 
-  none-some : {Y : Type 0} (b : X) → none ≡ some b → Y
+  pub none-some : {Y : Type 0} (b : X) → none ≡ some b → Y
   none-some b e = absurd (let z : _≡_ {A = ℕ} 0 1 = cc in omega arith)
 
 -- a bare character
@@ -108,7 +106,7 @@ symbol-code newline p q s b g e = none-some s e
 symbol-code unterminatedString p q s b g e = none-some s e
 symbol-code unterminatedQuote p q s b g e = none-some s e
 
-place-shown : (t : Lexed Place) → spanWords (placeOf (tokenOf t)) ≡ L.placeWords (t .place)
+pub place-shown : (t : Lexed Place) → spanWords (placeOf (tokenOf t)) ≡ L.placeWords (t .place)
 unfolding tokenOf
 place-shown t = refl
 

@@ -3,11 +3,11 @@ use mathlib.Core.Path.{_≡_, refl, sym, ap, subst, _∙_}
 use mathlib.Core.Bool.{Bool, true, false, cond}
 use mathlib.Core.List.{List, [], _∷_}
 use mathlib.Core.Option.{Option, none, some}
-use Prim.Native.Nat.{ℕ, suc, _+_, _-_, _≤_, _<_}
+use Prim.Native.Nat.{ℕ, _+_, _-_, _≤_, _<_}
 use native.Mathlib.Omega.{arith}
-use borrow.Author.Tests.{lt-ltb, le-ltb, le-leb, lt-leb, ltb-true, ltb-false, eqb-true, eqb-false}
-use lib.Dec.{eqb, leb, ltb}
-use lib.ListN.{length, getD, set, length-set}
+use borrow.Author.Tests.{lt-ltb, le-ltb, le-leb, lt-leb, eqb-true, eqb-false}
+use lib.Dec.{eqb, ltb}
+use lib.ListN.{length, getD, set, length-set, getD-replicate}
 use lib.Seq.{getD-set-same, getD-set-other}
 use Rattle.diag.proofs.Cases.{by-test}
 use Rattle.lexer.specs.declared.Span.{Span as Place}
@@ -16,8 +16,8 @@ use Rattle.language.specs.Machine.{Located}
 use Rattle.language.specs.Lines.{Item, machineItem, inputItem, kindItem, outputItem, tapesItem, statesItem, finalItem, inputAlphabetItem, tapeAlphabetItem, blankItem, startItem, transitionItem, Line, blankLine, commentLine, itemLine, errorLine}
 use Rattle.language.specs.Assembly as A
 use Rattle.assembler.specs.Entries.{Entry, entryAt}
-use Rattle.assembler.specs.Declarations.{declares, nameOf, declare, declarations}
-use Rattle.assembler.proofs.Means.{number, ItemMeans, Means, AllMean, no-lines, one-line}
+use Rattle.assembler.specs.Declarations.{declares, nameOf, undeclared, declare, declarations}
+use Rattle.assembler.proofs.Means.{number, ItemMeans, AllMean, no-lines, one-line}
 
 -- ---- one line more
 module _ (n : ℕ) (f : List ℕ) (e : Entry) where
@@ -160,3 +160,7 @@ module _ {B : Type 0} (X : Entry → Item Place → Type 0) (ts : List Token) (p
           let w : getD (declarations (length ts) (declare (length ts) f e) es) k 0 ≡ e .at =
           declarations-keep (length ts) k (declare (length ts) f e) es (ap (λ (x : ℕ). ltb x (length ts)) v ∙ t) ∙ v in
           present e i p a (ap (λ (x : ℕ). ltb x (length ts)) w ∙ t) (q ∙ ap (entryAt ts) (sym w)) m o (first-by i p (A.items ls) (some a) o)
+
+  -- from the first line on
+  pub declared-part : length ts ≤ 0xffffffff → (es : List Entry) (ls : List (Line Place)) → AllMean X ts es ls → Declared X ts part (getD (declarations (length ts) undeclared es) k 0) (A.items ls)
+  declared-part few es ls all = declared-first undeclared es ls all refl (le-ltb (getD undeclared k 0) (length ts) (omega (arith, getD-replicate {A = ℕ} 11 k 0xffffffff 0 low)))

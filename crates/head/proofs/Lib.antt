@@ -1,5 +1,0 @@
-pub mod HeadLaws
-pub mod Declared
-pub mod HeadMeans
-pub mod TokenSays
-pub mod ItemSays
