@@ -5,9 +5,8 @@ use mathlib.Core.List.{List, [], _∷_}
 use mathlib.Core.Option.{Option, none, some}
 use Prim.Native.Nat.{ℕ, suc, _+_, _≤_, _<_}
 use native.Mathlib.Omega.{arith}
-use borrow.Author.Tests.{le-ltb}
 use lib.Dec.{eqb, ltb}
-use lib.ListN.{length, getD, getD-replicate}
+use lib.ListN.{length, getD}
 use Rattle.lexer.specs.declared.Span.{Span as Place}
 use Rattle.tokens.specs.declared.Token.{Token}
 use Rattle.parser.specs.Row.{peek}
