@@ -1,0 +1,4 @@
+pub mod HeadLaws
+pub mod HeadMeans
+pub mod TokenSays
+pub mod ItemSays

@@ -1,0 +1,63 @@
+-- The head by value, as the code has it, as the definition's head.
+use Rattle.lexer.specs.declared.Span as T
+use Rattle.language.specs.Machine as M
+use Rattle.language.specs.Layout as L
+use Rattle.machine.specs.declared.Span.{Span}
+use Rattle.machine.specs.declared.Kind.{Kind}
+use Rattle.machine.specs.declared.Kind.the-variants.{Acceptor, Transducer, Enumerator, Beaver}
+use Rattle.machine.specs.declared.BitOrder.{BitOrder}
+use Rattle.machine.specs.declared.BitOrder.the-variants.{Lsb, Msb}
+use Rattle.machine.specs.declared.Decoder.{Decoder}
+use Rattle.machine.specs.declared.Decoder.the-variants.{Word, Unary, Binary}
+use Rattle.machine.specs.declared.Declared.{Declared}
+use Rattle.machine.specs.declared.Counts.{Counts}
+use Rattle.machine.specs.declared.Head.{Head}
+
+-- a place
+abbrev pub spanIn : Span → T.Span
+spanIn p = record { start = p .start; end = p .end }
+
+-- the kind
+abbrev pub kindIn : Kind → M.Kind
+kindIn Acceptor = M.acceptor
+kindIn Transducer = M.transducer
+kindIn Enumerator = M.enumerator
+kindIn Beaver = M.beaver
+
+-- the order of bits
+abbrev pub orderIn : BitOrder → M.BitOrder
+orderIn Lsb = M.lsb
+orderIn Msb = M.msb
+
+-- the decoder
+abbrev pub decoderIn : Decoder → M.Decoder
+decoderIn Word = M.asWord
+decoderIn (Unary c) = M.asUnary c
+decoderIn (Binary o) = M.asBinary (orderIn o)
+
+-- the flags
+abbrev pub declaredIn : Declared → M.Declared
+declaredIn d = record { states = d .states; inputAlphabet = d .«input_alphabet»; tapeAlphabet = d .«tape_alphabet»; start = d .start; blank = d .blank }
+
+-- the section counts
+abbrev pub countsIn : Counts → L.Counts
+countsIn n = record { states = n .states; sigma = n .sigma; gamma = n .gamma; finals = n .finals; header = n .header; trailing = n .trailing; rules = n .rules }
+
+-- the head
+unfoldable pub headIn : Head → L.Head
+headIn h = record {
+  name = spanIn (h .name);
+  input = spanIn (h .input);
+  kind = kindIn (h .kind);
+  output = decoderIn (h .output);
+  tapes = h .tapes;
+  blank = h .blank;
+  declared = declaredIn (h .declared);
+  start = spanIn (h .start);
+  kindPlace = spanIn (h .map .kind);
+  inputPlace = spanIn (h .map .input);
+  tapesPlace = spanIn (h .map .tapes);
+  startPlace = spanIn (h .map .start);
+  statesPlace = spanIn (h .map .states);
+  counts = countsIn (h .counts);
+}
