@@ -1,46 +1,32 @@
 -- The sections over the row of a text without diagnostics, and the head, are those of the language's machine.
 use mathlib.Core.Path.{_≡_, refl, sym, ap, subst, _∙_}
-use mathlib.Core.Bool.{Bool, true, false, cond}
-use mathlib.Core.List.{List, [], _∷_, _++_, map, append-assoc}
-use mathlib.Core.Option.{Option, none, some}
-use Prim.Native.Nat.{ℕ, zero, suc, _+_, _-_, _*_, _/_, _≤_, _<_, _^_}
+use mathlib.Core.List.{List, _++_, append-assoc}
+use mathlib.Core.Option.{none}
+use Prim.Native.Nat.{ℕ, _+_, _-_, _*_, _≤_}
 use native.Mathlib.Omega.{arith}
-use lib.Dec.{ltb}
 use lib.ListN.{length, getD, length-append}
 use lib.Seq.{sets}
-use borrow.Author.Tests.{lt-ltb, le-ltb}
 use Rattle.chars.specs.Utf8.{decode}
 use Rattle.lexer.specs.declared.Span.{Span as Place}
 use Rattle.lexer.specs.Tokens.{tokens}
-use Rattle.lexer.proofs.Writes.{tokens-of-bytes}
 use Rattle.tokens.specs.declared.Token.{Token}
-use Rattle.parser.specs.Row.{peek}
-use Rattle.parser.specs.Views.{isState}
-use Rattle.parser.specs.Meaning.{tokenOf}
-use Rattle.language.specs.Machine.{Located, State, Machine}
-use Rattle.language.specs.Lines.{Item, Line, covering, readLines}
+use Rattle.language.specs.Machine.{Located, Machine}
+use Rattle.language.specs.Lines.{Line, covering, readLines}
 use Rattle.language.specs.Assembly as A
 use Rattle.language.specs.Infer as I
 use Rattle.language.specs.Layout as L
 use Rattle.language.specs.Outcome.{wordsNeeded}
 use Rattle.language.proofs.Every.{Every, every-any}
-use Rattle.language.proofs.Counts.{Chosen, ruleCount, rules-length, flat-length, symbol-length, kept-fits, expand-words}
+use Rattle.language.proofs.Counts.{Chosen, ruleCount, flat-length, kept-fits, expand-words}
 use Rattle.language.proofs.ReadCounts.{kept-within, read-chosen, read-sheet-length}
-use Rattle.diag.specs.declared.Span as D
-use Rattle.diag.proofs.Cases.{by-test}
 use Rattle.assembler.specs.Rows.{rows}
-use Rattle.assembler.specs.Names.{isWord}
-use Rattle.assembler.specs.Entries.{Entry, entryAt, entries}
-use Rattle.assembler.specs.Entered.{entered}
-use Rattle.assembler.specs.Declarations.{undeclared, declarations}
+use Rattle.assembler.specs.Entries.{entries}
 use Rattle.assembler.proofs.Means.{AllMean}
-use Rattle.assembler.proofs.MarkLaws.{first-low}
-use Rattle.assembler.proofs.AssembledLaws.{length-entered}
 use Rattle.sheet.specs.Comments.{textWords, header, trailing}
 use Rattle.sheet.specs.Rules.{rules, ruleLengths}
 use Rattle.shown.proofs.Shows.{Said, Shown}
 use Rattle.shown.proofs.BodyShown.{header-shown, trailing-shown, rules-shown, lengths-shown, kept-all}
-use Rattle.infer.specs.States.{Scratch, stateSection, finalSection, firstState}
+use Rattle.infer.specs.States.{firstState}
 use Rattle.inferred.proofs.StatesInferred.{placeFrom, first-state}
 use Rattle.inferred.proofs.OfText.{states-count, symbols-count, places-count}
 use Rattle.infer.specs.Alphabets.{gammaCodes, sigmaWords, gammaWords}

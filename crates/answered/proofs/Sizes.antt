@@ -1,8 +1,7 @@
 -- How many words the sections over a row take: no more than its tokens, and the codes of Γ, allow.
-use mathlib.Core.Path.{_≡_, refl, sym, ap, _∙_}
 use mathlib.Core.Bool.{Bool, true, false, cond}
 use mathlib.Core.List.{List, [], _∷_, _++_}
-use Prim.Native.Nat.{ℕ, zero, suc, _+_, _-_, _*_, _≤_, _<_}
+use Prim.Native.Nat.{ℕ, zero, suc, _+_, _-_, _*_, _≤_}
 use native.Mathlib.Omega.{arith}
 use lib.Dec.{eqb, ltb}
 use lib.ListN.{length, getD, take, drop, length-append, length-drop, length-take}
@@ -16,7 +15,7 @@ use Rattle.sheet.specs.Comments.{spanWords}
 use Rattle.sheet.specs.Rules.{resolve}
 use Rattle.infer.specs.Page.{indicesFrom, indicesIn}
 use Rattle.infer.specs.States.{markAt, nameWords, nameAdds, nameMarks, namesAdd, mention, mentions, startName, finals, statesAdd, stateSection, placeAt, finalSection}
-use Rattle.infer.specs.Symbols.{range, symbols, symbolsIn, lineRange, hasBlank}
+use Rattle.infer.specs.Symbols.{symbols, symbolsIn, lineRange, hasBlank}
 use Rattle.infer.specs.Alphabets.{listedWords, inferredWords, otherWords, declaredGamma, gammaWords, inferredSigma, sigmaWords}
 
 -- one of two lists that are short enough

@@ -2,7 +2,7 @@
 use mathlib.Core.Path.{_≡_, refl, sym, ap, subst, _∙_}
 use mathlib.Core.Bool.{false}
 use mathlib.Core.List.{List, [], _∷_, _++_, map}
-use Prim.Native.Nat.{ℕ, _+_, _*_, _≤_, _<_, _^_}
+use Prim.Native.Nat.{ℕ, _+_, _≤_}
 use native.Mathlib.Omega.{arith}
 use lib.ListN.{length, getD, length-map}
 use Rattle.chars.specs.Utf8.{decode}
@@ -20,7 +20,6 @@ use Rattle.language.specs.Infer as I
 use Rattle.language.specs.Layout as L
 use Rattle.assembler.specs.Rows.{rows}
 use Rattle.assembler.specs.Entries.{Entry, entries}
-use Rattle.assembler.specs.Entered.{entered}
 use Rattle.assembler.specs.Declarations.{undeclared, declarations}
 use Rattle.assembler.proofs.Means.{AllMean}
 use Rattle.assembler.proofs.AssembledLaws.{length-entered}
