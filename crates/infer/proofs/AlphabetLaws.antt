@@ -257,7 +257,7 @@ module _ (text : List ℕ) (b blank count : ℕ) (w first : List ℕ) (few : 4 *
     gamma-noted w₂ n₂ c = noting-end b (gammaCodes text blank (rows count w) first) w w₂ n₂ (noting-on b (gammaCodes text blank (rows count w) first) w w₁ n₁ (candidates text blank (rows count w₁) first) [] w₂ n₂ gamma-last c)
 
 -- ---- Γ and Σ in the sheet
-flat-width : (f : Token → List ℕ) → ((t : Token) → length (f t) ≤ 3) → (ts : List Token) → length (flat f (symbols ts)) ≤ 3 * length ts
+pub flat-width : (f : Token → List ℕ) → ((t : Token) → length (f t) ≤ 3) → (ts : List Token) → length (flat f (symbols ts)) ≤ 3 * length ts
 unfolding flat symbols
 flat-width f w [] = omega arith
 flat-width f w (t ∷ ts) = go (isSymbol t) (flat-width f w ts)

@@ -32,11 +32,11 @@ unfolding member
 member-last [] x y = refl
 member-last (c ∷ cs) x y = ap (λ (b : Bool). eqb c y || b) (member-last cs x y) ∙ or-turn (eqb c y) (eqb x y) (member eqb cs y)
 
-noted-there : (cs : List ℕ) (x : ℕ) → member eqb cs x ≡ true → noted cs x ≡ cs
+pub noted-there : (cs : List ℕ) (x : ℕ) → member eqb cs x ≡ true → noted cs x ≡ cs
 unfolding noted
 noted-there cs x e = rw e
 
-noted-new : (cs : List ℕ) (x : ℕ) → member eqb cs x ≡ false → noted cs x ≡ cs ++ x ∷ []
+pub noted-new : (cs : List ℕ) (x : ℕ) → member eqb cs x ≡ false → noted cs x ≡ cs ++ x ∷ []
 unfolding noted
 noted-new cs x e = rw e
 

@@ -7,3 +7,4 @@ pub mod InputLaws
 pub mod AlphabetLaws
 pub mod CodesMean
 pub mod InputMean
+pub mod Widths

@@ -335,7 +335,7 @@ entries-few (suc k) i [] = omega arith
 entries-few (suc k) i (t ∷ ts) = omega (arith, entries-few k (suc i) ts)
 entries-few zero i (t ∷ ts) = omega (arith, entries-few (behind i t) (suc i) ts)
 
-mentions-all : (count : ℕ) (ts : List Token) → length ts ≡ count → length (mentions ts (entries ts)) ≤ 2 * count
+pub mentions-all : (count : ℕ) (ts : List Token) → length ts ≡ count → length (mentions ts (entries ts)) ≤ 2 * count
 unfolding entries
 mentions-all count ts e = omega (arith, mentions-few ts (entries ts), entries-few 0 0 ts)
 

@@ -92,12 +92,14 @@ unfoldable pub finals : ℕ → List Token → List ℕ → List ℕ → List �
 unfolding unmarked listFinals indicesIn
 finals size ts first w = listFinals size ts (unmarked size w) (indicesIn ts (getD first 10 0))
 
--- ---- the same as words: what the name at x adds to the sheet, and the words of work behind it
+-- ---- the same as words
+-- what the name at x adds to the sheet
 unfoldable pub nameAdds : ℕ → List Token → Bool → List ℕ → ℕ → List ℕ
 nameAdds size ts repeats w x =
     let m = getD w (markAt size w x) 0 in
     cond (isState (peek ts x)) (cond (ltb m 2) (nameWords (peek ts x) m) (cond repeats (nameWords (peek ts x) 0) [])) []
 
+-- the words of work behind the name at x
 unfoldable pub nameMarks : ℕ → List Token → List ℕ → ℕ → List ℕ
 nameMarks size ts w x =
     let m = getD w (markAt size w x) 0 in

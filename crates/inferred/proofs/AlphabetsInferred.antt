@@ -20,7 +20,7 @@ use Rattle.language.specs.Assembly as A
 use Rattle.language.specs.Infer as I
 use Rattle.language.specs.Layout as L
 use Rattle.language.proofs.Every.{Every}
-use Rattle.language.proofs.Counts.{Fits, Chosen, kept-fits}
+use Rattle.language.proofs.Counts.{Fits, Chosen, kept-fits, flat-append}
 use Rattle.language.proofs.FirstUse as U
 use Rattle.language.proofs.LineUses.{linesUse, candidatesOfLines, candidates-from-lines}
 use Rattle.assembler.specs.Rows.{placeOf}
@@ -43,11 +43,6 @@ abbrev Set : Type 0
 Set = List (Located Place RawSymbol)
 
 -- ---- the symbols of a set
-flat-append : {X : Type 0} (f : X → List ℕ) (l m : List X) → L.flat f (l ++ m) ≡ L.flat f l ++ L.flat f m
-unfolding L.flat
-flat-append f [] m = refl
-flat-append f (x ∷ l) m = ap (λ (z : List ℕ). f x ++ z) (flat-append f l m) ∙ sym (append-assoc (f x) (L.flat f l) (L.flat f m))
-
 module _ (b : ℕ) where
   symbols-yes : (t : Token) (ts : List Token) → isSymbol t ≡ true → symbols (t ∷ ts) ≡ t ∷ symbols ts
   unfolding symbols

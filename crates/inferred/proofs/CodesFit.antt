@@ -24,6 +24,7 @@ use Rattle.infer.specs.declared.glyphs.Walk.{Walk}
 use Rattle.infer.specs.Codes.{noted, notedAll, held, Room}
 use Rattle.infer.specs.Symbols.{range, symbols, lineRange, symbolsIn, takes, walked, firsts, outside, others, further, ruleSymbols, rulesSymbols, codesOf}
 use Rattle.infer.specs.Input.{endsAt, escapeCode, escapeOf, spelledAs, escapesNext, spelled, inputOf}
+use Rattle.infer.proofs.CodesMean.{noted-there, noted-new}
 use Rattle.infer.specs.Alphabets.{lineCodes, candidates}
 
 -- ---- codes from a list, each once, are no more than the list is long
@@ -52,14 +53,6 @@ member-last (c ∷ cs) x y e = by-test (eqb c y) (λ q. or-left (eqb c y) (membe
 
 abbrev In : List ℕ → List ℕ → ℕ → Type 0
 In cs u y = (member eqb cs y || member eqb u y) ≡ true
-
-noted-there : (cs : List ℕ) (x : ℕ) → member eqb cs x ≡ true → noted cs x ≡ cs
-unfolding noted
-noted-there cs x e = rw e
-
-noted-new : (cs : List ℕ) (x : ℕ) → member eqb cs x ≡ false → noted cs x ≡ cs ++ x ∷ []
-unfolding noted
-noted-new cs x e = rw e
 
 pub few-noted : (cs u xs : List ℕ) → Every (In cs u) xs → length (notedAll cs xs) ≤ length cs + length u
 unfolding notedAll

@@ -5,9 +5,8 @@ use mathlib.Core.List.{List, [], _∷_}
 use mathlib.Core.Option.{Option, none, some}
 use Prim.Native.Nat.{ℕ, suc, _+_, _≤_, _<_}
 use native.Mathlib.Omega.{arith}
-use borrow.Author.Tests.{le-ltb}
 use lib.Dec.{eqb, ltb}
-use lib.ListN.{length, getD, getD-replicate}
+use lib.ListN.{length, getD}
 use Rattle.lexer.specs.declared.Span.{Span as Place}
 use Rattle.tokens.specs.declared.Token.{Token}
 use Rattle.parser.specs.Row.{peek}
@@ -20,7 +19,7 @@ use Rattle.assembler.specs.Finals.{namesOf}
 use Rattle.assembler.proofs.Means.{number, AllMean}
 use Rattle.assembler.proofs.FinalsMean.{AllNames}
 use Rattle.sheet.specs.Rules.{resolve}
-use Rattle.shown.proofs.Declared.{Agrees, fills, Declared, absent, present, declared-first}
+use Rattle.shown.proofs.Declared.{Agrees, fills, Declared, absent, present, declared-part}
 use Rattle.shown.proofs.Shows.{range, StateShows, TextShows, SymbolsShow, Mentions}
 
 -- the first item with a part, whose line is at f: there is none, or P holds of what it declares
@@ -65,8 +64,7 @@ module _ (text : List ℕ) (X : Entry → Item Place → Type 0) (ts : List Toke
   firsts = declarations (length ts) undeclared (entries ts)
 
   declared : {B : Type 0} (part : A.Parts Place → Option B) (k : ℕ) → k < 11 → ((i : Item Place) → Agrees (part (A.parts i)) (eqb (number i) k)) → Declared X ts part (getD firsts k 0) (A.items ls)
-  declared part k low agrees =
-      declared-first X ts part k low agrees undeclared (entries ts) ls all refl (le-ltb (getD undeclared k 0) (length ts) (omega (arith, getD-replicate {A = ℕ} 11 k 0xffffffff 0 low)))
+  declared part k low agrees = declared-part X ts part k low agrees few (entries ts) ls all
 
   looked : {B : Type 0} (part : A.Parts Place → Option B) (f : ℕ) (P : B → Type 0) → ((p : A.Parts Place) → Mentioned text ts f p → (a : B) → part p ≡ some a → P a)
       → Declared X ts part f (A.items ls) → At ts f P (A.first part (A.items ls))

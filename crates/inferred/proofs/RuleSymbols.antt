@@ -26,6 +26,7 @@ use Rattle.assembler.specs.Entries.{Entry}
 use Rattle.sheet.specs.Rules.{resolve}
 use Rattle.infer.specs.declared.glyphs.Walk.{Walk}
 use Rattle.infer.specs.Symbols.{range, symbols, takes, walked, firsts, others, further, outside, ruleSymbols, rulesSymbols, codesOf}
+use Rattle.infer.proofs.CodesMean.{fresh-there, fresh-new}
 use Rattle.shown.proofs.Shows.{SymbolShows, SymbolsShow, WritesShow, no-writes, no-write, write-back, one-write, ReadsShow, no-reads, no-read, opens, closes, alone, member, MentionsShow}
 use Rattle.inferred.proofs.RuleLines.{RulesAt, no-rules, no-rule, one-rule}
 
@@ -180,14 +181,6 @@ module _ (b : ℕ) where
   -- ---- a `*` adds nothing to what is read
   abbrev Known : (ℕ → Bool) → List ℕ → Type 0
   Known known c = (y : ℕ) → I.member eqb c y ≡ true → known y ≡ true
-
-  fresh-there : (known : ℕ → Bool) (x : ℕ) (l : List ℕ) → known x ≡ true → I.fresh eqb known (x ∷ l) ≡ I.fresh eqb known l
-  unfolding I.fresh
-  fresh-there known x l e = rw (e, I.fresh)
-
-  fresh-new : (known : ℕ → Bool) (x : ℕ) (l : List ℕ) → known x ≡ false → I.fresh eqb known (x ∷ l) ≡ x ∷ I.fresh eqb (U.also x known) l
-  unfolding I.fresh
-  fresh-new known x l e = rw (e, I.fresh)
 
   stars : (c : List ℕ) (ws : List (Option ℕ)) (known : ℕ → Bool) (r : List ℕ) → length ws ≡ length c → Known known c → I.fresh eqb known (U.outs c ws ++ r) ≡ I.fresh eqb known (written ws ++ r)
   unfolding I.member
