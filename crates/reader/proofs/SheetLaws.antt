@@ -28,7 +28,7 @@ use Rattle.head.specs.Meaning.{countsIn, headIn}
 use Rattle.head.specs.Heads.{blankAt, headAt}
 use Rattle.answered.specs.Ready.{linesOf, Ready}
 use Rattle.answered.specs.Sections.{Sections, sectionsOf, joined}
-use Rattle.answered.proofs.Sizes.{states-few, finals-few, sigma-few, gamma-few}
+use Rattle.infer.proofs.Widths.{states-width, finals-width, sigma-width, gamma-width}
 use Rattle.answered.proofs.Ties.{few, row-size, ties}
 use Rattle.answered.proofs.Sheets as T
 use Rattle.reader.specs.declared.sections.Ends.{Ends}
@@ -124,10 +124,10 @@ module _ (text : List ℕ) (count : ℕ) (w first : List ℕ) (r : Ready text co
         omega (
           arith,
           joined-length,
-          states-few size (rows count w) first w,
-          sigma-few b (rows count w) first cs,
-          gamma-few b (rows count w) first cs,
-          finals-few (rows count w) (getD first 10 0),
+          states-width size (rows count w) first w,
+          sigma-width b (rows count w) first cs,
+          gamma-width b (rows count w) first cs,
+          finals-width (rows count w) (getD first 10 0),
           T.header-few text count w first r (ties text count w first r .shown),
           T.trailing-few text count w first r (ties text count w first r .shown),
           code-count text count w first r b,
