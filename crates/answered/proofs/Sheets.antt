@@ -25,6 +25,7 @@ use Rattle.assembler.proofs.Means.{AllMean}
 use Rattle.sheet.specs.Comments.{textWords, header, trailing}
 use Rattle.sheet.specs.Rules.{rules, ruleLengths}
 use Rattle.shown.proofs.Shows.{Said, Shown}
+use Rattle.shown.proofs.TextShown.{no-rule-errors}
 use Rattle.shown.proofs.BodyShown.{header-shown, trailing-shown, rules-shown, lengths-shown, kept-all}
 use Rattle.infer.specs.States.{firstState}
 use Rattle.inferred.proofs.StatesInferred.{placeFrom, first-state}
@@ -37,7 +38,7 @@ use Rattle.head.specs.Meaning.{spanIn, countsIn, headIn}
 use Rattle.head.specs.Heads.{blankAt, headAt}
 use Rattle.head.proofs.HeadMeans.{head-means}
 use Rattle.head.proofs.ItemSays.{said-says}
-use Rattle.answered.proofs.Ties.{Tied, row-size, few, table, no-rule-errors}
+use Rattle.answered.proofs.Ties.{Tied, row-size, few, table}
 use Rattle.answered.specs.Ready.{linesOf, Ready}
 use Rattle.answered.specs.Sections.{Sections, sectionsOf, joined}
 use Rattle.answered.proofs.Bounds.{comments-few, words-few}
@@ -55,7 +56,7 @@ module _ (text : List ℕ) (count : ℕ) (w first : List ℕ) (r : Ready text co
 
   -- ---- rules
   all-kept : A.kept 0 (A.bodyOf (linesOf text) .rules) ≡ A.bodyOf (linesOf text) .rules
-  all-kept = kept-all 0 (A.bodyOf (linesOf text) .rules) (no-rule-errors text count w first r)
+  all-kept = kept-all 0 (A.bodyOf (linesOf text) .rules) (no-rule-errors (linesOf text) (r .none-found))
 
   rules-few : ruleCount (A.bodyOf (linesOf text) .rules) ≤ 262144
   rules-few = omega (arith, kept-within 0 (A.bodyOf (linesOf text) .rules) (omega arith), ap ruleCount all-kept)

@@ -1,7 +1,6 @@
 -- What the lines of a row and its sections are in the language's terms, for every text without diagnostics.
 use mathlib.Core.Path.{_≡_, refl, sym, ap, subst, _∙_}
-use mathlib.Core.Bool.{false}
-use mathlib.Core.List.{List, [], _∷_, _++_, map}
+use mathlib.Core.List.{List, map}
 use Prim.Native.Nat.{ℕ, _+_, _≤_}
 use native.Mathlib.Omega.{arith}
 use lib.ListN.{length, getD, length-map}
@@ -13,9 +12,7 @@ use Rattle.lexer.proofs.Placed.{placed}
 use Rattle.tokens.specs.declared.Token.{Token}
 use Rattle.parser.specs.Meaning.{tokenOf}
 use Rattle.parser.proofs.Lexed.{tokens-lexed}
-use Rattle.language.specs.Machine.{Located}
 use Rattle.language.specs.Lines.{Item, Line, lines, covering, readLines}
-use Rattle.language.specs.Assembly as A
 use Rattle.language.specs.Infer as I
 use Rattle.language.specs.Layout as L
 use Rattle.assembler.specs.Rows.{rows}
@@ -24,7 +21,7 @@ use Rattle.assembler.specs.Declarations.{undeclared, declarations}
 use Rattle.assembler.proofs.Means.{AllMean}
 use Rattle.assembler.proofs.AssembledLaws.{length-entered}
 use Rattle.shown.proofs.Shows.{Mentions, Said, Shown}
-use Rattle.shown.proofs.TextShown.{text-shown, text-said}
+use Rattle.shown.proofs.TextShown.{text-shown, text-said, no-rule-errors}
 use Rattle.infer.specs.States.{Scratch, stateSection, finalSection}
 use Rattle.infer.specs.Symbols.{blankOf}
 use Rattle.infer.specs.Alphabets.{gammaCodes, sigmaWords, gammaWords}
@@ -39,11 +36,6 @@ pub record Tied (text : List ℕ) (count : ℕ) (w first : List ℕ) : Type 0 wh
   pub sigma : let b = I.machineOf (linesOf text) .blank in sigmaWords b (rows count w) first (gammaCodes text b (rows count w) first) ≡ L.flat L.symbolWords (I.machineOf (linesOf text) .sigma)
   pub gamma : let b = I.machineOf (linesOf text) .blank in gammaWords b (rows count w) first (gammaCodes text b (rows count w) first) ≡ L.flat L.symbolWords (I.machineOf (linesOf text) .gamma)
   pub finals : finalSection (rows count w) (getD first 10 0) ≡ L.flat L.placeWords (I.machineOf (linesOf text) .finals)
-
--- a list at the end of one that is empty
-none-last : {X : Type 0} (a b : List X) → a ++ b ≡ [] → b ≡ []
-none-last [] b e = e
-none-last (x ∷ a) b e = absurd (let z : _≡_ {A = ℕ} 0 1 = cc in omega arith)
 
 module _ (text : List ℕ) (count : ℕ) (w first : List ℕ) (r : Ready text count w first) where
   abbrev ts : List Token
@@ -65,17 +57,6 @@ module _ (text : List ℕ) (count : ℕ) (w first : List ℕ) (r : Ready text co
   pub table : first ≡ declarations (length (rows count w)) undeclared (entries (rows count w))
   table = r .declared ∙ ap (λ (n : ℕ). declarations n undeclared (entries (rows count w))) (sym row-size)
 
-  -- ---- rules
-  pub no-rule-errors : A.ruleErrors 0 false (A.bodyOf (linesOf text) .rules) ≡ []
-  unfolding A.diagnosticsOf
-  no-rule-errors =
-      let is : List (Located Place (Item Place)) = A.items (linesOf text) in
-      let a : List (A.Diagnostic Place) = A.lineErrors (linesOf text) in
-      let b : List (A.Diagnostic Place) = A.declarationErrors [] is in
-      let c : List (A.Diagnostic Place) = A.finalErrors (A.statesIn is) [] (A.finalsIn is) in
-      let d : List (A.Diagnostic Place) = A.ruleErrors 0 false (A.bodyOf (linesOf text) .rules) in
-      none-last c d (none-last b (c ++ d) (none-last a (b ++ (c ++ d)) (r .none-found)))
-
   -- ---- the lines
   said : AllMean (Said text (rows count w)) (rows count w) (entries (rows count w)) (linesOf text)
   unfolding readLines
@@ -86,7 +67,7 @@ module _ (text : List ℕ) (count : ℕ) (w first : List ℕ) (r : Ready text co
   unfolding readLines
   shown =
       subst (λ (ts : List Token). Shown text ts 0 (lines covering (tokens (decode text)))) (sym (r .row))
-      (text-shown text (tokens (decode text)) (tokens-lexed text) (placed text) (omega (arith, r .short)) no-rule-errors)
+      (text-shown text (tokens (decode text)) (tokens-lexed text) (placed text) (omega (arith, r .short)) (no-rule-errors (lines covering (tokens (decode text))) (r .none-found)))
 
   says : (e : Entry) (i : Item Place) → Said text (rows count w) e i → Mentions text (rows count w) (e .at) i
   says e i x = x .0
