@@ -1,9 +1,9 @@
 -- How many comments, and words of rules, a text without diagnostics has: no more than its tokens allow.
-use mathlib.Core.Path.{_≡_, refl, sym, ap, subst, _∙_}
+use mathlib.Core.Path.{_≡_, refl, ap}
 use mathlib.Core.Bool.{Bool, true, false}
 use mathlib.Core.List.{List, [], _∷_, _++_}
 use mathlib.Core.Option.{Option, none, some}
-use Prim.Native.Nat.{ℕ, zero, suc, _+_, _-_, _*_, _≤_, _<_, _^_}
+use Prim.Native.Nat.{ℕ, zero, suc, _+_, _-_, _*_, _≤_}
 use native.Mathlib.Omega.{arith}
 use native.Mathlib.Nat.{mul-le-mul-left, mul-le-mul-right}
 use lib.Dec.{eqb}
@@ -12,16 +12,16 @@ use Rattle.lexer.specs.declared.Span.{Span as Place}
 use Rattle.tokens.specs.declared.Token.{Token}
 use Rattle.parser.specs.Row.{peek}
 use Rattle.language.specs.Machine.{Located}
-use Rattle.language.specs.Lines.{RawSymbol, RawTransition, Item, machineItem, inputItem, kindItem, outputItem, tapesItem, statesItem, finalItem, inputAlphabetItem, tapeAlphabetItem, blankItem, startItem, transitionItem, Line, blankLine, commentLine, itemLine, errorLine}
+use Rattle.language.specs.Lines.{RawTransition, Item, machineItem, inputItem, kindItem, outputItem, tapesItem, statesItem, finalItem, inputAlphabetItem, tapeAlphabetItem, blankItem, startItem, transitionItem, Line, blankLine, commentLine, itemLine, errorLine}
 use Rattle.language.specs.Assembly as A
 use Rattle.language.specs.Layout as L
 use Rattle.language.proofs.Every.{Every}
 use Rattle.language.proofs.Counts.{ruleCount}
 use Rattle.assembler.specs.Entries.{behind}
-use Rattle.assembler.proofs.EntriesMean.{Lines, lines-end, lines-on}
+use Rattle.assembler.proofs.EntriesMean.{lines-end, lines-on}
 use Rattle.sheet.specs.Wheels.{members, readSets}
 use Rattle.sheet.specs.Rules.{firstEntry, setsOf}
-use Rattle.shown.proofs.Shows.{Both, no-members, members as more-members, RuleShows, ItemShows, Shows, Shown}
+use Rattle.shown.proofs.Shows.{Both, no-members, members as more-members, RuleShows, ItemShows, Shown}
 
 -- ---- comments
 -- how many comments lead rules

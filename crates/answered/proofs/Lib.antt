@@ -1,5 +1,4 @@
 pub mod Few
 pub mod Bounds
-pub mod Sizes
 pub mod Ties
 pub mod Sheets

@@ -1,46 +1,35 @@
 -- The sections over the row of a text without diagnostics, and the head, are those of the language's machine.
 use mathlib.Core.Path.{_≡_, refl, sym, ap, subst, _∙_}
-use mathlib.Core.Bool.{Bool, true, false, cond}
-use mathlib.Core.List.{List, [], _∷_, _++_, map, append-assoc}
-use mathlib.Core.Option.{Option, none, some}
-use Prim.Native.Nat.{ℕ, zero, suc, _+_, _-_, _*_, _/_, _≤_, _<_, _^_}
+use mathlib.Core.List.{List, _++_, append-assoc}
+use mathlib.Core.Option.{none}
+use Prim.Native.Nat.{ℕ, _+_, _-_, _*_, _≤_}
 use native.Mathlib.Omega.{arith}
-use lib.Dec.{ltb}
-use lib.ListN.{length, getD, length-append, length-map}
-use borrow.Author.Tests.{lt-ltb, le-ltb}
+use lib.ListN.{length, getD, length-append}
+use lib.Seq.{sets}
 use Rattle.chars.specs.Utf8.{decode}
 use Rattle.lexer.specs.declared.Span.{Span as Place}
 use Rattle.lexer.specs.Tokens.{tokens}
-use Rattle.lexer.proofs.Writes.{tokens-of-bytes}
 use Rattle.tokens.specs.declared.Token.{Token}
-use Rattle.parser.specs.Row.{peek}
-use Rattle.parser.specs.Views.{isState}
-use Rattle.parser.specs.Meaning.{tokenOf}
-use Rattle.language.specs.Machine.{Located, State, Machine}
-use Rattle.language.specs.Lines.{Item, Line, covering, readLines}
+use Rattle.language.specs.Machine.{Located, Machine}
+use Rattle.language.specs.Lines.{Line, covering, readLines}
 use Rattle.language.specs.Assembly as A
 use Rattle.language.specs.Infer as I
 use Rattle.language.specs.Layout as L
 use Rattle.language.specs.Outcome.{wordsNeeded}
 use Rattle.language.proofs.Every.{Every, every-any}
-use Rattle.language.proofs.Counts.{Chosen, ruleCount, rules-length, flat-length, symbol-length, kept-fits, expand-words}
+use Rattle.language.proofs.Counts.{Chosen, ruleCount, flat-length, kept-fits, expand-words}
 use Rattle.language.proofs.ReadCounts.{kept-within, read-chosen, read-sheet-length}
-use Rattle.diag.specs.declared.Span as D
-use Rattle.diag.proofs.Cases.{by-test}
 use Rattle.assembler.specs.Rows.{rows}
-use Rattle.assembler.specs.Names.{isWord}
-use Rattle.assembler.specs.Entries.{Entry, entryAt, entries}
-use Rattle.assembler.specs.Entered.{entered}
-use Rattle.assembler.specs.Declarations.{undeclared, declarations}
+use Rattle.assembler.specs.Entries.{entries}
 use Rattle.assembler.proofs.Means.{AllMean}
-use Rattle.assembler.proofs.MarkLaws.{first-low}
-use Rattle.assembler.proofs.AssembledLaws.{length-entered}
 use Rattle.sheet.specs.Comments.{textWords, header, trailing}
 use Rattle.sheet.specs.Rules.{rules, ruleLengths}
 use Rattle.shown.proofs.Shows.{Said, Shown}
+use Rattle.shown.proofs.TextShown.{no-rule-errors}
 use Rattle.shown.proofs.BodyShown.{header-shown, trailing-shown, rules-shown, lengths-shown, kept-all}
-use Rattle.infer.specs.States.{Scratch, stateSection, finalSection, firstState}
-use Rattle.infer.proofs.SectionLaws.{first-there}
+use Rattle.infer.specs.States.{firstState}
+use Rattle.inferred.proofs.StatesInferred.{placeFrom, first-state}
+use Rattle.inferred.proofs.OfText.{states-count, symbols-count, places-count}
 use Rattle.infer.specs.Alphabets.{gammaCodes, sigmaWords, gammaWords}
 use Rattle.machine.specs.declared.Span.{Span}
 use Rattle.machine.specs.declared.Counts.{Counts}
@@ -49,10 +38,14 @@ use Rattle.head.specs.Meaning.{spanIn, countsIn, headIn}
 use Rattle.head.specs.Heads.{blankAt, headAt}
 use Rattle.head.proofs.HeadMeans.{head-means}
 use Rattle.head.proofs.ItemSays.{said-says}
-use Rattle.answered.proofs.Ties.{Tied, row-size, few, table, no-rule-errors}
+use Rattle.answered.proofs.Ties.{Tied, row-size, few, table}
 use Rattle.answered.specs.Ready.{linesOf, Ready}
 use Rattle.answered.specs.Sections.{Sections, sectionsOf, joined}
 use Rattle.answered.proofs.Bounds.{comments-few, words-few}
+
+-- two words a comment
+comments-count : (l : List (Located Place (List ℕ))) → length (L.flat L.locatedWords l) ≡ length l * 2
+comments-count l = flat-length L.locatedWords 2 l (every-any _ (λ c. refl) l)
 
 module _ (text : List ℕ) (count : ℕ) (w first : List ℕ) (r : Ready text count w first) where
   abbrev ts : List Token
@@ -63,7 +56,7 @@ module _ (text : List ℕ) (count : ℕ) (w first : List ℕ) (r : Ready text co
 
   -- ---- rules
   all-kept : A.kept 0 (A.bodyOf (linesOf text) .rules) ≡ A.bodyOf (linesOf text) .rules
-  all-kept = kept-all 0 (A.bodyOf (linesOf text) .rules) (no-rule-errors text count w first r)
+  all-kept = kept-all 0 (A.bodyOf (linesOf text) .rules) (no-rule-errors (linesOf text) (r .none-found))
 
   rules-few : ruleCount (A.bodyOf (linesOf text) .rules) ≤ 262144
   rules-few = omega (arith, kept-within 0 (A.bodyOf (linesOf text) .rules) (omega arith), ap ruleCount all-kept)
@@ -86,21 +79,11 @@ module _ (text : List ℕ) (count : ℕ) (w first : List ℕ) (r : Ready text co
     pub lengths-few : ruleLengths (rows count w) ≤ 262144 * (11 + 7 * count) + 2 * count
     lengths-few = omega (arith, lengths-shown 0 ts ls shown, words-few ts ls shown rules-few, row-size text count w first r)
 
-    header-two : length (L.flat textWords (header (rows count w))) ≡ 2 * length (A.bodyOf (linesOf text) .header)
-    header-two =
-        let n : length (A.bodyOf (linesOf text) .header) * 2 ≡ 2 * length (A.bodyOf (linesOf text) .header) = omega arith in
-        ap length (header-shown 0 ts ls shown) ∙ flat-length L.locatedWords 2 (A.bodyOf (linesOf text) .header) (every-any _ (λ c. refl) (A.bodyOf (linesOf text) .header)) ∙ n
-
-    trailing-two : length (L.flat textWords (trailing (rows count w))) ≡ 2 * length (A.bodyOf (linesOf text) .trailing)
-    trailing-two =
-        let n : length (A.bodyOf (linesOf text) .trailing) * 2 ≡ 2 * length (A.bodyOf (linesOf text) .trailing) = omega arith in
-        ap length (trailing-shown 0 ts ls shown) ∙ flat-length L.locatedWords 2 (A.bodyOf (linesOf text) .trailing) (every-any _ (λ c. refl) (A.bodyOf (linesOf text) .trailing)) ∙ n
-
     pub header-few : length (L.flat textWords (header (rows count w))) ≤ 2 * count
-    header-few = omega (arith, header-two, comments-few ts ls shown, row-size text count w first r)
+    header-few = omega (arith, ap length (header-shown 0 ts ls shown), comments-count (A.bodyOf (linesOf text) .header), comments-few ts ls shown, row-size text count w first r)
 
     pub trailing-few : length (L.flat textWords (trailing (rows count w))) ≤ 2 * count
-    trailing-few = omega (arith, trailing-two, comments-few ts ls shown, row-size text count w first r)
+    trailing-few = omega (arith, ap length (trailing-shown 0 ts ls shown), comments-count (A.bodyOf (linesOf text) .trailing), comments-few ts ls shown, row-size text count w first r)
 
   -- ---- what its entries say
   module _ (said : AllMean (Said text (rows count w)) (rows count w) (entries (rows count w)) (linesOf text)) where
@@ -113,18 +96,6 @@ module _ (text : List ℕ) (count : ℕ) (w first : List ℕ) (r : Ready text co
     pub blank-is : blankAt (rows count w) (getD first 8 0) ≡ I.machineOf (linesOf text) .blank
     unfolding headIn headAt L.headOf
     blank-is = ap (λ (h : L.Head). h .blank) (head-is (spanOf (L.headOf (I.machineOf ls) .start)) (countsOf (L.headOf (I.machineOf ls) .counts)) (λ z. refl) refl)
-
--- ---- the first state
-abbrev placed : D.Span → Place
-placed p = record { start = p .start; end = p .end }
-
-first-place : (final known : Located Place (List ℕ) → Bool) (names : List (Located Place (List ℕ))) (rest : List ℕ)
-    → let ws = L.flat L.stateWords (I.marked final known names) in placed (firstState (ws ++ rest) 0 (length ws)) ≡ L.placeOrNone (I.head names)
-unfolding I.marked I.head L.flat L.stateWords L.placeOrNone firstState
-first-place final known [] rest = refl
-first-place final known (q ∷ qs) rest =
-    let ws : List ℕ = L.flat L.stateWords (I.marked final known (q ∷ qs)) in
-    ap placed (sym (first-there (ws ++ rest) 0 (length ws) (q .place .start) (q .place .end) (omega arith) refl refl))
 
 -- ---- all of it
 module _ (text : List ℕ) (count : ℕ) (w first : List ℕ) (r : Ready text count w first) (t : Tied text count w first) where
@@ -182,61 +153,34 @@ module _ (text : List ℕ) (count : ℕ) (w first : List ℕ) (r : Ready text co
       omega (arith, rules-words text count w first r (t .shown) b, length-append (joined s) (rules b (rows count w)), ap length sheet-is, read-sheet-length (decode text))
 
   -- the head
-  module _ (sheet rest : List ℕ) (e : sheet ≡ L.sheetWords m ++ rest) where
-    -- what stands behind the states
-    others : List ℕ
-    unfolding L.flat L.symbolWords L.ruleWords
-    others =
-        L.flat L.symbolWords (m .sigma) ++ (L.flat L.symbolWords (m .gamma) ++ (L.flat L.placeWords (m .finals) ++ (L.flat L.locatedWords (m .header) ++ (L.flat L.locatedWords (m .trailing) ++ L.flat L.ruleWords (m .rules)))))
-
-    states-first : sheet ≡ L.flat L.stateWords (m .states) ++ (others ++ rest)
-    unfolding L.sheetWords others
-    states-first = e ∙ append-assoc (L.flat L.stateWords (m .states)) others rest
-
-    start-is : A.first (λ p. p .start) (A.items (linesOf text)) ≡ none → placed (firstState sheet 0 (length (s .states))) ≡ L.headOf m .start
-    unfolding L.headOf I.machineOf A.found A.ofOption
+  module _ (o : List ℕ) (room : length (L.sheetWords m) ≤ length o) where
+    start-is : A.first (λ p. p .start) (A.items (linesOf text)) ≡ none → placeFrom (firstState (sets o 0 (L.sheetWords m)) 0 (length (s .states))) ≡ L.headOf m .start
+    unfolding L.headOf L.sheetWords
     start-is z =
-        let is : List (Located Place (Item Place)) = A.items (linesOf text) in
-        let fs : List (Located Place (List ℕ)) = I.fresh I.sameName I.nothing (A.finalsIn is) in
-        let names : List (Located Place (List ℕ)) = A.orElse (A.statesIn is) (I.inferStates (A.found (A.first (λ p. p .start) is)) (m .rules) fs) in
-        let f : Located Place (List ℕ) → Bool = I.member I.sameName fs in
-        ap (λ (o : List ℕ). placed (firstState o 0 (length (s .states)))) states-first
-        ∙ ap (λ (l : List ℕ). placed (firstState (L.flat L.stateWords (m .states) ++ (others ++ rest)) 0 (length l))) states-are
-        ∙ first-place f I.nothing names (others ++ rest)
-        ∙ ap (λ (o : Option (Located Place (Located Place (List ℕ)))). L.placeOrNone (I.head (A.ofOption (A.found o) ++ names))) (sym z)
+        let whole : 0 + length (L.sheetWords m) ≤ length o = omega (arith, room) in
+        let n : length (s .states) ≡ 0 + length (L.flat L.stateWords (m .states)) = omega (arith, ap length states-are) in
+        ap (λ (n : ℕ). placeFrom (firstState (sets o 0 (L.sheetWords m)) 0 n)) n ∙ first-state (linesOf text) o _ 0 z whole
 
-    pub head-of-sheet : (p : Span) (n : Counts) → p ≡ record { start = firstState sheet 0 (length (s .states)) .start; end = firstState sheet 0 (length (s .states)) .end }
+    pub head-of-sheet : (p : Span) (n : Counts)
+        → p ≡ record { start = firstState (sets o 0 (L.sheetWords m)) 0 (length (s .states)) .start; end = firstState (sets o 0 (L.sheetWords m)) 0 (length (s .states)) .end }
         → countsIn n ≡ L.headOf m .counts → headIn (headAt (rows count w) first p n) ≡ L.headOf m
     head-of-sheet p n q c = head-is text count w first r (t .said) p n (λ z. ap spanIn q ∙ start-is z) c
 
   -- the counts
   pub states-three : length (s .states) ≡ 3 * length (m .states)
-  unfolding L.stateWords
-  states-three =
-      let n : length (m .states) * 3 ≡ 3 * length (m .states) = omega arith in
-      ap length states-are ∙ flat-length L.stateWords 3 (m .states) (every-any _ (λ q. refl) (m .states)) ∙ n
+  states-three = omega (arith, ap length states-are, states-count (m .states))
 
   pub sigma-three : length (s .sigma) ≡ 3 * length (m .sigma)
-  sigma-three =
-      let n : length (m .sigma) * 3 ≡ 3 * length (m .sigma) = omega arith in
-      ap length sigma-are ∙ flat-length L.symbolWords 3 (m .sigma) (every-any _ symbol-length (m .sigma)) ∙ n
+  sigma-three = omega (arith, ap length sigma-are, symbols-count (m .sigma))
 
   pub gamma-three : length (s .gamma) ≡ 3 * length (m .gamma)
-  gamma-three =
-      let n : length (m .gamma) * 3 ≡ 3 * length (m .gamma) = omega arith in
-      ap length gamma-are ∙ flat-length L.symbolWords 3 (m .gamma) (every-any _ symbol-length (m .gamma)) ∙ n
+  gamma-three = omega (arith, ap length gamma-are, symbols-count (m .gamma))
 
   pub finals-two : length (s .finals) ≡ 2 * length (m .finals)
-  finals-two =
-      let n : length (m .finals) * 2 ≡ 2 * length (m .finals) = omega arith in
-      ap length finals-are ∙ flat-length L.placeWords 2 (m .finals) (every-any _ (λ q. refl) (m .finals)) ∙ n
+  finals-two = omega (arith, ap length finals-are, places-count (m .finals))
 
-  pub header-two-words : length (s .header) ≡ 2 * length (m .header)
-  header-two-words =
-      let n : length (m .header) * 2 ≡ 2 * length (m .header) = omega arith in
-      ap length header-are ∙ flat-length L.locatedWords 2 (m .header) (every-any _ (λ q. refl) (m .header)) ∙ n
+  pub header-two : length (s .header) ≡ 2 * length (m .header)
+  header-two = omega (arith, ap length header-are, comments-count (m .header))
 
-  pub trailing-two-words : length (s .trailing) ≡ 2 * length (m .trailing)
-  trailing-two-words =
-      let n : length (m .trailing) * 2 ≡ 2 * length (m .trailing) = omega arith in
-      ap length trailing-are ∙ flat-length L.locatedWords 2 (m .trailing) (every-any _ (λ q. refl) (m .trailing)) ∙ n
+  pub trailing-two : length (s .trailing) ≡ 2 * length (m .trailing)
+  trailing-two = omega (arith, ap length trailing-are, comments-count (m .trailing))

@@ -1,8 +1,7 @@
 -- What the lines of a row and its sections are in the language's terms, for every text without diagnostics.
 use mathlib.Core.Path.{_≡_, refl, sym, ap, subst, _∙_}
-use mathlib.Core.Bool.{Bool, true, false}
-use mathlib.Core.List.{List, [], _∷_, _++_, map}
-use Prim.Native.Nat.{ℕ, _+_, _*_, _≤_, _<_, _^_}
+use mathlib.Core.List.{List, map}
+use Prim.Native.Nat.{ℕ, _+_, _≤_}
 use native.Mathlib.Omega.{arith}
 use lib.ListN.{length, getD, length-map}
 use Rattle.chars.specs.Utf8.{decode}
@@ -11,35 +10,22 @@ use Rattle.lexer.specs.Tokens.{tokens}
 use Rattle.lexer.proofs.Writes.{tokens-of-bytes}
 use Rattle.lexer.proofs.Placed.{placed}
 use Rattle.tokens.specs.declared.Token.{Token}
-use Rattle.parser.specs.Row.{peek}
-use Rattle.parser.specs.Views.{isState}
 use Rattle.parser.specs.Meaning.{tokenOf}
 use Rattle.parser.proofs.Lexed.{tokens-lexed}
-use Rattle.language.specs.Machine.{Located}
 use Rattle.language.specs.Lines.{Item, Line, lines, covering, readLines}
-use Rattle.language.specs.Assembly as A
 use Rattle.language.specs.Infer as I
 use Rattle.language.specs.Layout as L
-use Rattle.language.proofs.Every.{Every}
-use Rattle.language.proofs.Counts.{Chosen}
-use Rattle.language.proofs.ReadCounts.{read-chosen}
-use Rattle.diag.proofs.Cases.{by-test}
 use Rattle.assembler.specs.Rows.{rows}
-use Rattle.assembler.specs.Names.{isWord}
 use Rattle.assembler.specs.Entries.{Entry, entries}
-use Rattle.assembler.specs.Entered.{entered}
 use Rattle.assembler.specs.Declarations.{undeclared, declarations}
 use Rattle.assembler.proofs.Means.{AllMean}
-use Rattle.assembler.proofs.MarkLaws.{first-low}
 use Rattle.assembler.proofs.AssembledLaws.{length-entered}
 use Rattle.shown.proofs.Shows.{Mentions, Said, Shown}
-use Rattle.shown.proofs.TextShown.{text-shown, text-said}
+use Rattle.shown.proofs.TextShown.{text-shown, text-said, no-rule-errors}
 use Rattle.infer.specs.States.{Scratch, stateSection, finalSection}
+use Rattle.infer.specs.Symbols.{blankOf}
 use Rattle.infer.specs.Alphabets.{gammaCodes, sigmaWords, gammaWords}
-use Rattle.inferred.proofs.Firsts.{input-at}
-use Rattle.inferred.proofs.StatesInferred.{finals-inferred, states-inferred}
-use Rattle.inferred.proofs.AlphabetsInferred.{gamma-inferred, sigma-inferred}
-use Rattle.inferred.proofs.InputInferred.{input-inferred}
+use Rattle.inferred.proofs.OfText.{scratch-of-text, states-of-text, finals-of-text, sigma-of-text, gamma-of-text, blank-of-text}
 use Rattle.answered.specs.Ready.{linesOf, Ready}
 
 -- the lines of the row, its entries, and the sections of the inference
@@ -50,16 +36,6 @@ pub record Tied (text : List ℕ) (count : ℕ) (w first : List ℕ) : Type 0 wh
   pub sigma : let b = I.machineOf (linesOf text) .blank in sigmaWords b (rows count w) first (gammaCodes text b (rows count w) first) ≡ L.flat L.symbolWords (I.machineOf (linesOf text) .sigma)
   pub gamma : let b = I.machineOf (linesOf text) .blank in gammaWords b (rows count w) first (gammaCodes text b (rows count w) first) ≡ L.flat L.symbolWords (I.machineOf (linesOf text) .gamma)
   pub finals : finalSection (rows count w) (getD first 10 0) ≡ L.flat L.placeWords (I.machineOf (linesOf text) .finals)
-
--- a list at the end of one that is empty
-none-last : {X : Type 0} (a b : List X) → a ++ b ≡ [] → b ≡ []
-none-last [] b e = e
-none-last (x ∷ a) b e = absurd (let z : _≡_ {A = ℕ} 0 1 = cc in omega arith)
-
--- a state is a word
-state-word : (t : Token) → isState t ≡ true → isWord t ≡ true
-unfolding isState
-state-word t h = by-test (isWord t) (λ y. y) (λ n. let z : false ≡ true = rw n at h in cc)
 
 module _ (text : List ℕ) (count : ℕ) (w first : List ℕ) (r : Ready text count w first) where
   abbrev ts : List Token
@@ -76,28 +52,10 @@ module _ (text : List ℕ) (count : ℕ) (w first : List ℕ) (r : Ready text co
   few = omega (arith, r .many, tokens-of-bytes text)
 
   pub scratch : Scratch (length text + 1) count w
-  scratch = record {
-    few = few;
-    room = omega (arith, r .room);
-    low = λ x h s.
-        let word : isWord (peek (rows count w) x) ≡ true = state-word (peek (rows count w) x) s in
-        let here : x < length (rows count w) = omega (arith, row-size) in
-        omega (arith, r .names .interned x here word, first-low text (rows count w) x here word, row-size, few);
-  }
+  scratch = scratch-of-text text count w few (r .room) (r .names)
 
   pub table : first ≡ declarations (length (rows count w)) undeclared (entries (rows count w))
   table = r .declared ∙ ap (λ (n : ℕ). declarations n undeclared (entries (rows count w))) (sym row-size)
-
-  -- ---- rules
-  pub no-rule-errors : A.ruleErrors 0 false (A.bodyOf (linesOf text) .rules) ≡ []
-  unfolding A.diagnosticsOf
-  no-rule-errors =
-      let is : List (Located Place (Item Place)) = A.items (linesOf text) in
-      let a : List (A.Diagnostic Place) = A.lineErrors (linesOf text) in
-      let b : List (A.Diagnostic Place) = A.declarationErrors [] is in
-      let c : List (A.Diagnostic Place) = A.finalErrors (A.statesIn is) [] (A.finalsIn is) in
-      let d : List (A.Diagnostic Place) = A.ruleErrors 0 false (A.bodyOf (linesOf text) .rules) in
-      none-last c d (none-last b (c ++ d) (none-last a (b ++ (c ++ d)) (r .none-found)))
 
   -- ---- the lines
   said : AllMean (Said text (rows count w)) (rows count w) (entries (rows count w)) (linesOf text)
@@ -109,11 +67,7 @@ module _ (text : List ℕ) (count : ℕ) (w first : List ℕ) (r : Ready text co
   unfolding readLines
   shown =
       subst (λ (ts : List Token). Shown text ts 0 (lines covering (tokens (decode text)))) (sym (r .row))
-      (text-shown text (tokens (decode text)) (tokens-lexed text) (placed text) (omega (arith, r .short)) no-rule-errors)
-
-  chosen : Every Chosen (A.bodyOf (linesOf text) .rules)
-  unfolding readLines
-  chosen = read-chosen covering (tokens (decode text))
+      (text-shown text (tokens (decode text)) (tokens-lexed text) (placed text) (omega (arith, r .short)) (no-rule-errors (lines covering (tokens (decode text))) (r .none-found)))
 
   says : (e : Entry) (i : Item Place) → Said text (rows count w) e i → Mentions text (rows count w) (e .at) i
   says e i x = x .0
@@ -122,20 +76,23 @@ module _ (text : List ℕ) (count : ℕ) (w first : List ℕ) (r : Ready text co
   small = omega (arith, row-size, few, r .short)
 
   pub ties : Tied text count w first
-  unfolding I.machineOf
   ties =
       let X : Entry → Item Place → Type 0 = Said text (rows count w) in
       let ts : List Token = rows count w in
-      let b : ℕ = I.machineOf (linesOf text) .blank in
       let firsts : List ℕ = declarations (length ts) undeclared (entries ts) in
-      let same = input-inferred text ts (getD firsts 2 0) (input-at text X ts says small (linesOf text) said) in
+      let b : ℕ = I.machineOf (linesOf text) .blank in
+      let blank : blankOf ts (getD firsts 8 0) ≡ I.machineOf (linesOf text) .blank = blank-of-text text X ts says small said (r .none-found) in
       record {
         shown = shown;
         said = said;
         states =
             ap (λ (f : List ℕ). stateSection (length text + 1) ts f w) table
-            ∙ states-inferred text X ts says small (linesOf text) said (r .none-found) chosen (length text + 1) count w refl (r .names) few (omega (arith, r .room)) (omega (arith, few, r .short));
-        sigma = ap (λ (f : List ℕ). sigmaWords b ts f (gammaCodes text b ts f)) table ∙ sigma-inferred text X ts says small (linesOf text) said (r .none-found) chosen same;
-        gamma = ap (λ (f : List ℕ). gammaWords b ts f (gammaCodes text b ts f)) table ∙ gamma-inferred text X ts says small (linesOf text) said (r .none-found) chosen same;
-        finals = ap (λ (f : List ℕ). finalSection ts (getD f 10 0)) table ∙ finals-inferred text X ts says small (linesOf text) said (r .none-found) chosen;
+            ∙ states-of-text text X ts says small said (r .none-found) (length text + 1) count w refl (r .names) few (omega (arith, r .room)) (omega (arith, few, r .short));
+        sigma =
+            ap (λ (f : List ℕ). sigmaWords b ts f (gammaCodes text b ts f)) table ∙ ap (λ (b : ℕ). sigmaWords b ts firsts (gammaCodes text b ts firsts)) (sym blank)
+            ∙ sigma-of-text text X ts says small said (r .none-found);
+        gamma =
+            ap (λ (f : List ℕ). gammaWords b ts f (gammaCodes text b ts f)) table ∙ ap (λ (b : ℕ). gammaWords b ts firsts (gammaCodes text b ts firsts)) (sym blank)
+            ∙ gamma-of-text text X ts says small said (r .none-found);
+        finals = ap (λ (f : List ℕ). finalSection ts (getD f 10 0)) table ∙ finals-of-text text X ts says small said (r .none-found);
       }

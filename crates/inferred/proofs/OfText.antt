@@ -1,7 +1,6 @@
 -- For the row of a text without diagnostics: what the calls of the inference ask of work holds, and the sections that they store are those of the language's machine.
-use mathlib.Core.Path.{_≡_, refl, sym, ap, subst, _∙_}
-use mathlib.Core.Bool.{true}
-use mathlib.Core.List.{List, [], _∷_, _++_}
+use mathlib.Core.Path.{_≡_, refl, ap, _∙_}
+use mathlib.Core.List.{List, [], _∷_}
 use mathlib.Core.Option.{Option, none, some}
 use Prim.Native.Nat.{ℕ, _+_, _*_, _≤_, _<_, _^_}
 use native.Mathlib.Omega.{arith}
@@ -9,12 +8,10 @@ use lib.ListN.{length, getD}
 use Rattle.chars.specs.Utf8.{decode}
 use Rattle.lexer.specs.declared.Span.{Span as Place}
 use Rattle.lexer.specs.Tokens.{tokens}
-use Rattle.lexer.proofs.Writes.{tokens-of-bytes}
 use Rattle.tokens.specs.declared.Token.{Token}
 use Rattle.parser.specs.Row.{peek}
-use Rattle.parser.specs.Views.{isState}
-use Rattle.language.specs.Machine.{State, Symbol, Machine}
-use Rattle.language.specs.Lines.{Item, Line, lines, covering, readLines}
+use Rattle.language.specs.Machine.{State, Symbol}
+use Rattle.language.specs.Lines.{Item, Line, covering, readLines}
 use Rattle.language.specs.Assembly as A
 use Rattle.language.specs.Infer as I
 use Rattle.language.specs.Layout as L
@@ -23,10 +20,8 @@ use Rattle.language.proofs.Counts.{Chosen, flat-length}
 use Rattle.language.proofs.ReadCounts.{read-chosen}
 use Rattle.assembler.specs.Rows.{rows}
 use Rattle.assembler.specs.Entries.{Entry, entries}
-use Rattle.assembler.specs.declared.Assembled.{Assembled}
-use Rattle.assembler.specs.Declarations.{undeclared, declarations}
+use Rattle.assembler.specs.Declarations.{undeclared}
 use Rattle.assembler.specs.Finals.{Interned}
-use Rattle.assembler.specs.Assembled.{Tokenized, Outcome}
 use Rattle.assembler.proofs.Rows.{length-rows}
 use Rattle.assembler.proofs.Means.{AllMean}
 use Rattle.assembler.proofs.MarkLaws.{first-low}
@@ -34,8 +29,7 @@ use Rattle.infer.specs.States.{Scratch, stateSection, finalSection}
 use Rattle.infer.specs.Codes.{Room}
 use Rattle.infer.specs.Symbols.{blankOf}
 use Rattle.infer.specs.Alphabets.{candidates, gammaCodes, gammaWords, sigmaWords}
-use Rattle.shown.proofs.Shows.{Mentions, Said}
-use Rattle.shown.proofs.TextShown.{outcome-said}
+use Rattle.shown.proofs.Shows.{Mentions}
 use Rattle.inferred.proofs.NameMarks.{state-word}
 use Rattle.inferred.proofs.Firsts.{firsts, input-at}
 use Rattle.inferred.proofs.StatesInferred.{finals-inferred, states-inferred}
@@ -113,64 +107,3 @@ symbols-count l = flat-length L.symbolWords 3 l (every-any _ (λ s. three s (s .
 
 pub places-count : (l : List Place) → length (L.flat L.placeWords l) ≡ length l * 2
 places-count l = flat-length L.placeWords 2 l (every-any _ (λ p. refl) l)
-
--- ---- after assembly
-module _ (text : List ℕ) (count : ℕ) (w₀ w log₀ log : List ℕ) (r : Assembled) (p : Tokenized text count w₀) (o : Outcome text count w₀ w log₀ log r) where
-  narrow : count ≤ length text + 1
-  narrow = omega (arith, p .many, tokens-of-bytes text)
-
-  roomy : 6 * length text + 6 ≤ length w
-  roomy = omega (arith, p .room, o .entered .size)
-
-  long : length (rows count w) ≡ count
-  long = length-rows count w (omega (arith, narrow, roomy))
-
-  few-tokens : length (rows count w) ≤ 0xffffffff
-  few-tokens = omega (arith, long, narrow, p .short)
-
-  mentions : (e : Entry) (i : Item Place) → Said text (rows count w) e i → Mentions text (rows count w) (e .at) i
-  mentions e i s = s .0
-
-  same-first : declarations (length (rows count w)) undeclared (entries (rows count w)) ≡ r .first
-  same-first = ap (λ (n : ℕ). declarations n undeclared (entries (rows count w))) long ∙ sym (o .first)
-
-  -- what the section of states asks
-  pub outcome-scratch : Scratch (length text + 1) count w
-  outcome-scratch = scratch-of-text text count w narrow roomy (o .entered .names)
-
-  module _ (fine : A.diagnosticsOf (readLines (decode text)) ≡ []) where
-    abbrev machine : Machine Place
-    machine = I.machineOf (readLines (decode text))
-
-    said : AllMean (Said text (rows count w)) (rows count w) (entries (rows count w)) (readLines (decode text))
-    said = outcome-said text count w₀ w log₀ log r p o
-
-    pub outcome-states : stateSection (length text + 1) (rows count w) (r .first) w ≡ L.flat L.stateWords (machine .states)
-    outcome-states = subst (λ (f : List ℕ). stateSection (length text + 1) (rows count w) f w ≡ L.flat L.stateWords (machine .states)) same-first
-        (states-of-text text (Said text (rows count w)) (rows count w) mentions few-tokens said fine (length text + 1) count w refl (o .entered .names) narrow (omega (arith, roomy)) (omega (arith, narrow, p .short)))
-
-    pub outcome-finals : finalSection (rows count w) (getD (r .first) 10 0) ≡ L.flat L.placeWords (machine .finals)
-    outcome-finals = subst (λ (f : List ℕ). finalSection (rows count w) (getD f 10 0) ≡ L.flat L.placeWords (machine .finals)) same-first
-        (finals-of-text text (Said text (rows count w)) (rows count w) mentions few-tokens said fine)
-
-    pub outcome-blank : blankOf (rows count w) (getD (r .first) 8 0) ≡ machine .blank
-    outcome-blank = subst (λ (f : List ℕ). blankOf (rows count w) (getD f 8 0) ≡ machine .blank) same-first
-        (blank-of-text text (Said text (rows count w)) (rows count w) mentions few-tokens said fine)
-
-    pub outcome-sigma : sigmaWords (machine .blank) (rows count w) (r .first) (gammaCodes text (machine .blank) (rows count w) (r .first)) ≡ L.flat L.symbolWords (machine .sigma)
-    outcome-sigma =
-        subst (λ (f : List ℕ). sigmaWords (machine .blank) (rows count w) f (gammaCodes text (machine .blank) (rows count w) f) ≡ L.flat L.symbolWords (machine .sigma)) same-first
-        (subst (λ (b : ℕ). sigmaWords b (rows count w) first′ (gammaCodes text b (rows count w) first′) ≡ L.flat L.symbolWords (machine .sigma)) (blank-of-text text (Said text (rows count w)) (rows count w) mentions few-tokens said fine)
-        (sigma-of-text text (Said text (rows count w)) (rows count w) mentions few-tokens said fine))
-      where
-        first′ : List ℕ
-        first′ = declarations (length (rows count w)) undeclared (entries (rows count w))
-
-    pub outcome-gamma : gammaWords (machine .blank) (rows count w) (r .first) (gammaCodes text (machine .blank) (rows count w) (r .first)) ≡ L.flat L.symbolWords (machine .gamma)
-    outcome-gamma =
-        subst (λ (f : List ℕ). gammaWords (machine .blank) (rows count w) f (gammaCodes text (machine .blank) (rows count w) f) ≡ L.flat L.symbolWords (machine .gamma)) same-first
-        (subst (λ (b : ℕ). gammaWords b (rows count w) first′ (gammaCodes text b (rows count w) first′) ≡ L.flat L.symbolWords (machine .gamma)) (blank-of-text text (Said text (rows count w)) (rows count w) mentions few-tokens said fine)
-        (gamma-of-text text (Said text (rows count w)) (rows count w) mentions few-tokens said fine))
-      where
-        first′ : List ℕ
-        first′ = declarations (length (rows count w)) undeclared (entries (rows count w))

@@ -1,9 +1,9 @@
 -- A reading call stage by stage: what each asks of those before it, and what it answers.
-use mathlib.Core.Path.{_≡_, refl, sym, ap, subst, _∙_}
-use mathlib.Core.Bool.{Bool, true, false, false≢true}
-use mathlib.Core.List.{List, [], _∷_, _++_, map}
+use mathlib.Core.Path.{_≡_, refl, sym, ap, _∙_}
+use mathlib.Core.Bool.{true, false, false≢true}
+use mathlib.Core.List.{List, [], _∷_, map}
 use mathlib.Core.Option.{Option, none, some}
-use Prim.Native.Nat.{ℕ, zero, suc, _+_, _*_, _/_, _≤_, _<_}
+use Prim.Native.Nat.{ℕ, _+_, _*_, _/_, _≤_, _<_}
 use native.Mathlib.Omega.{arith}
 use borrow.Author.Tests.{ltb-true, ltb-false}
 use lib.Dec.{ltb}
@@ -19,7 +19,7 @@ use Rattle.parser.specs.Meaning.{tokenOf}
 use Rattle.parser.proofs.Lines.{tokens-flat}
 use Rattle.language.specs.Lines.{Line}
 use Rattle.language.specs.Assembly as A
-use Rattle.language.specs.Outcome.{Refusal, textTooLong, workTooShort, invalidUtf8, outsideSet, logTooShort, sheetTooShort, outputTooShort, leavesWork, Reply, machine, diagnosed, refused, replyNumber, refusalOf, zeros, wordsNeeded, ReadOutcome, readMachine, readOutcome}
+use Rattle.language.specs.Outcome.{Refusal, textTooLong, workTooShort, invalidUtf8, outsideSet, logTooShort, sheetTooShort, outputTooShort, Reply, machine, diagnosed, refused, replyNumber, refusalOf, zeros, wordsNeeded, ReadOutcome, readMachine, readOutcome}
 use Rattle.diag.specs.declared.Diagnostic.{Diagnostic}
 use Rattle.diag.specs.Log as D
 use Rattle.diag.proofs.Appended.{append-all-length}
@@ -109,9 +109,6 @@ module _ (t w : List ℕ) (a : refusalOf t (length w) ≡ none) where
         }
 
     module _ (L S log₁ w₂ log₂ : List ℕ) (r : Assembled) (z : log₁ ≡ replicate (length L) 0) (o : Outcome t count w₁ w₂ log₁ log₂ r) where
-      ds : List (A.Diagnostic Span)
-      ds = A.diagnosticsOf (linesOf t)
-
       long : length log₂ ≡ length L
       long = ap (λ (l : D.Log). length (l .row)) (o .written) ∙ append-all-length (D.logged log₁ 0) (recordsOf (A.diagnosticsOf (linesOf t))) ∙ ap length z ∙ length-replicate (length L) 0
 

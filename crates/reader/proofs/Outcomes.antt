@@ -1,20 +1,15 @@
 -- A reading call stage by stage: what the definition answers once a stage is decided.
 use mathlib.Core.Path.{_≡_, refl, sym, ap, _∙_}
-use mathlib.Core.Bool.{Bool, true, false}
 use mathlib.Core.List.{List, [], _∷_}
-use mathlib.Core.Option.{Option, none, some}
-use Prim.Native.Nat.{ℕ, _+_, _≤_, _<_}
+use mathlib.Core.Option.{none, some}
+use Prim.Native.Nat.{ℕ, _+_}
 use native.Mathlib.Omega.{arith}
-use borrow.Author.Tests.{lt-ltb, le-ltb}
-use lib.Dec.{ltb}
 use lib.ListN.{length}
 use Rattle.chars.specs.Utf8.{decode}
 use Rattle.lexer.specs.declared.Span.{Span}
 use Rattle.language.specs.Lines.{Line, readLines}
 use Rattle.language.specs.Assembly as A
-use Rattle.language.specs.Infer.{machineOf}
-use Rattle.language.specs.Layout.{headOf, sheetWords}
-use Rattle.language.specs.Outcome.{Refusal, sheetTooShort, refusalOf, zeros, filled, Reply, machine, refused, ReadOutcome, readDiagnostics, wordsNeeded, readMachine, readWith, readOutcome}
+use Rattle.language.specs.Outcome.{Refusal, refusalOf, zeros, machine, refused, ReadOutcome, readDiagnostics, readMachine, readWith, readOutcome}
 use Rattle.diag.specs.Log as D
 use Rattle.assembler.specs.Records.{recordsOf}
 use Rattle.reader.specs.Reading.{reportReply}
@@ -54,15 +49,3 @@ module _ (t : List ℕ) (work : ℕ) (log sheet : List ℕ) where
       pub machine-outcome : readOutcome t work log sheet ≡ readMachine (linesOf t) (length log) (length sheet)
       unfolding A.diagnostics A.sort readWith
       machine-outcome = admitted-outcome ∙ ap (λ (x : List (A.Diagnostic Span)). readWith (A.sort x) (linesOf t) (length log) (length sheet)) none-found
-
-      -- row 6
-      pub short-outcome : length sheet < wordsNeeded (linesOf t)
-          → _≡_ {A = ReadOutcome} (record { reply = refused (sheetTooShort (wordsNeeded (linesOf t))); log = zeros (length log); sheet = zeros (length sheet) }) (readOutcome t work log sheet)
-      unfolding readMachine
-      short-outcome h = rw (machine-outcome, readMachine, lt-ltb (length sheet) (wordsNeeded (linesOf t)) h)
-
-      -- the machine
-      pub written-outcome : wordsNeeded (linesOf t) ≤ length sheet
-          → _≡_ {A = ReadOutcome} (record { reply = machine (headOf (machineOf (linesOf t))); log = zeros (length log); sheet = filled (sheetWords (machineOf (linesOf t))) (length sheet) }) (readOutcome t work log sheet)
-      unfolding readMachine
-      written-outcome h = rw (machine-outcome, readMachine, le-ltb (length sheet) (wordsNeeded (linesOf t)) h)

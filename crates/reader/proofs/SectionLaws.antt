@@ -19,7 +19,7 @@ use Rattle.infer.proofs.Pages.{kept-rows}
 use Rattle.inferred.proofs.CodesFit.{codes-fit}
 use Rattle.answered.specs.Ready.{Ready}
 use Rattle.answered.specs.Sections.{Sections, sectionsOf, joined}
-use Rattle.answered.proofs.Sizes.{states-few, finals-few, sigma-few, gamma-few}
+use Rattle.infer.proofs.Widths.{states-width, finals-width, sigma-width, gamma-width}
 use Rattle.answered.proofs.Ties.{few, row-size, scratch, ties}
 use Rattle.answered.proofs.Sheets as T
 use Rattle.reader.specs.Sheet.{endsOf, Written}
@@ -83,7 +83,7 @@ module _ (text : List ℕ) (count : ℕ) (w first : List ℕ) (r : Ready text co
         cs = gammaCodes text b (rows count w) first
 
         states-low : q ≤ 9 * count + 3
-        states-low = omega (arith, s₁ .behind, states-few size ts first w, row-size text count w first r)
+        states-low = omega (arith, s₁ .behind, states-width size ts first w, row-size text count w first r)
 
         pub sigma-low : q < 2 ^ 62
         sigma-low = omega (arith, states-low, few text count w first r, r .short)
@@ -95,7 +95,7 @@ module _ (text : List ℕ) (count : ℕ) (w first : List ℕ) (r : Ready text co
               (subst (λ (ts : List Token). Stored (sigmaWords b ts first (held (4 * (length text + 1)) n w₂)) o₁ q o₂ a) row₂ s₂)
 
           end₂ : a ≤ 18 * (length text + 1) + 3
-          end₂ = omega (arith, states-low, sigma₂ .behind, sigma-few b ts first cs, row-size text count w first r, few text count w first r, code-count text count w first r b)
+          end₂ = omega (arith, states-low, sigma₂ .behind, sigma-width b ts first cs, row-size text count w first r, few text count w first r, code-count text count w first r b)
 
           pub gamma-low : a < 2 ^ 62
           gamma-low = omega (arith, end₂, r .short)
@@ -107,7 +107,7 @@ module _ (text : List ℕ) (count : ℕ) (w first : List ℕ) (r : Ready text co
                 (subst (λ (ts : List Token). Stored (gammaWords b ts first (held (4 * (length text + 1)) n w₂)) o₂ a o₃ g) row₂ s₃)
 
             end₃ : g ≤ 27 * (length text + 1) + 6
-            end₃ = omega (arith, end₂, gamma₃ .behind, gamma-few b ts first cs, row-size text count w first r, few text count w first r, code-count text count w first r b)
+            end₃ = omega (arith, end₂, gamma₃ .behind, gamma-width b ts first cs, row-size text count w first r, few text count w first r, code-count text count w first r b)
 
             pub finals-room : g + 2 * count < 2 ^ 64
             finals-room = omega (arith, end₃, few text count w first r, r .short)
@@ -118,7 +118,7 @@ module _ (text : List ℕ) (count : ℕ) (w first : List ℕ) (r : Ready text co
                   subst (λ (d : ℕ). Stored (finalSection (rows count w) d) o₃ g o₄ f) there (subst (λ (ts : List Token). Stored (finalSection ts d) o₃ g o₄ f) row₂ s₄)
 
               end₄ : f ≤ 30 * (length text + 1) + 6
-              end₄ = omega (arith, end₃, finals₄ .behind, finals-few ts (getD first 10 0), row-size text count w first r, few text count w first r)
+              end₄ = omega (arith, end₃, finals₄ .behind, finals-width ts (getD first 10 0), row-size text count w first r, few text count w first r)
 
               header-few : length (L.flat textWords (header (rows count w₂))) ≤ 2 * count
               header-few = omega (arith, ap (λ (ts : List Token). length (L.flat textWords (header ts))) row₂, T.header-few text count w first r (ties text count w first r .shown))

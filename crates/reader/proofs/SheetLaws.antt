@@ -28,7 +28,7 @@ use Rattle.head.specs.Meaning.{countsIn, headIn}
 use Rattle.head.specs.Heads.{blankAt, headAt}
 use Rattle.answered.specs.Ready.{linesOf, Ready}
 use Rattle.answered.specs.Sections.{Sections, sectionsOf, joined}
-use Rattle.answered.proofs.Sizes.{states-few, finals-few, sigma-few, gamma-few}
+use Rattle.infer.proofs.Widths.{states-width, finals-width, sigma-width, gamma-width}
 use Rattle.answered.proofs.Ties.{few, row-size, ties}
 use Rattle.answered.proofs.Sheets as T
 use Rattle.reader.specs.declared.sections.Ends.{Ends}
@@ -124,10 +124,10 @@ module _ (text : List ℕ) (count : ℕ) (w first : List ℕ) (r : Ready text co
         omega (
           arith,
           joined-length,
-          states-few size (rows count w) first w,
-          sigma-few b (rows count w) first cs,
-          gamma-few b (rows count w) first cs,
-          finals-few (rows count w) (getD first 10 0),
+          states-width size (rows count w) first w,
+          sigma-width b (rows count w) first cs,
+          gamma-width b (rows count w) first cs,
+          finals-width (rows count w) (getD first 10 0),
           T.header-few text count w first r (ties text count w first r .shown),
           T.trailing-few text count w first r (ties text count w first r .shown),
           code-count text count w first r b,
@@ -200,12 +200,18 @@ module _ (text : List ℕ) (count : ℕ) (w first : List ℕ) (r : Ready text co
       room-is : wordsNeeded (linesOf text) ≤ length o
       room-is = omega (arith, needed n n-is, fits, same-length)
 
-      pub sheet-filled : o₂ ≡ filled (L.sheetWords (machineOf (linesOf text))) (length o)
-      sheet-filled =
+      sheet-set : o₂ ≡ sets o 0 (L.sheetWords (machineOf (linesOf text)))
+      sheet-set =
           let R : List ℕ = rules b (rows count w) in
           let at : e .trailing ≡ 0 + length (joined s) = omega (arith, end-is) in
           stored .words ∙ ap (λ (ts : List Token). sets o₁ (e .trailing) (rules b ts)) row ∙ ap (λ (i : ℕ). sets o₁ i R) at ∙ ap (λ (l : List ℕ). sets l (0 + length (joined s)) R) (m .words)
-          ∙ sym (sets-append o 0 (joined s) R) ∙ ap (sets o 0) words-are ∙ ap (λ (l : List ℕ). sets l 0 (L.sheetWords made)) zero ∙ front (length o) (L.sheetWords made) (omega (arith, words-needed, room-is))
+          ∙ sym (sets-append o 0 (joined s) R) ∙ ap (sets o 0) words-are
+
+      words-low : length (L.sheetWords (machineOf (linesOf text))) ≤ length o
+      words-low = omega (arith, words-needed, room-is)
+
+      sheet-filled : o₂ ≡ filled (L.sheetWords (machineOf (linesOf text))) (length o)
+      sheet-filled = sheet-set ∙ ap (λ (l : List ℕ). sets l 0 (L.sheetWords made)) zero ∙ front (length o) (L.sheetWords made) words-low
 
       -- the counts
       module _ (number : ℕ) (number-is : number ≡ length (machineOf (linesOf text) .rules)) where
@@ -223,9 +229,9 @@ module _ (text : List ℕ) (count : ℕ) (w first : List ℕ) (r : Ready text co
             let c₄ : (e .finals - e .gamma) / 2 ≡ length (made .finals) =
             omega (arith, ap (λ (e : Ends). e .gamma) E, ap (λ (e : Ends). e .finals) E, same (λ s. s .finals), T.finals-two text count w first r (ties text count w first r)) in
             let c₅ : (e .header - e .finals) / 2 ≡ length (made .header) =
-            omega (arith, ap (λ (e : Ends). e .finals) E, ap (λ (e : Ends). e .header) E, same (λ s. s .header), T.header-two-words text count w first r (ties text count w first r)) in
+            omega (arith, ap (λ (e : Ends). e .finals) E, ap (λ (e : Ends). e .header) E, same (λ s. s .header), T.header-two text count w first r (ties text count w first r)) in
             let c₆ : (e .trailing - e .header) / 2 ≡ length (made .trailing) =
-            omega (arith, ap (λ (e : Ends). e .header) E, ap (λ (e : Ends). e .trailing) E, same (λ s. s .trailing), T.trailing-two-words text count w first r (ties text count w first r)) in
+            omega (arith, ap (λ (e : Ends). e .header) E, ap (λ (e : Ends). e .trailing) E, same (λ s. s .trailing), T.trailing-two text count w first r (ties text count w first r)) in
             λ j. record { states = c₁ j; sigma = c₂ j; gamma = c₃ j; finals = c₄ j; header = c₅ j; trailing = c₆ j; rules = number-is j }
 
         -- the head, and the answer
@@ -235,8 +241,7 @@ module _ (text : List ℕ) (count : ℕ) (w first : List ℕ) (r : Ready text co
         whole w₂ row₂ p c h p-is c-is h-is l =
             let t : Sections = sectionsOf text (blankAt (rows count w) (getD first 8 0)) (rows count w) first w in
             let end : e .states ≡ length (t .states) = ap (λ (e : Ends). e .states) (m .ends) ∙ ap (λ (b : ℕ). length (sectionsOf text b (rows count w) first w .states)) blank in
-            let rest : List ℕ = zeros (length o - length (L.sheetWords made)) in
             let head : headIn h ≡ L.headOf made =
             ap headIn (h-is ∙ ap (λ (ts : List Token). headAt ts first p c) (row₂ ∙ row))
-            ∙ T.head-of-sheet text count w first r (ties text count w first r) o₂ rest sheet-filled p c (p-is ∙ ap (λ (i : ℕ). spanFrom (firstState o₂ 0 i)) end) (ap countsIn c-is ∙ counts-are) in
+            ∙ T.head-of-sheet text count w first r (ties text count w first r) o words-low p c (p-is ∙ ap (λ (i : ℕ). spanFrom (firstState o₂ 0 i)) end ∙ ap (λ (l : List ℕ). spanFrom (firstState l 0 (length (t .states)))) sheet-set) (ap countsIn c-is ∙ counts-are) in
             (λ j. record { reply = machine (head j); log = zeros l; sheet = sheet-filled j }) ∙ long-machine (linesOf text) l (length o) room-is

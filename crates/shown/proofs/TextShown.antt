@@ -1,5 +1,5 @@
 -- The row of a text, once assembled without a diagnostic, shows the language's lines: each line does, and no rule is dropped.
-use mathlib.Core.Path.{_≡_, refl, sym, ap, subst, _∙_}
+use mathlib.Core.Path.{_≡_, refl, subst}
 use mathlib.Core.Bool.{Bool, true, false, _&&_}
 use mathlib.Core.List.{List, [], _∷_, _++_, map}
 use mathlib.Core.Option.{Option}
@@ -7,38 +7,25 @@ use Prim.Native.Nat.{ℕ, _+_, _≤_, _<_, _^_}
 use native.Mathlib.Omega.{arith}
 use borrow.Author.Tests.{eqb-true, leb-true}
 use lib.Dec.{eqb, leb}
-use lib.ListN.{length, getD}
-use Rattle.chars.specs.Utf8.{decode}
+use lib.ListN.{length}
 use Rattle.lexer.specs.declared.Span.{Span as Place}
-use Rattle.lexer.specs.Tokens.{tokens}
-use Rattle.lexer.proofs.Writes.{tokens-of-bytes}
-use Rattle.lexer.proofs.Placed.{Placed, All, placed}
+use Rattle.lexer.proofs.Placed.{Placed, All}
 use Rattle.tokens.specs.declared.Token.{Token}
 use Rattle.parser.specs.Row.{peek}
 use Rattle.parser.specs.Lines.{line}
 use Rattle.parser.specs.Meaning.{tokenOf, AllLexed}
-use Rattle.parser.proofs.Lexed.{tokens-lexed}
 use Rattle.language.specs.Machine.{Located}
-use Rattle.language.specs.Lines.{RawTransition, Item, machineItem, inputItem, kindItem, outputItem, tapesItem, statesItem, finalItem, inputAlphabetItem, tapeAlphabetItem, blankItem, startItem, transitionItem, Line, blankLine, commentLine, itemLine, errorLine, lines, covering, readLines}
+use Rattle.language.specs.Lines.{RawTransition, Item, machineItem, inputItem, kindItem, outputItem, tapesItem, statesItem, finalItem, inputAlphabetItem, tapeAlphabetItem, blankItem, startItem, transitionItem, Line, blankLine, commentLine, itemLine, errorLine, lines, covering}
 use Rattle.language.specs.Assembly as A
-use Rattle.language.specs.Infer.{machineOf}
-use Rattle.language.specs.Layout as L
 use Rattle.language.proofs.Every.{Every, every-any}
 use Rattle.language.proofs.Counts.{kept-every}
-use Rattle.assembler.specs.declared.Assembled.{Assembled}
-use Rattle.assembler.specs.Rows.{rows}
-use Rattle.assembler.specs.Entries.{Entry, entryAt, behind, entries}
+use Rattle.assembler.specs.Entries.{entryAt, behind, entries}
 use Rattle.assembler.specs.Entered.{entered}
-use Rattle.assembler.specs.Declarations.{undeclared, declarations}
-use Rattle.assembler.specs.Assembled.{Tokenized, Outcome}
-use Rattle.assembler.proofs.Rows.{length-rows}
-use Rattle.assembler.proofs.Means.{number, Means, AllMean}
+use Rattle.assembler.proofs.Means.{Means, AllMean}
 use Rattle.assembler.proofs.EntriesMean.{Tokens, Lines, lines-end, lines-on, lines-mean, lines-from, line-means}
-use Rattle.sheet.specs.Comments.{textWords, header, trailing}
-use Rattle.sheet.specs.Rules.{rules, ruleLengths}
+use Rattle.sheet.specs.Rules.{rules}
 use Rattle.shown.proofs.Shows.{Shows, Shown, Said}
-use Rattle.shown.proofs.BodyShown.{header-shown, trailing-shown, rules-shown, lengths-shown, kept-all}
-use Rattle.shown.proofs.Declared.{Agrees, Declared, declared-part}
+use Rattle.shown.proofs.BodyShown.{kept-all}
 use Rattle.shown.proofs.LineShown.{Expands, ExpandsItem, ExpandsLine, item-mentions, item-parsed, line-shows}
 
 -- ---- with no diagnostic of rules each rule expands
@@ -116,12 +103,12 @@ module _ (text : List ℕ) (l : Tokens) (a : AllLexed l) (p : All (Placed text) 
       (λ i t r a p d. line-means text E i t r a p d (Said text E) (λ x e. (item-mentions text E i t r a p d x e, item-parsed text E i t r a p d x e, refl)) (line (map tokenOf (t ∷ r)) 0) refl)
       (length l) 0 l (omega arith) a p (omega arith) refl)
 
--- ---- what assembly leaves of a text
+-- ---- no diagnostics
 last-empty : {X : Type 0} (a b : List X) → a ++ b ≡ [] → b ≡ []
 last-empty [] b e = e
 last-empty (x ∷ a) b e = absurd (let z : _≡_ {A = ℕ} 0 1 = cc in omega arith)
 
-no-rule-errors : (ls : List (Line Place)) → A.diagnosticsOf ls ≡ [] → A.ruleErrors 0 false (A.bodyOf ls .rules) ≡ []
+pub no-rule-errors : (ls : List (Line Place)) → A.diagnosticsOf ls ≡ [] → A.ruleErrors 0 false (A.bodyOf ls .rules) ≡ []
 unfolding A.diagnosticsOf
 no-rule-errors ls e =
     let is = A.items ls in
@@ -129,55 +116,3 @@ no-rule-errors ls e =
     let f = A.finalErrors (A.statesIn is) [] (A.finalsIn is) in
     let d = A.declarationErrors [] is in
     last-empty f r (last-empty d (f ++ r) (last-empty (A.lineErrors ls) (d ++ (f ++ r)) e))
-
-module _ (text : List ℕ) (count : ℕ) (w₀ w log₀ log : List ℕ) (r : Assembled) (p : Tokenized text count w₀) (o : Outcome text count w₀ w log₀ log r) where
-  -- the row
-  pub row-is : rows count w ≡ entered (map tokenOf (tokens (decode text)))
-  row-is = o .entered .row ∙ ap entered (p .row)
-
-  pub outcome-said : AllMean (Said text (rows count w)) (rows count w) (entries (rows count w)) (readLines (decode text))
-  unfolding readLines
-  outcome-said =
-      subst (λ (ts : List Token). AllMean (Said text ts) ts (entries ts) (lines covering (tokens (decode text)))) (sym row-is)
-      (text-said text (tokens (decode text)) (tokens-lexed text) (placed text))
-
-  pub outcome-shown : A.diagnosticsOf (readLines (decode text)) ≡ [] → Shown text (rows count w) 0 (readLines (decode text))
-  unfolding readLines
-  outcome-shown e =
-      subst (λ (ts : List Token). Shown text ts 0 (lines covering (tokens (decode text)))) (sym row-is)
-      (text-shown text (tokens (decode text)) (tokens-lexed text) (placed text) (omega (arith, p .short)) (no-rule-errors (lines covering (tokens (decode text))) e))
-
-  -- the parts of the first declarations
-  pub outcome-declared : {B : Type 0} (part : A.Parts Place → Option B) (k : ℕ) → k < 11 → ((i : Item Place) → Agrees (part (A.parts i)) (eqb (number i) k))
-      → Declared (Said text (rows count w)) (rows count w) part (getD (r .first) k 0) (A.items (readLines (decode text)))
-  outcome-declared part k low agrees =
-      let size : length (rows count w) ≡ count = length-rows count w (omega (arith, p .room, p .many, o .entered .size, tokens-of-bytes text)) in
-      let es : List Entry = entries (rows count w) in
-      subst (λ (f : List ℕ). Declared (Said text (rows count w)) (rows count w) part (getD f k 0) (A.items (readLines (decode text))))
-      (ap (λ (n : ℕ). declarations n undeclared es) size ∙ sym (o .first))
-      (declared-part (Said text (rows count w)) (rows count w) part k low agrees (omega (arith, size, p .many, p .short, tokens-of-bytes text)) es (readLines (decode text)) outcome-said)
-
-  -- ---- the sheet's sections of comments and rules, where there is no diagnostic
-  module _ (fine : A.diagnosticsOf (readLines (decode text)) ≡ []) where
-    abbrev ls : List (Line Place)
-    ls = readLines (decode text)
-
-    all-kept : A.kept 0 (A.bodyOf ls .rules) ≡ A.bodyOf ls .rules
-    all-kept = kept-all 0 (A.bodyOf ls .rules) (no-rule-errors ls fine)
-
-    pub outcome-header : L.flat textWords (header (rows count w)) ≡ L.flat L.locatedWords (machineOf (readLines (decode text)) .header)
-    unfolding machineOf
-    outcome-header = header-shown 0 (rows count w) ls (outcome-shown fine)
-
-    pub outcome-trailing : L.flat textWords (trailing (rows count w)) ≡ L.flat L.locatedWords (machineOf (readLines (decode text)) .trailing)
-    unfolding machineOf
-    outcome-trailing = trailing-shown 0 (rows count w) ls (outcome-shown fine)
-
-    pub outcome-rules : rules (machineOf (readLines (decode text)) .blank) (rows count w) ≡ L.flat L.ruleWords (machineOf (readLines (decode text)) .rules)
-    unfolding machineOf
-    outcome-rules =
-        let c : ℕ = A.blankOf (A.items ls) in
-        rules-shown c (rows count w) ls (outcome-shown fine) ∙ ap (λ (l : List (A.RuleLine Place)). L.flat L.ruleWords (A.expandAll c l)) (sym all-kept)
-
-    pub outcome-lengths : ruleLengths (rows count w) ≡ L.ruleLengths (A.kept 0 (A.bodyOf (readLines (decode text)) .rules))
-    outcome-lengths = lengths-shown 0 (rows count w) ls (outcome-shown fine) ∙ ap L.ruleLengths (sym all-kept)
