@@ -1,12 +1,12 @@
 -- Laws of the index: the hash, the search over a window of slots, and a word entered.
 use mathlib.Core.Path.{_≡_, refl, sym, ap, subst, _∙_}
-use mathlib.Core.Bool.{Bool, true, false, cond}
+use mathlib.Core.Bool.{Bool, true, false}
 use mathlib.Core.List.{List, [], _∷_, _++_}
-use Prim.Native.Nat.{ℕ, zero, suc, _+_, _-_, _*_, _%_, _≤_, _<_, _^_}
+use Prim.Native.Nat.{ℕ, suc, _+_, _-_, _*_, _%_, _≤_, _<_, _^_}
 use native.Mathlib.Omega.{arith}
 use native.Mathlib.Numerals.{add-one}
 use native.Mathlib.Nat.{mod-lt, mul-le-mul-right, mul-le-mul-left}
-use mir.Syntax.{w32, w64}
+use mir.Syntax.{w32}
 use mir.Val.{Fits}
 use borrow.Author.Tests.{eq-eqb, ne-eqb, eqb-true, ltb-true, ltb-false}
 use borrow.Rule.Slice.PartMut.{midOf, postOf, putMid, same-len-mid, mid-len, take-put}
@@ -16,11 +16,11 @@ use lib.Seq.{drop-cons, getD-append-add, getD-set-same, getD-set-other, take-set
 use Rattle.diag.proofs.Cases.{by-test}
 use Rattle.lexer.specs.Places.{part}
 use Rattle.tokens.specs.declared.Token.{Token}
-use Rattle.parser.specs.Row.{tokensIn, peek, ended}
+use Rattle.parser.specs.Row.{peek}
 use Rattle.equal_names.specs.Rows.{rows, Kept}
 use Rattle.equal_names.specs.Names.{isWord, sameWord, firstEqual, Interned}
 use Rattle.equal_names.specs.Index.{hashFrom, slotOf, stops, filled, Probed, Room, Reached, Indexed, Tried}
-use Rattle.equal_names.proofs.NameLaws.{length-rows, kept-rows, kept-refl, kept-trans, partOf, word-part, first-before, first-low, first-equal, first-part, first-word, first-same, first-again}
+use Rattle.equal_names.proofs.NameLaws.{length-rows, kept-rows, kept-refl, kept-trans, word-part, first-before, first-equal, first-word, first-same, first-again}
 
 by-equal : {X : Type 0} (a b : ℕ) → (a ≡ b → X) → ((a ≡ b → ⊥) → X) → X
 by-equal a b f g = by-test (eqb a b) (λ e. f (eqb-true a b e)) (λ n. g (λ q. let z : true ≡ false = sym (eq-eqb a b q) ∙ n in let o : _≡_ {A = ℕ} 0 1 = cc in omega arith))
