@@ -1,22 +1,18 @@
 -- Laws of assembly as a whole: each pass leaves what the next one asks, and all together give the language's diagnostics.
 use mathlib.Core.Path.{_≡_, refl, sym, ap, subst, _∙_}
 use mathlib.Core.Bool.{Bool, true, false, cond}
-use mathlib.Core.List.{List, [], _∷_, _++_, map, append-assoc}
-use Prim.Native.Nat.{ℕ, zero, suc, _+_, _-_, _*_, _≤_, _<_, _^_}
+use mathlib.Core.List.{List, [], _∷_, _++_, map}
+use Prim.Native.Nat.{ℕ, zero, suc, _+_, _*_, _≤_, _<_, _^_}
 use native.Mathlib.Omega.{arith}
-use native.Mathlib.Nat.{le-of-suc-le-suc}
-use borrow.Author.Tests.{eq-eqb, eqb-true}
 use lib.Dec.{eqb, ltb}
-use lib.ListN.{length, getD, take, drop, set, replicate, length-append, length-set, length-drop, length-map, List·getD-append}
-use lib.Seq.{sets, sets-eq, length-sets, getD-append-add, length-take-le}
+use lib.ListN.{length, getD, drop, length-append, length-drop, length-map}
 use Rattle.chars.specs.Utf8.{decode}
 use Rattle.lexer.specs.declared.Span.{Span as Place}
-use Rattle.lexer.specs.Tokens.{tokens, Token as Lexed}
+use Rattle.lexer.specs.Tokens.{tokens}
 use Rattle.lexer.specs.Words.{onto}
 use Rattle.lexer.proofs.Writes.{tokens-of-bytes}
 use Rattle.lexer.proofs.Placed.{placed}
 use Rattle.tokens.specs.declared.Token.{Token}
-use Rattle.parser.specs.Row.{peek}
 use Rattle.parser.specs.Views.{isState}
 use Rattle.parser.specs.Meaning.{tokenOf}
 use Rattle.parser.proofs.Lexed.{tokens-lexed}
@@ -32,7 +28,6 @@ use Rattle.assembler.specs.declared.rules.RuleCount.{RuleCount}
 use Rattle.assembler.specs.Rows.{rows}
 use Rattle.assembler.specs.Entries.{Entry, behind, entriesFrom, entries}
 use Rattle.assembler.specs.Entered.{flat, enteredFrom, entered}
-use Rattle.assembler.specs.Names.{isWord, firstEqual, internOf, interned}
 use Rattle.assembler.specs.Failures.{lineError, lineErrors}
 use Rattle.assembler.specs.Declarations.{undeclared, declare, declarations, declarationError, declarationErrors}
 use Rattle.assembler.specs.Finals.{nameAt, namesFrom, namesOf, finalError, finalErrors, finalsErrors, Interned, Laid, Kept}
@@ -41,7 +36,7 @@ use Rattle.assembler.specs.Records.{recordOf, recordsOf}
 use Rattle.assembler.specs.Assembled as S
 use Rattle.assembler.proofs.Rows.{length-rows}
 use Rattle.assembler.proofs.RowWords.{rows-onto, length-onto}
-use Rattle.assembler.proofs.NameLaws.{row-set}
+use Rattle.equal_names.proofs.NameLaws.{kept-rows}
 use Rattle.assembler.proofs.MarkLaws.{kept-row, kept-interned}
 use Rattle.assembler.proofs.FailureLaws.{line-error-one}
 use Rattle.assembler.proofs.DeclarationLaws.{one-wrong}
@@ -61,32 +56,6 @@ length-entered-from [] i (t ∷ ts) = ap suc (length-entered-from _ (suc i) ts)
 pub length-entered : (ts : List Token) → length (entered ts) ≡ length ts
 unfolding entered
 length-entered ts = length-entered-from [] 0 ts
-
-rows-sets : (n k : ℕ) (w vs : List ℕ) → 4 * n ≤ length w → 4 * n ≤ k → rows n (sets w k vs) ≡ rows n w
-rows-sets n k w [] h g = refl
-rows-sets n k w (v ∷ vs) h g = rows-sets n (suc k) (set w k v) vs (omega (arith, length-set w k v)) (omega arith) ∙ row-set n k w v h g
-
-word-at : (w vs : List ℕ) (k x : ℕ) → k + length vs ≤ length w → x < length vs → getD (sets w k vs) (k + x) 0 ≡ getD vs x 0
-word-at w vs k x h l =
-    let s : length (take k w) ≡ k = length-take-le k w (omega arith) in
-    ap (λ (r : List ℕ). getD r (k + x) 0) (sets-eq vs w k h ∙ append-assoc (take k w) vs (drop (k + length vs) w))
-    ∙ ap (λ (n : ℕ). getD (take k w ++ (vs ++ drop (k + length vs) w)) (n + x) 0) (sym s)
-    ∙ getD-append-add (take k w) (vs ++ drop (k + length vs) w) x 0 ∙ List·getD-append vs (drop (k + length vs) w) 0 x l
-
-length-interned : (text : List ℕ) (ts us : List Token) → length (interned text ts us) ≡ length us
-unfolding interned
-length-interned text ts [] = refl
-length-interned text ts (u ∷ us) = ap suc (length-interned text ts us)
-
-interned-at : (text : List ℕ) (ts us : List Token) (x : ℕ) → x < length us → getD (interned text ts us) x 0 ≡ internOf text ts (peek us x)
-unfolding interned
-interned-at text ts [] x h = absurd (omega arith)
-interned-at text ts (u ∷ us) zero h = refl
-interned-at text ts (u ∷ us) (suc x) h = interned-at text ts us x (le-of-suc-le-suc h)
-
-intern-word : (text : List ℕ) (ts : List Token) (t : Token) → isWord t ≡ true → internOf text ts t ≡ firstEqual text t 0 ts
-unfolding internOf
-intern-word text ts t h = rw h
 
 -- ---- entering the lines
 module _ (text : List ℕ) (count : ℕ) (w₀ : List ℕ) (p : S.Tokenized text count w₀) where
@@ -115,27 +84,19 @@ module _ (text : List ℕ) (count : ℕ) (w₀ : List ℕ) (p : S.Tokenized text
     pub intern-base : 4 * count ≤ 4 * (length text + 1)
     intern-base = omega (arith, few)
 
-    pub intern-room : 4 * (length text + 1) + count ≤ length w₁
-    intern-room = omega (arith, few, p .room, size₁)
+    pub intern-names : 4 * (length text + 1) + count ≤ 5 * (length text + 1)
+    intern-names = omega (arith, few)
 
-    pub entered-rows : (w₂ : List ℕ) → w₂ ≡ sets w₁ (4 * (length text + 1)) (interned text (rows count w₁) (rows count w₁)) → S.Entered text count w₀ w₂
-    entered-rows w₂ e₂ =
-        let a : ℕ = 4 * (length text + 1) in
-        let ts : List Token = rows count w₁ in
-        let vs : List ℕ = interned text ts ts in
-        let row₂ : rows count w₂ ≡ ts = ap (rows count) e₂ ∙ rows-sets count a w₁ vs (omega (arith, intern-base, intern-room)) intern-base in
-        let lv : length vs ≡ length ts = length-interned text ts ts in
-        let lt : length ts ≡ count = ap length row₁ ∙ size-entered in
+    pub intern-room : 5 * (length text + 1) + (length text + 1) ≤ length w₁
+    intern-room = omega (arith, p .room, size₁)
+
+    pub entered-rows : (w₂ : List ℕ) → Kept (4 * (length text + 1)) w₁ w₂ → Interned text (rows count w₁) (4 * (length text + 1)) w₂ → S.Entered text count w₀ w₂
+    entered-rows w₂ kept names =
+        let row₂ : rows count w₂ ≡ rows count w₁ = kept-rows count (4 * (length text + 1)) w₁ w₂ kept intern-base in
         record {
           row = row₂ ∙ row₁;
-          names = record {
-            interned = λ x h e.
-                let h′ : x < length ts = omega (arith, ap length row₂) in
-                let e′ : isWord (peek ts x) ≡ true = ap (λ (r : List Token). isWord (peek r x)) (sym row₂) ∙ e in
-                ap (λ (r : List ℕ). getD r (a + x) 0) e₂ ∙ word-at w₁ vs a x (omega (arith, intern-room)) (omega arith) ∙ interned-at text ts ts x h′ ∙ intern-word text ts (peek ts x) e′
-                ∙ ap (λ (r : List Token). firstEqual text (peek r x) 0 r) (sym row₂);
-          };
-          size = ap length e₂ ∙ length-sets w₁ a vs ∙ size₁;
+          names = subst (λ (ts : List Token). Interned text ts (4 * (length text + 1)) w₂) (sym row₂) names;
+          size = kept .size ∙ size₁;
         }
 
 -- ---- how many diagnostics the passes append

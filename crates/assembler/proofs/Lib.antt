@@ -9,7 +9,6 @@ pub mod Braces
 pub mod Inside
 pub mod LineLaws
 pub mod EnteredLaws
-pub mod NameLaws
 pub mod MarkLaws
 pub mod FinalLaws
 pub mod Means

@@ -1,103 +1,26 @@
 -- Laws of the marks: a word of scratch for each first equal word says whether a name is in Q and where F lists it first.
-use mathlib.Core.Path.{_≡_, refl, sym, ap, subst, _∙_}
+use mathlib.Core.Path.{_≡_, refl, sym, ap, _∙_}
 use mathlib.Core.Bool.{Bool, true, false, cond}
-use mathlib.Core.List.{List, [], _∷_, _++_, append-nil}
+use mathlib.Core.List.{List, [], _∷_, _++_}
 use mathlib.Core.Option.{Option, none, some}
-use Prim.Native.Nat.{ℕ, zero, suc, _+_, _-_, _*_, _≤_, _<_, _^_}
+use Prim.Native.Nat.{ℕ, _+_, _-_, _≤_, _<_}
 use native.Mathlib.Omega.{arith}
-use native.Mathlib.Nat.{le-of-suc-le-suc}
-use mir.Syntax.{w32}
-use mir.Val.{Fits}
-use borrow.Author.Tests.{eq-eqb, ne-eqb, eqb-true}
+use borrow.Author.Tests.{eq-eqb, ne-eqb}
 use borrow.Rule.Slice.PartMut.{midOf, postOf, putMid, same-len-mid, mid-len, take-put}
 use lib.Dec.{eqb}
-use lib.ListN.{length, getD, take, drop, set, replicate, length-set, length-take, length-replicate, getD-replicate, List·getD-append}
-use lib.Seq.{take-take, getD-append-add, getD-take, getD-set-same, getD-set-other, take-set-le, length-take-le}
+use lib.ListN.{length, getD, take, set, replicate, length-set, length-replicate, getD-replicate, List·getD-append}
+use lib.Seq.{getD-append-add, getD-take, getD-set-same, getD-set-other, take-set-le, length-take-le}
 use Rattle.diag.proofs.Cases.{by-test}
-use Rattle.diag.specs.declared.Diagnostic.{Diagnostic}
 use Rattle.diag.specs.Log.{error, withRelated, Log, appended, appendAll}
 use Rattle.lexer.specs.Text.{same}
-use Rattle.lexer.specs.Places.{part}
-use Rattle.lexer.proofs.Keywords.{same-true, same-refl}
 use Rattle.tokens.specs.declared.Token.{Token}
-use Rattle.parser.specs.Row.{tokensIn, peek, ended}
+use Rattle.parser.specs.Row.{peek}
 use Rattle.assembler.specs.Rows.{rows, placeOf}
-use Rattle.assembler.specs.Names.{sameName, isWord, sameWord, firstEqual}
+use Rattle.assembler.specs.Names.{sameName, isWord, firstEqual}
 use Rattle.assembler.specs.Finals.{listed, unknownError, finalError, markBy, markOf, Marks, Interned, Laid, Kept}
+pub use Rattle.equal_names.proofs.NameLaws.{partOf, name-part, part-name, first-low, first-part, first-same, kept-refl, kept-trans}
+use Rattle.equal_names.proofs.NameLaws.{kept-rows}
 use Rattle.assembler.proofs.Rows.{length-rows}
-use Rattle.assembler.proofs.RowWords.{part-tokens}
-
--- ---- equal names have equal parts of the text
-abbrev pub partOf : List ℕ → Token → List ℕ
-partOf text t = part text (t .start) (t .end)
-
-pub name-part : (text : List ℕ) (a b : Token) → sameName text a b ≡ true → partOf text a ≡ partOf text b
-unfolding sameName
-name-part text a b e = same-true (partOf text a) (partOf text b) e
-
-pub part-name : (text : List ℕ) (a b : Token) → partOf text a ≡ partOf text b → sameName text a b ≡ true
-unfolding sameName
-part-name text a b e = ap (same (partOf text a)) (sym e) ∙ same-refl (partOf text a)
-
-word-part : (text : List ℕ) (t u : Token) → sameWord text t u ≡ true → partOf text u ≡ partOf text t
-unfolding sameWord
-word-part text t u e = by-test (isWord u) (λ w. name-part text u t (rw w at e)) (λ w. let z : false ≡ true = rw w at e in cc)
-
--- ---- the first equal word is found
-record Found (text : List ℕ) (t : Token) (i : ℕ) (us : List Token) : Type 0 where
-  at : ℕ
-  is : firstEqual text t i us ≡ i + at
-  low : at < length us
-  equal : sameWord text t (peek us at) ≡ true
-
-first-yes : (text : List ℕ) (t : Token) (i : ℕ) (u : Token) (us : List Token) → sameWord text t u ≡ true → firstEqual text t i (u ∷ us) ≡ i
-unfolding firstEqual
-first-yes text t i u us e = ap (λ (b : Bool). elim b [ true ↦ i | false ↦ firstEqual text t (suc i) us ]) e
-
-first-no : (text : List ℕ) (t : Token) (i : ℕ) (u : Token) (us : List Token) → sameWord text t u ≡ false → firstEqual text t i (u ∷ us) ≡ firstEqual text t (suc i) us
-unfolding firstEqual
-first-no text t i u us e = ap (λ (b : Bool). elim b [ true ↦ i | false ↦ firstEqual text t (suc i) us ]) e
-
-found : (text : List ℕ) (t : Token) (i : ℕ) (us : List Token) (k : ℕ) → k < length us → sameWord text t (peek us k) ≡ true → Found text t i us
-found text t i [] k h e = absurd (omega arith)
-found text t i (u ∷ us) zero h e = record { at = 0; is = first-yes text t i u us e ∙ omega arith; low = omega arith; equal = e }
-found text t i (u ∷ us) (suc k) h e =
-    let r = found text t (suc i) us k (le-of-suc-le-suc h) e in
-    by-test (sameWord text t u) (λ y. record { at = 0; is = first-yes text t i u us y ∙ omega arith; low = omega arith; equal = y })
-    (λ n. record { at = suc (r .at); is = first-no text t i u us n ∙ r .is ∙ omega arith; low = omega (arith, r .low); equal = r .equal })
-
-module _ (text : List ℕ) (ts : List Token) where
-  -- the first equal word of the token at x
-  abbrev firstOf : ℕ → ℕ
-  firstOf x = firstEqual text (peek ts x) 0 ts
-
-  module _ (x : ℕ) (low : x < length ts) (word : isWord (peek ts x) ≡ true) where
-    itself : sameWord text (peek ts x) (peek ts x) ≡ true
-    unfolding sameWord
-    itself = rw word (part-name text (peek ts x) (peek ts x) refl)
-
-    first-found : Found text (peek ts x) 0 ts
-    first-found = found text (peek ts x) 0 ts x low itself
-
-    pub first-low : firstOf x < length ts
-    first-low = omega (arith, first-found .is, first-found .low)
-
-    pub first-part : partOf text (peek ts (firstOf x)) ≡ partOf text (peek ts x)
-    first-part =
-        let z : 0 + first-found .at ≡ first-found .at = omega arith in
-        ap (λ (k : ℕ). partOf text (peek ts k)) (first-found .is ∙ z) ∙ word-part text (peek ts x) (peek ts (first-found .at)) (first-found .equal)
-
--- ---- equal names have the same first word, and others not
-word-same : (text : List ℕ) (t v u : Token) → partOf text t ≡ partOf text v → sameWord text t u ≡ sameWord text v u
-unfolding sameWord sameName
-word-same text t v u e = ap (λ (p : List ℕ). cond (isWord u) (same (partOf text u) p) false) e
-
-pub first-same : (text : List ℕ) (t v : Token) (i : ℕ) (us : List Token) → partOf text t ≡ partOf text v → firstEqual text t i us ≡ firstEqual text v i us
-unfolding firstEqual
-first-same text t v i [] e = refl
-first-same text t v i (u ∷ us) e =
-    ap (λ (b : Bool). elim b [ true ↦ i | false ↦ firstEqual text t (suc i) us ]) (word-same text t v u e)
-    ∙ ap (λ (n : ℕ). elim (sameWord text v u) [ true ↦ i | false ↦ n ]) (first-same text t v (suc i) us e)
 
 -- ---- the list in which a name is looked for
 module _ (text : List ℕ) (ts : List Token) where
@@ -176,13 +99,7 @@ module _ (count a b : ℕ) (w₀ w : List ℕ) (laid : Laid count a b w₀) (kep
   kept-laid = record { tokens = laid .tokens; words = laid .words; marks = omega (arith, laid .marks, kept .size); few = laid .few }
 
   pub kept-row : rows count w ≡ rows count w₀
-  kept-row =
-      let h : 4 * count ≤ length w₀ = omega (arith, laid .tokens, laid .words, laid .marks) in
-      let g : 4 * count ≤ length w = omega (arith, kept .size) in
-      let e : 4 * count - 4 * 0 ≡ 4 * count = omega arith in
-      let z : take (4 * count) w ≡ take (4 * count) w₀ =
-      sym (take-take (4 * count) b w (omega (arith, laid .tokens, laid .words))) ∙ ap (take (4 * count)) (kept .front) ∙ take-take (4 * count) b w₀ (omega (arith, laid .tokens, laid .words)) in
-      sym (part-tokens count 0 w g (omega arith)) ∙ ap (λ (m : ℕ). tokensIn (take m w)) e ∙ ap tokensIn z ∙ ap (λ (m : ℕ). tokensIn (take m w₀)) (sym e) ∙ part-tokens count 0 w₀ h (omega arith)
+  kept-row = kept-rows count b w₀ w kept (omega (arith, laid .tokens, laid .words))
 
   kept-word : (x : ℕ) → x < count → getD w (a + x) 0 ≡ getD w₀ (a + x) 0
   kept-word x h =
@@ -198,12 +115,6 @@ module _ (count a b : ℕ) (w₀ w : List ℕ) (laid : Laid count a b w₀) (kep
         let e′ : isWord (peek ts x) ≡ true = ap (λ (r : List Token). isWord (peek r x)) (sym kept-row) ∙ e in
         kept-word x (omega arith) ∙ i .interned x h′ e′ ∙ ap (λ (r : List Token). firstEqual text (peek r x) 0 r) (sym kept-row);
   }
-
-pub kept-refl : (b : ℕ) (w : List ℕ) → Kept b w w
-kept-refl b w = record { front = refl; size = refl }
-
-pub kept-trans : (b : ℕ) (u v w : List ℕ) → Kept b u v → Kept b v w → Kept b u w
-kept-trans b u v w p q = record { front = q .front ∙ p .front; size = q .size ∙ p .size }
 
 -- a mark set
 pub kept-set : (b k m : ℕ) (w v : List ℕ) → v ≡ set w (b + k) m → Kept b w v

@@ -1,29 +1,15 @@
 -- Laws of the tokens in a row of words, and of the lines that their entries part.
-use mathlib.Core.Path.{_≡_, refl, sym, ap, _∙_}
+use mathlib.Core.Path.{_≡_, refl, ap, _∙_}
 use mathlib.Core.List.{List, [], _∷_}
-use Prim.Native.Nat.{ℕ, zero, suc, _+_, _-_, _*_, _/_, _≤_, _<_}
+use Prim.Native.Nat.{ℕ, zero, suc, _+_, _≤_, _<_}
 use native.Mathlib.Omega.{arith}
-use native.Mathlib.Numerals.{add-one}
-use native.Mathlib.Nat.{add-assoc}
 use borrow.Author.Tests.{le-leb, lt-leb, eq-eqb, ne-eqb}
-use lib.ListN.{length, getD, take, drop, length-take, drop-of-length-le, List·getD-eq-default}
-use lib.Seq.{getD-take, drop-cons, drop-drop}
+use lib.ListN.{length, drop, drop-of-length-le}
+use lib.Seq.{drop-cons, drop-drop}
 use Rattle.tokens.specs.declared.Token.{Token}
-use Rattle.parser.specs.Row.{tokensIn, ended, peek}
-use Rattle.assembler.specs.Rows.{rows}
-use Rattle.tokens.specs.View.{tokenIn}
-use Rattle.parser.proofs.Laws.{length-tokens, peek-read}
+use Rattle.parser.specs.Row.{ended, peek}
+pub use Rattle.equal_names.proofs.NameLaws.{length-rows, row-read, row-past}
 use Rattle.assembler.specs.Entries.{Entry, entryAt, behind, entriesFrom, entries}
-
--- ---- the row
-pub length-rows : (n : ℕ) (w : List ℕ) → 4 * n ≤ length w → length (rows n w) ≡ n
-length-rows n w h = omega (arith, length-tokens w, length-take n (tokensIn w))
-
-pub row-read : (n : ℕ) (w : List ℕ) (i : ℕ) (t : Token) → 4 * n ≤ length w → i < n → t ≡ tokenIn w i → t ≡ peek (rows n w) i
-row-read n w i t h l e = peek-read w i t e (omega arith) ∙ sym (getD-take n (tokensIn w) i ended l)
-
-pub row-past : (n : ℕ) (w : List ℕ) (i : ℕ) → n ≤ i → ended ≡ peek (rows n w) i
-row-past n w i l = sym (List·getD-eq-default (rows n w) ended {n = i} (omega (arith, length-take n (tokensIn w))))
 
 -- ---- the lines
 pub entries-skip : (k i : ℕ) (ts : List Token) → entriesFrom k i ts ≡ entriesFrom 0 (i + k) (drop k ts)

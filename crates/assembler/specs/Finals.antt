@@ -5,14 +5,16 @@ use mathlib.Core.Bool.{Bool, true, false, cond}
 use mathlib.Core.List.{List, [], _∷_, _++_}
 use mathlib.Core.Option.{Option, none, some}
 use lib.Dec.{eqb, ltb}
-use lib.ListN.{length, getD, take, drop}
+use lib.ListN.{length, getD, drop}
 use Rattle.tokens.specs.declared.Token.{Token}
 use Rattle.parser.specs.Row.{peek}
 use Rattle.parser.specs.Views.{isState}
 use Rattle.diag.specs.declared.Diagnostic.{Diagnostic}
 use Rattle.diag.specs.Log.{error, withRelated}
 use Rattle.assembler.specs.Rows.{placeOf}
-use Rattle.assembler.specs.Names.{sameName, isWord, firstEqual}
+use Rattle.assembler.specs.Names.{sameName, isWord}
+pub use Rattle.equal_names.specs.Names.{Interned}
+pub use Rattle.equal_names.specs.Rows.{Kept}
 
 -- the index of a state's name, of another token none
 unfoldable pub nameAt : ℕ → Token → List ℕ
@@ -81,17 +83,9 @@ markOf text ts qs before x = markBy (listed text ts x before) (listed text ts x 
 pub record Marks (text : List ℕ) (ts : List Token) (a b : ℕ) (w : List ℕ) (qs before : List ℕ) : Type 0 where
   pub marks : (x : ℕ) → x < length ts → isWord (peek ts x) ≡ true → getD w (b + getD w (a + x) 0) 0 ≡ markOf text ts qs before x
 
-pub record Interned (text : List ℕ) (ts : List Token) (a : ℕ) (w : List ℕ) : Type 0 where
-  pub interned : (x : ℕ) → x < length ts → isWord (peek ts x) ≡ true → getD w (a + x) 0 ≡ firstEqual text (peek ts x) 0 ts
-
 -- where the rows stand: the tokens, then the row of first equal words at a, then the marks at b
 pub record Laid (count a b : ℕ) (w : List ℕ) : Type 0 where
   pub tokens : 4 * count ≤ a
   pub words : a + count ≤ b
   pub marks : b + count ≤ length w
   pub few : count < 2 ^ 31
-
--- nothing but marks has changed
-pub record Kept (b : ℕ) (w₀ w : List ℕ) : Type 0 where
-  pub front : take b w ≡ take b w₀
-  pub size : length w ≡ length w₀

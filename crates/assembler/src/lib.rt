@@ -13,7 +13,6 @@ pub mod entry;
 pub mod failures;
 pub mod finals;
 pub mod lines;
-pub mod names;
 pub mod rules;
 
 // What assembly finds: the entry of the first declaration of each name, a value that is no index for none; the number of rules; and the number of diagnostics.
@@ -29,8 +28,8 @@ fn enter(text: &[u8], work: &mut [u32], count: usize)
     ensures { λ _. ⌜ Entered (now (text .entry)) count (now (work .entry)) (now (work .exit)) ⌝ }
 {
     lines::lines(work, count);
-    let a = 4 * (text.len() + 1);
-    names::intern(text, work, count, a);
+    let base = text.len() + 1;
+    equal_names::intern(text, work, count, 4 * base, 5 * base, base);
 }
 
 // The diagnostics of F and of the rules, behind m others.

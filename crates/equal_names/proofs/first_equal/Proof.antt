@@ -1,13 +1,13 @@
--- `assembler::names::first_equal` meets its contract: the invariant: the first from here on is the first of all.
+-- `equal_names::first_equal` meets its contract: the invariant: the first from here on is the first of all.
 use borrow.Author.Needs.{needs}
 use mathlib.Core.Path.{_≡_}
 use Prim.Native.Nat.{_-_}
 use lib.ListN.{drop}
-use Rattle.assembler.specs.Rows.{rows}
-use Rattle.assembler.specs.Names.{firstEqual}
-use Rattle.assembler.proofs.NameLaws.{equal-here, equal-on, equal-none}
-use Rattle.assembler.proofs.names.first_equal.Statement.{statement}
-use Rattle.assembler.proofs.names.first_equal.Tie as tie
+use Rattle.equal_names.specs.Rows.{rows}
+use Rattle.equal_names.specs.Names.{firstEqual}
+use Rattle.equal_names.proofs.NameLaws.{equal-here, equal-on, equal-none}
+use Rattle.equal_names.proofs.first_equal.Statement.{statement}
+use Rattle.equal_names.proofs.first_equal.Tie as tie
 
 abbrev Inv-loop : tie.InvT-loop
 Inv-loop text work count t i₀ i = firstEqual text t i (drop i (rows count work)) ≡ firstEqual text t 0 (rows count work)

@@ -1,0 +1,397 @@
+-- Laws of the index: the hash, the search over a window of slots, and a word entered.
+use mathlib.Core.Path.{_≡_, refl, sym, ap, subst, _∙_}
+use mathlib.Core.Bool.{Bool, true, false}
+use mathlib.Core.List.{List, [], _∷_, _++_}
+use Prim.Native.Nat.{ℕ, suc, _+_, _-_, _*_, _%_, _≤_, _<_, _^_}
+use native.Mathlib.Omega.{arith}
+use native.Mathlib.Numerals.{add-one}
+use native.Mathlib.Nat.{mod-lt, mul-le-mul-right, mul-le-mul-left}
+use mir.Syntax.{w32}
+use mir.Val.{Fits}
+use borrow.Author.Tests.{eq-eqb, ne-eqb, eqb-true, ltb-true, ltb-false}
+use borrow.Rule.Slice.PartMut.{midOf, postOf, putMid, same-len-mid, mid-len, take-put}
+use lib.Dec.{eqb, ltb}
+use lib.ListN.{length, getD, take, drop, set, replicate, length-set, length-replicate, getD-replicate, drop-of-length-le, List·getD-append}
+use lib.Seq.{drop-cons, getD-append-add, getD-set-same, getD-set-other, take-set-le, take-take, length-take-le}
+use Rattle.diag.proofs.Cases.{by-test}
+use Rattle.lexer.specs.Places.{part}
+use Rattle.tokens.specs.declared.Token.{Token}
+use Rattle.parser.specs.Row.{peek}
+use Rattle.equal_names.specs.Rows.{rows, Kept}
+use Rattle.equal_names.specs.Names.{isWord, sameWord, firstEqual, Interned}
+use Rattle.equal_names.specs.Index.{hashFrom, slotOf, stops, filled, Probed, Room, Reached, Indexed, Tried}
+use Rattle.equal_names.proofs.NameLaws.{length-rows, kept-rows, kept-refl, kept-trans, word-part, first-before, first-equal, first-word, first-same, first-again}
+
+by-equal : {X : Type 0} (a b : ℕ) → (a ≡ b → X) → ((a ≡ b → ⊥) → X) → X
+by-equal a b f g = by-test (eqb a b) (λ e. f (eqb-true a b e)) (λ n. g (λ q. let z : true ≡ false = sym (eq-eqb a b q) ∙ n in let o : _≡_ {A = ℕ} 0 1 = cc in omega arith))
+
+-- ---- the hash
+pub product-low : (h k : ℕ) → h < 2147483647 → k < 2 ^ 31 → h * k ≤ 2147483647 * 2147483648
+product-low h k l m =
+    let a : h * k ≤ 2147483647 * k = mul-le-mul-right {m = h} {n = 2147483647} k (omega arith) in
+    let b : 2147483647 * k ≤ 2147483647 * 2147483648 = mul-le-mul-left {m = k} {n = 2147483648} 2147483647 (omega arith) in
+    omega arith
+
+module _ (name : List ℕ) (k h i : ℕ) (inv : hashFrom k h (drop i name) ≡ hashFrom k 0 name) where
+  pub hash-on : (c : ℕ) → i < length name → c ≡ getD name i 0 → hashFrom k ((h * k + c) % 2147483647) (drop (i + 1) name) ≡ hashFrom k 0 name
+  unfolding hashFrom
+  hash-on c l e =
+      ap (λ (j : ℕ). hashFrom k ((h * k + c) % 2147483647) (drop j name)) (add-one i)
+      ∙ ap (λ (c : ℕ). hashFrom k ((h * k + c) % 2147483647) (drop (suc i) name)) e
+      ∙ sym (ap (hashFrom k h) (drop-cons name i 0 l)) ∙ inv
+
+  pub hash-end : length name ≤ i → h ≡ hashFrom k 0 name
+  unfolding hashFrom
+  hash-end l = sym (ap (hashFrom k h) (drop-of-length-le name {i = i} l)) ∙ inv
+
+pub hash-low : (n : ℕ) → n % 2147483647 < 2147483647
+hash-low n = mod-lt n (omega arith)
+
+pub slot-is : (text : List ℕ) (k span : ℕ) (t : Token) (name : List ℕ) (h : ℕ) → name ≡ part text (t .start) (t .end) → h ≡ hashFrom k 0 name → h % span ≡ slotOf text k span t
+unfolding slotOf
+slot-is text k span t name h e q = ap (λ (h : ℕ). h % span) (q ∙ ap (hashFrom k 0) e)
+
+pub slot-low : (n span : ℕ) → 0 < span → n % span < span
+slot-low n span h = mod-lt n h
+
+-- ---- a slot
+module _ (text : List ℕ) (ts : List Token) (t : Token) (v : ℕ) where
+  pub stops-empty : v ≡ 0 → true ≡ stops text ts t v
+  unfolding stops
+  stops-empty e = rw (eq-eqb v 0 e)
+
+  pub stops-filled : (u : Token) (i : ℕ) (r : Bool) → (v ≡ 0 → ⊥) → i ≡ v - 1 → u ≡ peek ts i → r ≡ sameWord text t u → r ≡ stops text ts t v
+  unfolding stops
+  stops-filled u i r n e q z = rw (ne-eqb v 0 n) (z ∙ ap (sameWord text t) (q ∙ ap (peek ts) e))
+
+  pub stops-no : stops text ts t v ≡ false → (v ≡ 0 → ⊥) × (sameWord text t (peek ts (v - 1)) ≡ false)
+  unfolding stops
+  stops-no e = by-test (eqb v 0) (λ y. let z : true ≡ false = rw y at e in absurd (let o : _≡_ {A = ℕ} 0 1 = cc in omega arith))
+      (λ n. ((λ q. let z : true ≡ false = sym (eq-eqb v 0 q) ∙ n in let o : _≡_ {A = ℕ} 0 1 = cc in omega arith), rw n at e))
+
+  pub stops-yes : stops text ts t v ≡ true → (v ≡ 0 → ⊥) → sameWord text t (peek ts (v - 1)) ≡ true
+  unfolding stops
+  stops-yes e n = rw (ne-eqb v 0 n) at e
+
+pub filled-empty : (v x : ℕ) → v ≡ 0 → x + 1 ≡ filled v x
+unfolding filled
+filled-empty v x e = rw (eq-eqb v 0 e)
+
+pub filled-held : (v x : ℕ) → (v ≡ 0 → ⊥) → v ≡ filled v x
+unfolding filled
+filled-held v x n = rw (ne-eqb v 0 n)
+
+-- ---- the search over a window
+pub record Probing (text : List ℕ) (ts : List Token) (w : List ℕ) (at window : ℕ) (t : Token) (d : ℕ) : Type 0 where
+  pub low : d ≤ window
+  pub passed : (i : ℕ) → i < d → stops text ts t (getD w (at + i) 0) ≡ false
+
+module _ (text : List ℕ) (ts : List Token) (w : List ℕ) (at window : ℕ) (t : Token) where
+  pub probing-start : Probing text ts w at window t 0
+  probing-start = record { low = omega arith; passed = λ i h. absurd (omega arith) }
+
+  module _ (d : ℕ) (p : Probing text ts w at window t d) where
+    pub probing-on : (b : Bool) → d < window → b ≡ stops text ts t (getD w (at + d) 0) → b ≡ false → Probing text ts w at window t (d + 1)
+    probing-on b l e f = record {
+      low = omega arith;
+      passed = λ i h. by-equal i d (λ q. ap (λ (i : ℕ). stops text ts t (getD w (at + i) 0)) q ∙ sym e ∙ f) (λ n. p .passed i (omega arith));
+    }
+
+    pub probing-here : (b : Bool) → d < window → b ≡ stops text ts t (getD w (at + d) 0) → b ≡ true → Probed text ts w at window t d
+    probing-here b l e f = record { low = p .low; passed = p .passed; here = λ h. sym e ∙ f }
+
+    pub probing-end : window ≤ d → Probed text ts w at window t d
+    probing-end h = record { low = p .low; passed = p .passed; here = λ l. absurd (omega arith) }
+
+-- ---- a word stored
+pub stored : (w : List ℕ) (slot name x v : ℕ) → v ≡ filled (getD w slot 0) x
+    → set (set w slot v) name (v - 1) ≡ set (set w slot (filled (getD w slot 0) x)) name (filled (getD w slot 0) x - 1)
+stored w slot name x v e = ap (λ (v : ℕ). set (set w slot v) name (v - 1)) e
+
+pub tried-false : {P : Type 0} {a : ℕ} {w₀ w : List ℕ} → Kept a w₀ w → Tried P a w₀ w false
+tried-false k = record { kept = k; done = λ e. absurd (let o : _≡_ {A = ℕ} 0 1 = cc in omega arith) }
+
+module _ (text : List ℕ) (count a b span window k : ℕ) (w : List ℕ) (room : Room count a b span window k w) where
+  pub room-rows : 4 * count ≤ length w
+  room-rows = omega (arith, room .tokens, room .words, room .table)
+
+module _ (text : List ℕ) (count a b span window k : ℕ) (w : List ℕ) (x : ℕ) (room : Room count a b span window k w) (ix : Indexed text (rows count w) a b span window k w x) (low : x < count) (t : Token)
+    (at-x : t ≡ peek (rows count w) x) where
+  abbrev ts : List Token
+  ts = rows count w
+
+  abbrev u : Token
+  u = peek (rows count w) x
+
+  inside : x < length ts
+  inside = omega (arith, length-rows count w (room-rows text count a b span window k w room))
+
+  pub enter-full : Tried (Indexed text ts a b span window k w (x + 1)) a w w false
+  enter-full = tried-false (kept-refl a w)
+
+  pub enter-other : (t .kind ≡ 0 → ⊥) → Tried (Indexed text ts a b span window k w (x + 1)) a w w true
+  enter-other n =
+      let no : isWord u ≡ false = ap isWord (sym at-x) ∙ ne-eqb (t .kind) 0 n in
+      let before : (y : ℕ) → y < x + 1 → isWord (peek ts y) ≡ true → y < x =
+      λ y h e. by-equal y x (λ q. absurd (let z : true ≡ false = sym e ∙ ap (λ (y : ℕ). isWord (peek ts y)) q ∙ no in let o : _≡_ {A = ℕ} 0 1 = cc in omega arith)) (λ q. omega arith) in
+      record {
+        kept = kept-refl a w;
+        done = λ _.
+            record { names = λ y h e. ix .names y (before y h e) e; held = ix .held; reached = λ y h e. ix .reached y (before y h e) e };
+      }
+
+  module _ (kind : t .kind ≡ 0) (s d : ℕ) (slot : s ≡ slotOf text k span t) (slot-in : s < span) (probed : Probed text ts w (b + s) window t d) (short : d < window) where
+    abbrev f : ℕ
+    f = firstEqual text u 0 ts
+
+    abbrev j : ℕ
+    j = b + s + d
+
+    abbrev v : ℕ
+    v = getD w (b + s + d) 0
+
+    word : isWord u ≡ true
+    word = ap isWord (sym at-x) ∙ eq-eqb (t .kind) 0 kind
+
+    p : Probed text ts w (b + s) window u d
+    p = subst (λ (t : Token). Probed text ts w (b + s) window t d) at-x probed
+
+    own-slot : slotOf text k span u ≡ s
+    own-slot = ap (slotOf text k span) (sym at-x) ∙ sym slot
+
+    same-slot : (y : ℕ) → sameWord text u (peek ts y) ≡ true → slotOf text k span (peek ts y) ≡ s
+    unfolding slotOf
+    same-slot y e = ap (λ (l : List ℕ). hashFrom k 0 l % span) (word-part text u (peek ts y) e) ∙ own-slot
+
+    -- an empty slot ends the search of a word that is the first of its name
+    empty-first : v ≡ 0 → f ≡ x
+    empty-first z = by-equal f x (λ e. e) (λ n. absurd (never n))
+      where
+        never : (f ≡ x → ⊥) → ⊥
+        never n =
+            let fl : f < x = omega (arith, first-before text ts x inside word) in
+            let r : Reached text ts b span k w (peek ts f) = ix .reached f fl (first-word text ts x inside word) in
+            let sl : slotOf text k span (peek ts f) ≡ s = same-slot f (first-equal text ts x inside word) in
+            let h : getD w (b + s + r .steps) 0 ≡ f + 1 = ap (λ (s : ℕ). getD w (b + s + r .steps) 0) (sym sl) ∙ r .here ∙ ap (λ (n : ℕ). n + 1) (first-again text ts x inside word) in
+            let less : r .steps < d → ⊥ = λ l.
+            let g : getD w (b + s + r .steps) 0 - 1 ≡ f = omega arith in
+            let q : false ≡ true = sym (stops-no text ts u (getD w (b + s + r .steps) 0) (p .passed (r .steps) l) .1) ∙ ap (λ (i : ℕ). sameWord text u (peek ts i)) g ∙ first-equal text ts x inside word in
+            (let o : _≡_ {A = ℕ} 0 1 = cc in omega arith) in
+            let equal : r .steps ≡ d → ⊥ = λ e. let q : getD w (b + s + r .steps) 0 ≡ 0 = ap (λ (i : ℕ). getD w (b + s + i) 0) e ∙ z in omega arith in
+            let more : d < r .steps → ⊥ = λ l. r .passed d l (ap (λ (s : ℕ). getD w (b + s + d) 0) sl ∙ z) in
+            by-equal (r .steps) d equal (λ n. by-test (ltb (r .steps) d) (λ y. less (ltb-true (r .steps) d y)) (λ y. more (omega (arith, ltb-false (r .steps) d y))))
+
+    -- a filled slot that ends it holds the first
+    held-first : (v ≡ 0 → ⊥) → v ≡ f + 1
+    held-first n =
+        let e : sameWord text u (peek ts (v - 1)) ≡ true = stops-yes text ts u v (p .here short) n in
+        let g : f ≡ v - 1 = first-same text u (peek ts (v - 1)) 0 ts (sym (word-part text u (peek ts (v - 1)) e)) ∙ ix .held j (omega arith) (omega arith) n in
+        omega arith
+
+    new : filled v x ≡ f + 1
+    new = by-equal v 0 (λ z. sym (filled-empty v x z) ∙ ap (λ (n : ℕ). n + 1) (sym (empty-first z))) (λ n. sym (filled-held v x n) ∙ held-first n)
+
+    module _ (w′ : List ℕ) (e : w′ ≡ set (set w (b + s + d) (filled (getD w (b + s + d) 0) x)) (a + x) (filled (getD w (b + s + d) 0) x - 1)) where
+      e′ : w′ ≡ set (set w j (f + 1)) (a + x) f
+      e′ = let z : f + 1 - 1 ≡ f = omega arith in e ∙ ap (λ (n : ℕ). set (set w j n) (a + x) (n - 1)) new ∙ ap (set (set w j (f + 1)) (a + x)) z
+
+      apart : (i : ℕ) → b ≤ i → i ≡ a + x → ⊥
+      apart i h q = omega (arith, room .words)
+
+      at-slot : getD w′ j 0 ≡ f + 1
+      at-slot = ap (λ (l : List ℕ). getD l j 0) e′ ∙ getD-set-other (set w j (f + 1)) (a + x) j f 0 (apart j (omega arith)) ∙ getD-set-same w j (f + 1) 0 (omega (arith, room .table))
+
+      elsewhere : (i : ℕ) → b ≤ i → (i ≡ j → ⊥) → getD w′ i 0 ≡ getD w i 0
+      elsewhere i h n = ap (λ (l : List ℕ). getD l i 0) e′ ∙ getD-set-other (set w j (f + 1)) (a + x) i f 0 (apart i h) ∙ getD-set-other w j i (f + 1) 0 n
+
+      keeps : (i : ℕ) → b ≤ i → (getD w i 0 ≡ 0 → ⊥) → getD w′ i 0 ≡ getD w i 0
+      keeps i h n =
+          by-equal i j (λ q. ap (λ (i : ℕ). getD w′ i 0) q ∙ at-slot ∙ sym (held-first (λ z. n (ap (λ (i : ℕ). getD w i 0) q ∙ z))) ∙ ap (λ (i : ℕ). getD w i 0) (sym q)) (λ q. elsewhere i h q)
+
+      name-at : getD w′ (a + x) 0 ≡ f
+      name-at = ap (λ (l : List ℕ). getD l (a + x) 0) e′ ∙ getD-set-same (set w j (f + 1)) (a + x) f 0 (omega (arith, length-set w j (f + 1), room .words, room .table))
+
+      name-other : (y : ℕ) → y < x → getD w′ (a + y) 0 ≡ getD w (a + y) 0
+      name-other y h =
+          ap (λ (l : List ℕ). getD l (a + y) 0) e′ ∙ getD-set-other (set w j (f + 1)) (a + x) (a + y) f 0 (λ q. omega arith)
+          ∙ getD-set-other w j (a + y) (f + 1) 0 (λ q. omega (arith, room .words))
+
+      itself : Reached text ts b span k w′ u
+      itself = record {
+        steps = d;
+        passed = λ i l z.
+            let n : getD w (b + s + i) 0 ≡ 0 → ⊥ = stops-no text ts u (getD w (b + s + i) 0) (p .passed i l) .0 in
+            n (sym (keeps (b + s + i) (omega arith) n) ∙ ap (λ (s : ℕ). getD w′ (b + s + i) 0) (sym own-slot) ∙ z);
+        here = ap (λ (s : ℕ). getD w′ (b + s + d) 0) own-slot ∙ at-slot;
+      }
+
+      still : (y : ℕ) → Reached text ts b span k w (peek ts y) → Reached text ts b span k w′ (peek ts y)
+      still y r =
+          let o : ℕ = b + slotOf text k span (peek ts y) in
+          record {
+            steps = r .steps;
+            passed = λ i l z. r .passed i l (sym (keeps (o + i) (omega arith) (r .passed i l)) ∙ z);
+            here = keeps (o + r .steps) (omega arith) (λ z. omega (arith, r .here)) ∙ r .here;
+          }
+
+      pub enter-word : Tried (Indexed text (rows count w) a b span window k w′ (x + 1)) a w w′ true
+      enter-word = record {
+        kept = record {
+          front = ap (take a) e′ ∙ take-set-le a (set w j (f + 1)) (a + x) f (omega arith) ∙ take-set-le a w j (f + 1) (omega (arith, room .words));
+          size = ap length e′ ∙ length-set (set w j (f + 1)) (a + x) f ∙ length-set w j (f + 1);
+        };
+        done = λ _. record {
+          names = λ y h e.
+              by-equal y x (λ q. ap (λ (y : ℕ). getD w′ (a + y) 0) q ∙ name-at ∙ ap (λ (y : ℕ). firstEqual text (peek ts y) 0 ts) (sym q))
+              (λ q. let l : y < x = omega arith in name-other y l ∙ ix .names y l e);
+          held = λ i l h n.
+              by-equal i j
+              (λ q.
+              let g : getD w′ i 0 - 1 ≡ f = omega (arith, ap (λ (i : ℕ). getD w′ i 0) q, at-slot) in
+              ap (λ (m : ℕ). firstEqual text (peek ts m) 0 ts) g ∙ first-again text ts x inside word ∙ sym g)
+              (λ q.
+              let g : getD w′ i 0 ≡ getD w i 0 = elsewhere i l q in
+              ap (λ (m : ℕ). firstEqual text (peek ts (m - 1)) 0 ts) g ∙ ix .held i l h (λ z. n (g ∙ z)) ∙ ap (λ (m : ℕ). m - 1) (sym g));
+          reached = λ y h e.
+              by-equal y x (λ q. subst (λ (y : ℕ). Reached text ts b span k w′ (peek ts y)) (sym q) itself) (λ q. still y (ix .reached y (omega arith) e));
+        };
+      }
+
+-- ---- the table emptied
+module _ (text : List ℕ) (count a b span window k : ℕ) (w : List ℕ) (room : Room count a b span window k w) (v : List ℕ)
+    (cleared : v ≡ replicate (length (midOf b (b + span + window - b) w)) 0) where
+  abbrev m : ℕ
+  m = b + span + window - b
+
+  mid-is : length (midOf b m w) ≡ span + window
+  mid-is = mid-len b (b + span + window) w (room .table) ∙ omega arith
+
+  pub clear-kept : Kept a w (putMid b (b + span + window - b) w v)
+  clear-kept =
+      let le : a ≤ b = omega (arith, room .words) in
+      record {
+        front = sym (take-take a b (putMid b m w v) le) ∙ ap (take a) (take-put b m w v (omega (arith, room .table))) ∙ take-take a b w le;
+        size = same-len-mid b m w v (ap length cleared ∙ length-replicate (length (midOf b m w)) 0);
+      }
+
+  zero-at : (i : ℕ) → b ≤ i → i < b + span + window → getD (putMid b m w v) i 0 ≡ 0
+  zero-at i l h =
+      let z : i ≡ b + (i - b) = omega arith in
+      let lb : length (take b w) ≡ b = length-take-le b w (omega (arith, room .table)) in
+      let lv : length v ≡ span + window = ap length cleared ∙ length-replicate (length (midOf b m w)) 0 ∙ mid-is in
+      ap (λ (n : ℕ). getD (putMid b m w v) n 0) z
+      ∙ ap (λ (n : ℕ). getD (putMid b m w v) (n + (i - b)) 0) (sym lb)
+      ∙ getD-append-add (take b w) (v ++ postOf b m w) (i - b) 0
+      ∙ List·getD-append v (postOf b m w) 0 (i - b) (omega arith)
+      ∙ ap (λ (r : List ℕ). getD r (i - b) 0) cleared
+      ∙ getD-replicate (length (midOf b m w)) (i - b) 0 0 (omega (arith, mid-is))
+
+  pub clear-indexed : Indexed text (rows count w) a b span window k (putMid b (b + span + window - b) w v) 0
+  clear-indexed = record { names = λ x h e. absurd (omega arith); held = λ j l h n. absurd (n (zero-at j l h)); reached = λ x h e. absurd (omega arith) }
+
+-- ---- all tokens
+pub record Indexing (text : List ℕ) (count a b span window k : ℕ) (w₀ w : List ℕ) (x : ℕ) : Type 0 where
+  pub kept : Kept a w₀ w
+  pub room : Room count a b span window k w
+  pub indexed : Indexed text (rows count w) a b span window k w x
+
+module _ (text : List ℕ) (count a b span window k : ℕ) where
+  kept-room : {w₀ w : List ℕ} → Kept a w₀ w → Room count a b span window k w₀ → Room count a b span window k w
+  kept-room e r = record { tokens = r .tokens; words = r .words; table = omega (arith, e .size, r .table); some = r .some; few = r .few; base = r .base }
+
+  pub indexing-start : (w₀ w : List ℕ) → Room count a b span window k w₀ → Kept a w₀ w → Indexed text (rows count w₀) a b span window k w 0 → Indexing text count a b span window k w w 0
+  indexing-start w₀ w r e i = record {
+    kept = kept-refl a w;
+    room = kept-room e r;
+    indexed = subst (λ (ts : List Token). Indexed text ts a b span window k w 0) (sym (kept-rows count a w₀ w e (r .tokens))) i;
+  }
+
+  module _ (w₀ w w′ : List ℕ) (x : ℕ) (i : Indexing text count a b span window k w₀ w x) (r : Bool) (tried : Tried (Indexed text (rows count w) a b span window k w′ (x + 1)) a w w′ r) where
+    pub indexing-on : r ≡ true → Indexing text count a b span window k w₀ w′ (x + 1)
+    indexing-on e = record {
+      kept = kept-trans a w₀ w w′ (i .kept) (tried .kept);
+      room = kept-room (tried .kept) (i .room);
+      indexed = subst (λ (ts : List Token). Indexed text ts a b span window k w′ (x + 1)) (sym (kept-rows count a w w′ (tried .kept) (i .room .tokens))) (tried .done e);
+    }
+
+    pub indexing-full : (w₁ : List ℕ) → Kept a w₁ w₀ → Tried (Interned text (rows count w₁) a w′) a w₁ w′ false
+    indexing-full w₁ e = tried-false (kept-trans a w₁ w w′ (kept-trans a w₁ w₀ w e (i .kept)) (tried .kept))
+
+  pub indexing-end : (w₁ w₀ w : List ℕ) (x : ℕ) → Kept a w₁ w₀ → Indexing text count a b span window k w₀ w x → count ≤ x → Tried (Interned text (rows count w₁) a w) a w₁ w true
+  indexing-end w₁ w₀ w x e i h =
+      let kept : Kept a w₁ w = kept-trans a w₁ w₀ w e (i .kept) in
+      let n : length (rows count w) ≡ count = length-rows count w (room-rows text count a b span window k w (i .room)) in
+      record {
+        kept = kept;
+        done = λ _.
+            subst (λ (ts : List Token). Interned text ts a w) (kept-rows count a w₁ w kept (i .room .tokens)) (record { interned = λ y l q. i .indexed .names y (omega arith) q });
+      }
+
+-- ---- without an index
+first-bound : (text : List ℕ) (t : Token) (i : ℕ) (us : List Token) → firstEqual text t i us ≤ i + length us
+unfolding firstEqual
+first-bound text t i [] = omega arith
+first-bound text t i (u ∷ us) = go (sameWord text t u) (first-bound text t (suc i) us)
+  where
+    go : (b : Bool) → firstEqual text t (suc i) us ≤ suc i + length us → elim b [ true ↦ i | false ↦ firstEqual text t (suc i) us ] ≤ i + suc (length us)
+    go true h = omega arith
+    go false h = omega arith
+
+pub record Searching (text : List ℕ) (count a : ℕ) (w₀ w : List ℕ) (x : ℕ) : Type 0 where
+  pub kept : Kept a w₀ w
+  pub row : rows count w ≡ rows count w₀
+  pub names : (y : ℕ) → y < x → getD w (a + y) 0 ≡ firstEqual text (peek (rows count w₀) y) 0 (rows count w₀)
+
+module _ (text : List ℕ) (count a : ℕ) where
+  pub searching-start : (w : List ℕ) → Searching text count a w w 0
+  searching-start w = record { kept = kept-refl a w; row = refl; names = λ y h. absurd (omega arith) }
+
+  module _ (w₀ w : List ℕ) (x : ℕ) (s : Searching text count a w₀ w x) (tokens : 4 * count ≤ a) (long : a + count ≤ length w₀) where
+    pub searching-room : 4 * count ≤ length w
+    searching-room = omega (arith, s .kept .size)
+
+    module _ (t : Token) (f : ℕ) (low : x < count) (at : t ≡ peek (rows count w) x) (first : f ≡ firstEqual text t 0 (rows count w)) where
+      pub searching-fits : count < 2 ^ 31 → Fits w32 f
+      searching-fits h = record { fits = omega (arith, first-bound text t 0 (rows count w), length-rows count w searching-room) }
+
+      pub searching-on : Searching text count a w₀ (set w (a + x) f) (x + 1)
+      searching-on =
+          let w′ : List ℕ = set w (a + x) f in
+          let kept : Kept a w w′ = record { front = take-set-le a w (a + x) f (omega arith); size = length-set w (a + x) f } in
+          let is : f ≡ firstEqual text (peek (rows count w₀) x) 0 (rows count w₀) =
+          first ∙ ap (λ (t : Token). firstEqual text t 0 (rows count w)) at ∙ ap (λ (r : List Token). firstEqual text (peek r x) 0 r) (s .row) in
+          record {
+            kept = kept-trans a w₀ w w′ (s .kept) kept;
+            row = kept-rows count a w w′ kept tokens ∙ s .row;
+            names = λ y h.
+                by-equal y x
+                (λ q.
+                ap (λ (y : ℕ). getD w′ (a + y) 0) q ∙ getD-set-same w (a + x) f 0 (omega (arith, s .kept .size)) ∙ is
+                ∙ ap (λ (y : ℕ). firstEqual text (peek (rows count w₀) y) 0 (rows count w₀)) (sym q))
+                (λ n. getD-set-other w (a + x) (a + y) f 0 (λ q. n (omega arith)) ∙ s .names y (omega arith));
+          }
+
+    pub searching-kept : Kept a w₀ w
+    searching-kept = s .kept
+
+    pub searching-end : count ≤ x → Interned text (rows count w₀) a w
+    searching-end h = record { interned = λ y l e. s .names y (omega (arith, length-rows count w₀ (omega arith))) }
+
+-- ---- one base after another
+module _ (text : List ℕ) (count a b size window : ℕ) where
+  pub base-room : (w₀ w : List ℕ) (k : ℕ) → 4 * count ≤ a → a + count ≤ b → b + size ≤ length w₀ → window < size → count < 2 ^ 31 → k < 2 ^ 31 → Kept a w₀ w → Room count a b (size - window) window k w
+  base-room w₀ w k t o l h f g e = record { tokens = t; words = o; table = omega (arith, e .size); some = omega arith; few = f; base = g }
+
+module _ (text : List ℕ) (count a : ℕ) (w₀ w w′ : List ℕ) (kept : Kept a w₀ w) (tokens : 4 * count ≤ a) where
+  module _ (r : Bool) (tried : Tried (Interned text (rows count w) a w′) a w w′ r) where
+    pub base-kept : Kept a w₀ w′
+    base-kept = kept-trans a w₀ w w′ kept (tried .kept)
+
+    pub base-done : r ≡ true → Interned text (rows count w₀) a w′
+    base-done e = subst (λ (ts : List Token). Interned text ts a w′) (kept-rows count a w₀ w kept tokens) (tried .done e)
+
+  pub last-kept : Kept a w w′ → Kept a w₀ w′
+  last-kept e = kept-trans a w₀ w w′ kept e
+
+  pub last-done : Interned text (rows count w) a w′ → Interned text (rows count w₀) a w′
+  last-done i = subst (λ (ts : List Token). Interned text ts a w′) (kept-rows count a w₀ w kept tokens) i

@@ -1,0 +1,63 @@
+-- An index of names: a table of slots, each 0 or 1 and the index of a first equal word, in which a name is looked for from its hash on.
+use Prim.Native.Nat.{ℕ, _+_, _-_, _*_, _%_, _≤_, _<_, _^_}
+use mathlib.Core.Path.{_≡_}
+use mathlib.Core.Bool.{Bool, true, false, cond}
+use mathlib.Core.List.{List, [], _∷_}
+use lib.Dec.{eqb}
+use lib.ListN.{length, getD}
+use Rattle.lexer.specs.Places.{part}
+use Rattle.tokens.specs.declared.Token.{Token}
+use Rattle.parser.specs.Row.{peek}
+use Rattle.equal_names.specs.Rows.{Kept}
+use Rattle.equal_names.specs.Names.{isWord, sameWord, firstEqual}
+
+-- the hash of bytes behind others whose hash is h: digits to the base k, modulo a prime
+unfoldable pub hashFrom : ℕ → ℕ → List ℕ → ℕ
+hashFrom k h [] = h
+hashFrom k h (c ∷ r) = hashFrom k ((h * k + c) % 2147483647) r
+
+-- where a token's name is looked for first, in a table with `span` places to begin
+unfoldable pub slotOf : List ℕ → ℕ → ℕ → Token → ℕ
+unfolding hashFrom
+slotOf text k span t = hashFrom k 0 (part text (t .start) (t .end)) % span
+
+-- the search for t ends at a slot that holds v: it is empty, or its word has the characters of t
+unfoldable pub stops : List ℕ → List Token → Token → ℕ → Bool
+unfolding sameWord
+stops text ts t v = cond (eqb v 0) true (sameWord text t (peek ts (v - 1)))
+
+-- what a slot that held v holds once the word x was looked for
+unfoldable pub filled : ℕ → ℕ → ℕ
+filled v x = cond (eqb v 0) (x + 1) v
+
+-- the search for t over the slots from `at` on ends at the distance d, or finds no end in the window
+pub record Probed (text : List ℕ) (ts : List Token) (w : List ℕ) (at window : ℕ) (t : Token) (d : ℕ) : Type 0 where
+  pub low : d ≤ window
+  pub passed : (i : ℕ) → i < d → stops text ts t (getD w (at + i) 0) ≡ false
+  pub here : d < window → stops text ts t (getD w (at + d) 0) ≡ true
+
+-- where the rows stand: the tokens, the row of first equal words at a, the table at b
+pub record Room (count a b span window k : ℕ) (w : List ℕ) : Type 0 where
+  pub tokens : 4 * count ≤ a
+  pub words : a + count ≤ b
+  pub table : b + span + window ≤ length w
+  pub some : 0 < span
+  pub few : count < 2 ^ 31
+  pub base : k < 2 ^ 31
+
+-- the search for the token u gets to its first equal word: every slot before it is filled
+pub record Reached (text : List ℕ) (ts : List Token) (b span k : ℕ) (w : List ℕ) (u : Token) : Type 0 where
+  pub steps : ℕ
+  pub passed : (i : ℕ) → i < steps → getD w (b + slotOf text k span u + i) 0 ≡ 0 → ⊥
+  pub here : getD w (b + slotOf text k span u + steps) 0 ≡ firstEqual text u 0 ts + 1
+
+-- the words before the token n are in the row of first equal words and in the table, which holds only first equal words
+pub record Indexed (text : List ℕ) (ts : List Token) (a b span window k : ℕ) (w : List ℕ) (n : ℕ) : Type 0 where
+  pub names : (x : ℕ) → x < n → isWord (peek ts x) ≡ true → getD w (a + x) 0 ≡ firstEqual text (peek ts x) 0 ts
+  pub held : (j : ℕ) → b ≤ j → j < b + span + window → (getD w j 0 ≡ 0 → ⊥) → firstEqual text (peek ts (getD w j 0 - 1)) 0 ts ≡ getD w j 0 - 1
+  pub reached : (x : ℕ) → x < n → isWord (peek ts x) ≡ true → Reached text ts b span k w (peek ts x)
+
+-- what is tried keeps the words in front of a, and where it is done, P holds
+pub record Tried (P : Type 0) (a : ℕ) (w₀ w : List ℕ) (r : Bool) : Type 0 where
+  pub kept : Kept a w₀ w
+  pub done : r ≡ true → P

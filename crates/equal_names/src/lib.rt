@@ -1,0 +1,269 @@
+// Equal names: for each word the first that equals it, found by an index of the names.
+ghost use mathlib.Core.Path.{_≡_};
+ghost use Prim.Native.Nat.{_+_, _*_, _-_, _<_, _≤_, _^_};
+ghost use lib.ListN.{length, getD, set};
+ghost use Rattle.parser.specs.Row.{peek};
+ghost use Rattle.equal_names.specs.Rows.{rows, Kept};
+ghost use Rattle.equal_names.specs.Names.{sameWord, firstEqual, Interned};
+ghost use Rattle.equal_names.specs.Index.{hashFrom, slotOf, stops, filled, Probed, Room, Indexed, Tried};
+use lexer::Span;
+use lexer::kind;
+use lexer::names;
+use tokens::Token;
+
+// The modulus of the hash, a prime.
+const PRIME: usize = 2147483647;
+
+// How many bases are tried.
+const BASES: usize = 4;
+
+// A byte as a number.
+fn byte(x: u8) -> usize
+    ensures { λ r. ⌜ (r ≡ x) × (r < 256) ⌝ }
+{
+    x as usize
+}
+
+// A word as an index.
+fn wide(x: u32) -> usize
+    ensures { λ r. ⌜ (r ≡ x) × (r < 2 ^ 32) ⌝ }
+{
+    x as usize
+}
+
+// The token at an index; past the last one, a line feed.
+fn token_at(work: &[u32], count: usize, at: usize) -> Token
+    requires { ⌜ 4 * count ≤ length (now work) ⌝ }
+    ensures { λ r. ⌜ r ≡ peek (rows count (now (work .entry))) at ⌝ }
+{
+    if at < count {
+        return tokens::token_at(work, at);
+    }
+    Token {
+        kind: kind::NEWLINE,
+        start: 0,
+        end: 0,
+        value: 0,
+    }
+}
+
+// Whether u is a word with the characters of t.
+fn same_word(text: &[u8], t: Token, u: Token) -> bool
+    ensures { λ r. ⌜ r ≡ sameWord (now (text .entry)) t u ⌝ }
+{
+    if u.kind != kind::WORD {
+        return false;
+    }
+    let a = Span {
+        start: u.start,
+        end: u.end,
+    };
+    let b = Span {
+        start: t.start,
+        end: t.end,
+    };
+    names::same_name(text, a, b)
+}
+
+// The hash of a name, to the base k.
+fn hash(name: &[u8], k: usize) -> usize
+    requires { ⌜ k < 2 ^ 31 ⌝ }
+    ensures { λ r. ⌜ (r ≡ hashFrom k 0 (now (name .entry))) × (r < 2 ^ 31) ⌝ }
+{
+    let mut h = 0;
+    let mut i = 0;
+    while i < name.len() {
+        h = (h * k + byte(name[i])) % PRIME;
+        i += 1;
+    }
+    h
+}
+
+// Where the name of t is looked for first.
+fn slot_of(text: &[u8], k: usize, span: usize, t: Token) -> usize
+    requires { ⌜ (k < 2 ^ 31) × (0 < span) ⌝ }
+    ensures { λ r. ⌜ (r ≡ slotOf (now (text .entry)) k span t) × (r < span) ⌝ }
+{
+    let name = names::part_of(text, t.start as usize, t.end as usize);
+    hash(name, k) % span
+}
+
+// Whether the search for t ends at a slot that holds v.
+fn stops_at(text: &[u8], work: &[u32], count: usize, t: Token, v: u32) -> bool
+    requires { ⌜ 4 * count ≤ length (now work) ⌝ }
+    ensures { λ r. ⌜ r ≡ stops (now (text .entry)) (rows count (now (work .entry))) t v ⌝ }
+{
+    if v == 0 {
+        return true;
+    }
+    let u = token_at(work, count, wide(v - 1));
+    same_word(text, t, u)
+}
+
+// Looks for t in a window of slots: the distance at which the search ends, or the window's length.
+fn probe(text: &[u8], work: &[u32], count: usize, at: usize, window: usize, t: Token) -> usize
+    requires { ⌜ (4 * count ≤ length (now work)) × (at + window ≤ length (now work)) ⌝ }
+    ensures { λ r. ⌜ Probed (now (text .entry)) (rows count (now (work .entry))) (now (work .entry)) at window t r ⌝ }
+{
+    let mut d = 0;
+    while d < window {
+        if stops_at(text, work, count, t, work[at + d]) {
+            return d;
+        }
+        d += 1;
+    }
+    d
+}
+
+// What a slot that held v holds once the word x was looked for.
+fn fill(v: u32, x: usize) -> u32
+    requires { ⌜ x < 2 ^ 31 ⌝ }
+    ensures { λ r. ⌜ (r ≡ filled v x) × (0 < r) ⌝ }
+{
+    if v == 0 {
+        return x as u32 + 1;
+    }
+    v
+}
+
+// Stores the word x in its slot, if that is empty, and the slot's word as the first that equals x.
+fn store(work: &mut [u32], slot: usize, name: usize, x: usize)
+    requires { ⌜ (slot < length (now work)) × (name < length (now work)) × (x < 2 ^ 31) ⌝ }
+    ensures { λ _. ⌜ now (work .exit) ≡ set (set (now (work .entry)) slot (filled (getD (now (work .entry)) slot 0) x)) name (filled (getD (now (work .entry)) slot 0) x - 1) ⌝ }
+{
+    let v = fill(work[slot], x);
+    work[slot] = v;
+    work[name] = v - 1;
+}
+
+// Enters the token x, if it is a word; false where its window is full.
+fn enter_token(
+    text: &[u8],
+    work: &mut [u32],
+    count: usize,
+    a: usize,
+    b: usize,
+    span: usize,
+    window: usize,
+    k: usize,
+    x: usize,
+) -> bool
+    requires { ⌜ Room count a b span window k (now work) × Indexed (now text) (rows count (now work)) a b span window k (now work) x × (x < count) ⌝ }
+    ensures { λ r. ⌜ Tried (Indexed (now (text .entry)) (rows count (now (work .entry))) a b span window k (now (work .exit)) (x + 1)) a (now (work .entry)) (now (work .exit)) r ⌝ }
+{
+    let t = token_at(work, count, x);
+    if t.kind != kind::WORD {
+        return true;
+    }
+    let at = b + slot_of(text, k, span, t);
+    let d = probe(text, work, count, at, window, t);
+    if d < window {
+        store(work, at + d, a + x, x);
+        return true;
+    }
+    false
+}
+
+// Empties the table.
+fn clear_table(
+    text: &[u8],
+    work: &mut [u32],
+    count: usize,
+    a: usize,
+    b: usize,
+    span: usize,
+    window: usize,
+    k: usize,
+)
+    requires { ⌜ Room count a b span window k (now work) ⌝ }
+    ensures { λ _. ⌜ Kept a (now (work .entry)) (now (work .exit)) × Indexed (now (text .entry)) (rows count (now (work .entry))) a b span window k (now (work .exit)) 0 ⌝ }
+{
+    let e = b + span + window;
+    diag::clear(&mut work[b..e]);
+}
+
+// The row of first equal words by an index with the base k; false where a window is full.
+fn index(
+    text: &[u8],
+    work: &mut [u32],
+    count: usize,
+    a: usize,
+    b: usize,
+    span: usize,
+    window: usize,
+    k: usize,
+) -> bool
+    requires { ⌜ Room count a b span window k (now work) ⌝ }
+    ensures { λ r. ⌜ Tried (Interned (now (text .entry)) (rows count (now (work .entry))) a (now (work .exit))) a (now (work .entry)) (now (work .exit)) r ⌝ }
+{
+    clear_table(text, work, count, a, b, span, window, k);
+    let mut x = 0;
+    while x < count {
+        if enter_token(text, work, count, a, b, span, window, k, x) {
+            x += 1;
+        } else {
+            return false;
+        }
+    }
+    true
+}
+
+// The index of the first word that has the characters of t; the number of tokens if there is none.
+fn first_equal(text: &[u8], work: &[u32], count: usize, t: Token) -> usize
+    requires { ⌜ 4 * count ≤ length (now work) ⌝ }
+    ensures { λ r. ⌜ r ≡ firstEqual (now (text .entry)) t 0 (rows count (now (work .entry))) ⌝ }
+{
+    let mut i = 0;
+    while i < count {
+        let u = token_at(work, count, i);
+        if same_word(text, t, u) {
+            return i;
+        }
+        i += 1;
+    }
+    i
+}
+
+// The row of first equal words without an index, each looked for from the first token on.
+fn search(text: &[u8], work: &mut [u32], count: usize, a: usize)
+    requires { ⌜ (4 * count ≤ a) × (a + count ≤ length (now work)) × (count < 2 ^ 31) ⌝ }
+    ensures { λ _. ⌜ Kept a (now (work .entry)) (now (work .exit)) × Interned (now (text .entry)) (rows count (now (work .entry))) a (now (work .exit)) ⌝ }
+{
+    let mut x = 0;
+    while x < count {
+        let t = token_at(work, count, x);
+        let f = first_equal(text, work, count, t);
+        work[a + x] = f as u32;
+        x += 1;
+    }
+}
+
+// The number of slots in which a name is looked for.
+fn window_of(size: usize) -> usize
+    requires { ⌜ 0 < size ⌝ }
+    ensures { λ r. ⌜ r < size ⌝ }
+{
+    if size < 256 {
+        return size / 2;
+    }
+    128
+}
+
+// The row of first equal words, from the word a on; `size` words from b on are free. A base for which a window is full gives way to the next.
+pub fn intern(text: &[u8], work: &mut [u32], count: usize, a: usize, b: usize, size: usize)
+    requires { ⌜ (4 * count ≤ a) × (a + count ≤ b) × (b + size ≤ length (now work)) × (0 < size) × (count < 2 ^ 31) ⌝ }
+    ensures { λ _. ⌜ Kept a (now (work .entry)) (now (work .exit)) × Interned (now (text .entry)) (rows count (now (work .entry))) a (now (work .exit)) ⌝ }
+{
+    let window = window_of(size);
+    let span = size - window;
+    let mut k = 31;
+    let mut i = 0usize;
+    while i < BASES {
+        k = hash(text, k);
+        if index(text, work, count, a, b, span, window, k) {
+            return;
+        }
+        i += 1;
+    }
+    search(text, work, count, a);
+}
