@@ -26,18 +26,18 @@ by-equal : {X : Type 0} (a b : ℕ) → (a ≡ b → X) → ((a ≡ b → ⊥) �
 by-equal a b f g = by-test (eqb a b) (λ e. f (eqb-true a b e)) (λ n. g (λ q. let z : true ≡ false = sym (eq-eqb a b q) ∙ n in let o : _≡_ {A = ℕ} 0 1 = cc in omega arith))
 
 -- ---- the hash
-pub product-low : (h k : ℕ) → h < 2147483647 → k < 2 ^ 31 → h * k ≤ 2147483647 * 2147483648
-product-low h k l m =
-    let a : h * k ≤ 2147483647 * k = mul-le-mul-right {m = h} {n = 2147483647} k (omega arith) in
-    let b : 2147483647 * k ≤ 2147483647 * 2147483648 = mul-le-mul-left {m = k} {n = 2147483648} 2147483647 (omega arith) in
+pub product-low : (h c k : ℕ) → h < 2147483647 → c < 256 → k < 2 ^ 31 → (h + c) * k ≤ 2147483903 * 2147483648
+product-low h c k l b m =
+    let x : (h + c) * k ≤ 2147483903 * k = mul-le-mul-right {m = h + c} {n = 2147483903} k (omega arith) in
+    let y : 2147483903 * k ≤ 2147483903 * 2147483648 = mul-le-mul-left {m = k} {n = 2147483648} 2147483903 (omega arith) in
     omega arith
 
 module _ (name : List ℕ) (k h i : ℕ) (inv : hashFrom k h (drop i name) ≡ hashFrom k 0 name) where
-  pub hash-on : (c : ℕ) → i < length name → c ≡ getD name i 0 → hashFrom k ((h * k + c) % 2147483647) (drop (i + 1) name) ≡ hashFrom k 0 name
+  pub hash-on : (c : ℕ) → i < length name → c ≡ getD name i 0 → hashFrom k ((h + c) * k % 2147483647) (drop (i + 1) name) ≡ hashFrom k 0 name
   unfolding hashFrom
   hash-on c l e =
-      ap (λ (j : ℕ). hashFrom k ((h * k + c) % 2147483647) (drop j name)) (add-one i)
-      ∙ ap (λ (c : ℕ). hashFrom k ((h * k + c) % 2147483647) (drop (suc i) name)) e
+      ap (λ (j : ℕ). hashFrom k ((h + c) * k % 2147483647) (drop j name)) (add-one i)
+      ∙ ap (λ (c : ℕ). hashFrom k ((h + c) * k % 2147483647) (drop (suc i) name)) e
       ∙ sym (ap (hashFrom k h) (drop-cons name i 0 l)) ∙ inv
 
   pub hash-end : length name ≤ i → h ≡ hashFrom k 0 name
@@ -297,7 +297,7 @@ pub record Indexing (text : List ℕ) (count a b span window k : ℕ) (w₀ w : 
 
 module _ (text : List ℕ) (count a b span window k : ℕ) where
   kept-room : {w₀ w : List ℕ} → Kept a w₀ w → Room count a b span window k w₀ → Room count a b span window k w
-  kept-room e r = record { tokens = r .tokens; words = r .words; table = omega (arith, e .size, r .table); some = r .some; few = r .few; base = r .base }
+  kept-room e r = record { tokens = r .tokens; words = r .words; table = omega (arith, e .size, r .table); some = r .some; few = r .few; factor = r .factor }
 
   pub indexing-start : (w₀ w : List ℕ) → Room count a b span window k w₀ → Kept a w₀ w → Indexed text (rows count w₀) a b span window k w 0 → Indexing text count a b span window k w w 0
   indexing-start w₀ w r e i = record {
@@ -377,18 +377,18 @@ module _ (text : List ℕ) (count a : ℕ) where
     pub searching-end : count ≤ x → Interned text (rows count w₀) a w
     searching-end h = record { interned = λ y l e. s .names y (omega (arith, length-rows count w₀ (omega arith))) }
 
--- ---- one base after another
+-- ---- one factor after another
 module _ (text : List ℕ) (count a b size window : ℕ) where
-  pub base-room : (w₀ w : List ℕ) (k : ℕ) → 4 * count ≤ a → a + count ≤ b → b + size ≤ length w₀ → window < size → count < 2 ^ 31 → k < 2 ^ 31 → Kept a w₀ w → Room count a b (size - window) window k w
-  base-room w₀ w k t o l h f g e = record { tokens = t; words = o; table = omega (arith, e .size); some = omega arith; few = f; base = g }
+  pub factor-room : (w₀ w : List ℕ) (k : ℕ) → 4 * count ≤ a → a + count ≤ b → b + size ≤ length w₀ → window < size → count < 2 ^ 31 → k < 2 ^ 31 → Kept a w₀ w → Room count a b (size - window) window k w
+  factor-room w₀ w k t o l h f g e = record { tokens = t; words = o; table = omega (arith, e .size); some = omega arith; few = f; factor = g }
 
 module _ (text : List ℕ) (count a : ℕ) (w₀ w w′ : List ℕ) (kept : Kept a w₀ w) (tokens : 4 * count ≤ a) where
   module _ (r : Bool) (tried : Tried (Interned text (rows count w) a w′) a w w′ r) where
-    pub base-kept : Kept a w₀ w′
-    base-kept = kept-trans a w₀ w w′ kept (tried .kept)
+    pub factor-kept : Kept a w₀ w′
+    factor-kept = kept-trans a w₀ w w′ kept (tried .kept)
 
-    pub base-done : r ≡ true → Interned text (rows count w₀) a w′
-    base-done e = subst (λ (ts : List Token). Interned text ts a w′) (kept-rows count a w₀ w kept tokens) (tried .done e)
+    pub factor-done : r ≡ true → Interned text (rows count w₀) a w′
+    factor-done e = subst (λ (ts : List Token). Interned text ts a w′) (kept-rows count a w₀ w kept tokens) (tried .done e)
 
   pub last-kept : Kept a w w′ → Kept a w₀ w′
   last-kept e = kept-trans a w₀ w w′ kept e

@@ -11,10 +11,10 @@ use Rattle.parser.specs.Row.{peek}
 use Rattle.equal_names.specs.Rows.{Kept}
 use Rattle.equal_names.specs.Names.{isWord, sameWord, firstEqual}
 
--- the hash of bytes behind others whose hash is h: digits to the base k, modulo a prime
+-- the hash of bytes behind others whose hash is h: each is added, and the sum multiplied by k, modulo a prime
 unfoldable pub hashFrom : ℕ → ℕ → List ℕ → ℕ
 hashFrom k h [] = h
-hashFrom k h (c ∷ r) = hashFrom k ((h * k + c) % 2147483647) r
+hashFrom k h (c ∷ r) = hashFrom k ((h + c) * k % 2147483647) r
 
 -- where a token's name is looked for first, in a table with `span` places to begin
 unfoldable pub slotOf : List ℕ → ℕ → ℕ → Token → ℕ
@@ -43,7 +43,7 @@ pub record Room (count a b span window k : ℕ) (w : List ℕ) : Type 0 where
   pub table : b + span + window ≤ length w
   pub some : 0 < span
   pub few : count < 2 ^ 31
-  pub base : k < 2 ^ 31
+  pub factor : k < 2 ^ 31
 
 -- the search for the token u gets to its first equal word: every slot before it is filled
 pub record Reached (text : List ℕ) (ts : List Token) (b span k : ℕ) (w : List ℕ) (u : Token) : Type 0 where

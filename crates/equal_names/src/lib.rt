@@ -14,8 +14,10 @@ use tokens::Token;
 // The modulus of the hash, a prime.
 const PRIME: usize = 2147483647;
 
-// How many bases are tried.
-const BASES: usize = 4;
+// How many factors of the hash are tried.
+const FACTORS: usize = 4;
+// The factor of the hash of the text from which the first one comes.
+const FIRST: usize = 1009;
 
 // A byte as a number.
 fn byte(x: u8) -> usize
@@ -65,7 +67,7 @@ fn same_word(text: &[u8], t: Token, u: Token) -> bool
     names::same_name(text, a, b)
 }
 
-// The hash of a name, to the base k.
+// The hash of a name, by the factor k.
 fn hash(name: &[u8], k: usize) -> usize
     requires { ⌜ k < 2 ^ 31 ⌝ }
     ensures { λ r. ⌜ (r ≡ hashFrom k 0 (now (name .entry))) × (r < 2 ^ 31) ⌝ }
@@ -73,7 +75,7 @@ fn hash(name: &[u8], k: usize) -> usize
     let mut h = 0;
     let mut i = 0;
     while i < name.len() {
-        h = (h * k + byte(name[i])) % PRIME;
+        h = (h + byte(name[i])) * k % PRIME;
         i += 1;
     }
     h
@@ -115,15 +117,15 @@ fn probe(text: &[u8], work: &[u32], count: usize, at: usize, window: usize, t: T
     d
 }
 
-// What a slot that held v holds once the word x was looked for.
-fn fill(v: u32, x: usize) -> u32
+// What a slot holds once the word x was looked for.
+fn fill(held: u32, x: usize) -> u32
     requires { ⌜ x < 2 ^ 31 ⌝ }
-    ensures { λ r. ⌜ (r ≡ filled v x) × (0 < r) ⌝ }
+    ensures { λ r. ⌜ (r ≡ filled held x) × (0 < r) ⌝ }
 {
-    if v == 0 {
+    if held == 0 {
         return x as u32 + 1;
     }
-    v
+    held
 }
 
 // Stores the word x in its slot, if that is empty, and the slot's word as the first that equals x.
@@ -182,7 +184,7 @@ fn clear_table(
     diag::clear(&mut work[b..e]);
 }
 
-// The row of first equal words by an index with the base k; false where a window is full.
+// The row of first equal words by an index with the factor k; false where a window is full.
 fn index(
     text: &[u8],
     work: &mut [u32],
@@ -249,17 +251,16 @@ fn window_of(size: usize) -> usize
     128
 }
 
-// The row of first equal words, from the word a on; `size` words from b on are free. A base for which a window is full gives way to the next.
+// The row of first equal words, from the word a on; `size` words from b on are free. A factor for which a window is full gives way to the next.
 pub fn intern(text: &[u8], work: &mut [u32], count: usize, a: usize, b: usize, size: usize)
     requires { ⌜ (4 * count ≤ a) × (a + count ≤ b) × (b + size ≤ length (now work)) × (0 < size) × (count < 2 ^ 31) ⌝ }
     ensures { λ _. ⌜ Kept a (now (work .entry)) (now (work .exit)) × Interned (now (text .entry)) (rows count (now (work .entry))) a (now (work .exit)) ⌝ }
 {
     let window = window_of(size);
     let span = size - window;
-    let mut k = 31;
     let mut i = 0usize;
-    while i < BASES {
-        k = hash(text, k);
+    while i < FACTORS {
+        let k = hash(text, FIRST + i);
         if index(text, work, count, a, b, span, window, k) {
             return;
         }

@@ -24,10 +24,10 @@ hash-spec =
     Inv-loop
     μ-loop
     (λ c. search laws)
-    (λ c. omega (arith, product-low (c .before .loop .h) (c .before .before .before .args .k) (c .before .loop .inv .1) (c .before .before .before .pre)))
     (λ c. search laws)
     (λ c κs. search laws)
-    (λ c. omega (arith, product-low (c .before .before .before .loop .h) (c .before .before .before .before .before .args .k) (c .before .before .before .loop .inv .1) (c .before .before .before .before .before .pre)))
+    (λ c. search laws)
+    (λ c. omega (arith, product-low (c .before .before .before .loop .h) (c .byte .result) (c .before .before .before .before .before .args .k) (c .before .before .before .loop .inv .1) (c .byte .ensures .1) (c .before .before .before .before .before .pre)))
     (λ c. search laws)
     (λ c. search laws)
     (λ c. search laws)
