@@ -121,10 +121,10 @@ const TEXTS: [fn() -> Vec<u8>; 77] = [
         ]
         .concat()
     },
-    // Many names. The port looks for the first equal name by a linear search, so these are kept to some ten thousand.
-    || numbered("Q={", ",", "}\n", 20_000),
-    || numbered("F={", ",", "}\n", 20_000),
-    || numbered("", ",a)=(a,a,R)\n", "", 20_000),
+    // Many names.
+    || numbered("Q={", ",", "}\n", 400_000),
+    || numbered("F={", ",", "}\n", 400_000),
+    || numbered("", ",a)=(a,a,R)\n", "", 150_000),
     || {
         [
             numbered("Q={", ",", "}\n", 100),
@@ -136,7 +136,7 @@ const TEXTS: [fn() -> Vec<u8>; 77] = [
     || fill("a\n", MAX_TEXT),
     || around("F={a", ",a", "}\n", MAX_TEXT - 1),
     || fill("tapes=1\n", MAX_TEXT),
-    || [b"Q={}\n", &numbered("F={", ",", "}\n", 20_000)[..]].concat(),
+    || [b"Q={}\n", &numbered("F={", ",", "}\n", 300_000)[..]].concat(),
     || fill("δ(a,a)=(a,a,(R,R))\nfail\n", 24 * 50_000),
     || {
         [
