@@ -109,7 +109,7 @@ fn rules(size: usize) -> Vec<u8> {
     let rule = |i: usize| {
         let (state, symbol) = (i / 8, i % 8);
         let to = state + 3 * symbol % 5;
-        let direction = if i % 3 == 0 { 'L' } else { 'R' };
+        let direction = if i.is_multiple_of(3) { 'L' } else { 'R' };
         format!(
             "δ(q{state}, {symbol}) = (q{to}, {}, {direction})\n",
             7 - symbol

@@ -1,14 +1,15 @@
 //! `oracle bench`: the original's `parse` and the port's calls, on the same texts.
 //!
-//! The sides take turns, and medians are given. Dropping what the original gave is not counted, nor is
+//! The sides take turns, and medians of processor time are given. Dropping what the original gave is not counted, nor is
 //! making the buffers, which are lent once for a text; a call of the port clears log and sheet itself. The
 //! original is given a text that is known to be UTF-8, the port finds that out.
 
 mod cases;
+mod clock;
 mod counts;
 mod sides;
 
-use std::time::{Duration, Instant};
+use std::time::Duration;
 
 use cases::{CASES, Case};
 use sides::{Bench, Expected, Kept, Side};
@@ -145,9 +146,9 @@ fn agrees(case: &Case, bench: &mut Bench, expected: &Expected) -> bool {
 fn measure(case: &Case, bench: &mut Bench, expected: &Expected) -> Measured {
     let mut samples: [Vec<f64>; 3] = Default::default();
     let mut calls = [1; 3];
-    let started = Instant::now();
+    let started = clock::now();
     let mut rounds = 0;
-    while rounds < ROUNDS || started.elapsed() < BUDGET {
+    while rounds < ROUNDS || clock::now() - started < BUDGET {
         for side in Side::ALL {
             if Bench::runs(case, side) {
                 let seconds = sample(bench, side, calls[side as usize]);
@@ -156,7 +157,7 @@ fn measure(case: &Case, bench: &mut Bench, expected: &Expected) -> Measured {
             }
         }
         rounds += 1;
-        if rounds == 1 && started.elapsed() > SLOW {
+        if rounds == 1 && clock::now() - started > SLOW {
             break;
         }
     }
@@ -172,11 +173,11 @@ fn measure(case: &Case, bench: &mut Bench, expected: &Expected) -> Measured {
 /// The seconds of a call, from some in a row.
 fn sample(bench: &mut Bench, side: Side, calls: usize) -> f64 {
     let mut kept = Vec::with_capacity(calls);
-    let started = Instant::now();
+    let started = clock::now();
     for _ in 0..calls {
         kept.push(bench.call(side));
     }
-    started.elapsed().as_secs_f64() / calls as f64
+    (clock::now() - started).as_secs_f64() / calls as f64
 }
 
 fn median(mut samples: Vec<f64>) -> Option<f64> {

@@ -106,6 +106,7 @@ pub struct Bench {
 }
 
 /// What a call gave, to be dropped when the time is taken.
+#[allow(clippy::large_enum_variant)] // A box would be part of what is measured.
 pub enum Kept {
     Parsed(#[allow(dead_code)] Parsed),
     Answer(AnswerRow),
