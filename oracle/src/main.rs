@@ -8,6 +8,7 @@
 extern crate alloc;
 
 mod agree;
+mod bench;
 mod chars;
 mod compare;
 mod dump;
@@ -58,6 +59,8 @@ usage:
   oracle store COUNT SEED              stored answers for COUNT texts of each family
   oracle self [COUNT [SEED [FAMILY]]] [--plant layout|form|leading|sizes]
   oracle compare [tokens|read|write|list] [COUNT [SEED [FAMILY]]]
+  oracle bench [--callgrind] [--size BYTES] [CASE..]
+                                       time, or instructions, of the original and of the port
 families: grammar damaged soup short lines limits";
 
 /// Texts that `self` and `compare` run over unless told otherwise.
@@ -94,8 +97,30 @@ fn run(arguments: &[&str]) -> Result<bool, String> {
             rest @ ..,
         ] => compare(&[which], rest),
         ["compare", rest @ ..] => compare(&["tokens", "read", "write", "list"], rest),
+        ["bench", "--once", side, case, numbers @ ..] => bench_once(side, case, numbers),
+        ["bench", "--callgrind", rest @ ..] => bench::count(&bench_options(rest)?),
+        ["bench", rest @ ..] => bench::times(&bench_options(rest)?),
         _ => Err(USAGE.into()),
     }
+}
+
+fn bench_options<'a>(arguments: &[&'a str]) -> Result<bench::Options<'a>, String> {
+    let (size, names) = match arguments {
+        ["--size", size, names @ ..] => (Some(number(size)? as usize), names),
+        names => (None, names),
+    };
+    let names = names.to_vec();
+    Ok(bench::Options { names, size })
+}
+
+/// One call with a text of the case and size, and buffers for log, sheet and output of these lengths.
+fn bench_once(side: &str, case: &str, numbers: &[&str]) -> Result<bool, String> {
+    let [size, log, sheet, output] = numbers else {
+        return Err(USAGE.into());
+    };
+    let length = |text| number(text).map(|n| n as usize);
+    let lent = [length(log)?, length(sheet)?, length(output)?];
+    bench::once(side, case, length(size)?, lent)
 }
 
 fn print(bytes: &[u8]) -> Result<bool, String> {

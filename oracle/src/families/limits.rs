@@ -158,7 +158,7 @@ const TEXTS: [fn() -> Vec<u8>; 77] = [
 ];
 
 /// As many whole pieces as fit into `length` bytes, and spaces behind them.
-fn fill(piece: &str, length: usize) -> Vec<u8> {
+pub fn fill(piece: &str, length: usize) -> Vec<u8> {
     around("", piece, "", length)
 }
 
@@ -180,7 +180,7 @@ fn form_of_length(length: usize) -> Vec<u8> {
 }
 
 /// One rule with `sets` read sets of `size` symbols each and `singles` tapes of one symbol.
-fn read_sets(sets: usize, size: usize, singles: usize) -> Vec<u8> {
+pub fn read_sets(sets: usize, size: usize, singles: usize) -> Vec<u8> {
     let members: Vec<String> = (0..size).map(|i| (i % 10).to_string()).collect();
     let set = format!("{{{}}}", members.join(","));
     let mut reads = vec![set.as_str(); sets];

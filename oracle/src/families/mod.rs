@@ -2,7 +2,7 @@
 
 mod damaged;
 mod grammar;
-mod limits;
+pub mod limits;
 mod random;
 mod short;
 mod soup;
