@@ -1,8 +1,10 @@
 // The log as a slice of diagnostic records.
 ghost use mathlib.Core.Path.{_≡_};
 ghost use Prim.Native.Nat.{_+_, _<_, _^_};
-ghost use lib.ListN.{set};
+ghost use lib.ListN.{length, set, replicate};
+ghost use Rattle.records.specs.Unused.{unused};
 use diag::Diagnostic;
+use diag::Span;
 
 // Stores a diagnostic behind the `count` before it if there is room for it, and counts it in any case.
 pub fn append(log: &mut [Diagnostic], count: usize, d: Diagnostic) -> usize
@@ -13,4 +15,20 @@ pub fn append(log: &mut [Diagnostic], count: usize, d: Diagnostic) -> usize
         log[count] = d;
     }
     count + 1
+}
+// Sets every record to zero.
+pub fn clear(log: &mut [Diagnostic])
+    ensures { λ _. ⌜ now (log .exit) ≡ replicate (length (now (log .entry))) unused ⌝ }
+{
+    let none = Span { start: 0, end: 0 };
+    let zero = Diagnostic {
+        code: 0,
+        span: none,
+        related: none,
+    };
+    let mut i = 0;
+    while i < log.len() {
+        log[i] = zero;
+        i += 1;
+    }
 }
