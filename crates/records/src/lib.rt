@@ -1,7 +1,7 @@
 // The log as a slice of diagnostic records.
 ghost use mathlib.Core.Path.{_≡_};
 ghost use Prim.Native.Nat.{_+_, _<_, _^_};
-ghost use lib.ListN.{length, set, replicate};
+ghost use lib.ListN.{length, set, replicate, getD};
 ghost use Rattle.records.specs.Unused.{unused};
 use diag::Diagnostic;
 use diag::Span;
@@ -31,4 +31,12 @@ pub fn clear(log: &mut [Diagnostic])
         log[i] = zero;
         i += 1;
     }
+}
+
+// The record at an index.
+pub fn record_at(log: &[Diagnostic], i: usize) -> Diagnostic
+    requires { ⌜ i < length (now log) ⌝ }
+    ensures { λ r. ⌜ r ≡ getD (now (log .entry)) i unused ⌝ }
+{
+    log[i]
 }
