@@ -1,7 +1,9 @@
 // The log as a slice of diagnostic records.
 ghost use mathlib.Core.Path.{_≡_};
-ghost use Prim.Native.Nat.{_+_, _<_, _^_};
-ghost use lib.ListN.{length, set, replicate, getD};
+ghost use mathlib.Core.List.{_++_};
+ghost use Prim.Native.Nat.{_+_, _*_, _<_, _≤_, _^_};
+ghost use lib.ListN.{length, set, replicate, getD, drop};
+ghost use Rattle.diag.specs.Log.{records};
 ghost use Rattle.records.specs.Unused.{unused};
 use diag::Diagnostic;
 use diag::Span;
@@ -39,4 +41,16 @@ pub fn record_at(log: &[Diagnostic], i: usize) -> Diagnostic
     ensures { λ r. ⌜ r ≡ getD (now (log .entry)) i unused ⌝ }
 {
     log[i]
+}
+
+// Copies the first `count` records of a row of words.
+pub fn take(log: &mut [Diagnostic], words: &[u32], count: usize)
+    requires { ⌜ (count ≤ length (now log)) × (5 * count ≤ length (now words)) ⌝ }
+    ensures { λ _. ⌜ now (log .exit) ≡ records count (now (words .entry)) ++ drop count (now (log .entry)) ⌝ }
+{
+    let mut i = 0;
+    while i < count {
+        log[i] = diag::record_at(words, i);
+        i += 1;
+    }
 }
