@@ -2,8 +2,8 @@
 ghost use mathlib.Core.Path.{_≡_};
 ghost use mathlib.Core.List.{_++_};
 ghost use Prim.Native.Nat.{_+_, _*_, _<_, _≤_, _^_};
-ghost use lib.ListN.{length, set, replicate, getD, drop};
-ghost use Rattle.diag.specs.Log.{records};
+ghost use lib.ListN.{length, set, replicate, getD, take, drop};
+ghost use Rattle.diag.specs.Log.{records, flat};
 ghost use Rattle.records.specs.Unused.{unused};
 use diag::Diagnostic;
 use diag::Span;
@@ -52,5 +52,16 @@ pub fn take(log: &mut [Diagnostic], words: &[u32], count: usize)
     while i < count {
         log[i] = diag::record_at(words, i);
         i += 1;
+    }
+}
+
+// Copies the first `count` records to the front of a row of words.
+pub fn spill(log: &[Diagnostic], words: &mut [u32], count: usize)
+    requires { ⌜ (count ≤ length (now log)) × (5 * count ≤ length (now words)) ⌝ }
+    ensures { λ _. ⌜ now (words .exit) ≡ flat (take count (now (log .entry))) ++ drop (5 * count) (now (words .entry)) ⌝ }
+{
+    let mut i = 0;
+    while i < count {
+        i = diag::append(words, i, log[i]);
     }
 }
