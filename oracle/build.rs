@@ -6,7 +6,7 @@
 use std::env;
 use std::path::PathBuf;
 
-const LIBRARIES: [&str; 3] = ["lexer", "reader", "writer"];
+const LIBRARIES: [&str; 5] = ["lexer", "reader", "writer", "reading", "writing"];
 
 fn main() {
     println!("cargo::rerun-if-env-changed=PEVZONCS_STATICLIB");

@@ -58,10 +58,20 @@ usage:
   oracle gen FAMILY COUNT SEED [DIR]   texts, to standard output or one file each into DIR
   oracle store COUNT SEED              stored answers for COUNT texts of each family
   oracle self [COUNT [SEED [FAMILY]]] [--plant layout|form|leading|sizes]
-  oracle compare [tokens|read|write|list] [COUNT [SEED [FAMILY]]]
+  oracle compare [tokens|read|write|read-records|write-records|list] [COUNT [SEED [FAMILY]]]
   oracle bench [--callgrind] [--size BYTES] [CASE..]
                                        time, or instructions, of the original and of the port
-families: grammar damaged soup short lines limits";
+families: grammar damaged soup short lines limits changed joined";
+
+/// What `compare` runs over unless told otherwise.
+const EVERY_CALL: [&str; 6] = [
+    "tokens",
+    "read",
+    "write",
+    "read-records",
+    "write-records",
+    "list",
+];
 
 /// Texts that `self` and `compare` run over unless told otherwise.
 const DEFAULT_COUNT: u64 = 20_000;
@@ -93,10 +103,10 @@ fn run(arguments: &[&str]) -> Result<bool, String> {
         ["self", rest @ ..] => self_check(rest),
         [
             "compare",
-            which @ ("tokens" | "read" | "write" | "list"),
+            which @ ("tokens" | "read" | "write" | "read-records" | "write-records" | "list"),
             rest @ ..,
         ] => compare(&[which], rest),
-        ["compare", rest @ ..] => compare(&["tokens", "read", "write", "list"], rest),
+        ["compare", rest @ ..] => compare(&EVERY_CALL, rest),
         ["bench", "--once", side, case, numbers @ ..] => bench_once(side, case, numbers),
         ["bench", "--callgrind", rest @ ..] => bench::count(&bench_options(rest)?),
         ["bench", rest @ ..] => bench::times(&bench_options(rest)?),
@@ -249,6 +259,14 @@ fn compare(which: &[&str], arguments: &[&str]) -> Result<bool, String> {
             "write" => (
                 "libwriter.a",
                 foreign::write().map(|f| compare::compare_write(f, selection)),
+            ),
+            "read-records" => (
+                "libreading.a",
+                foreign::read_records().map(|f| compare::compare_read(f, selection)),
+            ),
+            "write-records" => (
+                "libwriting.a",
+                foreign::write_records().map(|f| compare::compare_write(f, selection)),
             ),
             _ => (
                 "list program",

@@ -80,7 +80,7 @@ pub fn cases(count: u64, seed: u64) -> Stored {
         write: Tally::default(),
     };
     let mut random = Random::new([seed, count, 0x570E]);
-    let selections = Family::ALL.map(|family| Selection {
+    let selections = Family::STORED.map(|family| Selection {
         count,
         seed,
         only: Some(family),
@@ -117,7 +117,7 @@ impl Stored {
             let absent = kinds.iter().filter(|kind| !tally.has(kind));
             absent.map(|kind| kind.to_string()).collect()
         };
-        let families = Family::ALL.iter().filter(|f| !self.read.has_family(**f));
+        let families = Family::STORED.iter().filter(|f| !self.read.has_family(**f));
         let mut missing = [
             missing(&self.read, &READ_KINDS),
             missing(&self.write, &WRITE_KINDS),

@@ -37,7 +37,7 @@ const OUTSIDE: [&str; 12] = [
 ];
 
 /// Pieces that mean something to the reader.
-const PIECES: [&str; 24] = [
+pub(super) const PIECES: [&str; 24] = [
     "'", "\"", "\\", "//", "/", "\n", " ", "{", "}", "(", ")", ",", "=", "*", ";", "_", "␣", "a",
     "0", "\r", "\u{85}", "δ", "#", "''",
 ];

@@ -1,6 +1,7 @@
 //! Families of texts. Each text is a function of its family, an index and a seed.
 
 mod damaged;
+mod examples;
 mod grammar;
 pub mod limits;
 mod random;
@@ -25,10 +26,26 @@ pub enum Family {
     Lines,
     /// Texts at and beyond the limits.
     Limits,
+    /// The examples with one character changed, each change exactly once, then with more changes.
+    Changed,
+    /// Several descriptions one behind the other.
+    Joined,
 }
 
 impl Family {
-    pub const ALL: [Self; 6] = [
+    pub const ALL: [Self; 8] = [
+        Self::Grammar,
+        Self::Damaged,
+        Self::Soup,
+        Self::Short,
+        Self::Lines,
+        Self::Limits,
+        Self::Changed,
+        Self::Joined,
+    ];
+
+    /// Those of which answers are stored for the gate.
+    pub const STORED: [Self; 6] = [
         Self::Grammar,
         Self::Damaged,
         Self::Soup,
@@ -46,6 +63,8 @@ impl Family {
             Self::Short => "short",
             Self::Lines => "lines",
             Self::Limits => "limits",
+            Self::Changed => "changed",
+            Self::Joined => "joined",
         }
     }
 
@@ -54,8 +73,8 @@ impl Family {
         Self::ALL.into_iter().find(|family| family.name() == name)
     }
 
-    /// The text with number `index`. For `Short` and `Lines` the seed is an offset into the
-    /// list of all texts, for `Limits` it means nothing.
+    /// The text with number `index`. For `Short`, `Lines` and `Changed` the seed is an offset into
+    /// the list of all texts, for `Limits` it means nothing.
     pub fn text(self, index: u64, seed: u64) -> Vec<u8> {
         match self {
             Self::Grammar => grammar::text(&mut self.random(index, seed)).into_bytes(),
@@ -64,6 +83,8 @@ impl Family {
             Self::Short => short::characters(seed + index).into_bytes(),
             Self::Lines => short::lines(seed + index).into_bytes(),
             Self::Limits => limits::text(index),
+            Self::Changed => examples::changed(seed + index, &mut self.random(index, seed)),
+            Self::Joined => examples::joined(&mut self.random(index, seed)),
         }
     }
 
@@ -75,7 +96,7 @@ impl Family {
         }
     }
 
-    /// The part of a run over all families, in hundredths; the limits come on top.
+    /// The part of a run over all families, in hundredths; those behind `Lines` come on top.
     fn share(self) -> u64 {
         match self {
             Self::Grammar => 35,
@@ -83,6 +104,7 @@ impl Family {
             Self::Soup => 10,
             Self::Short | Self::Lines => 15,
             Self::Limits => 100,
+            Self::Changed | Self::Joined => 10,
         }
     }
 
