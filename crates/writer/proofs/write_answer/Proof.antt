@@ -14,7 +14,7 @@ write-answer-spec =
     let chosen = c .before .before in
     let began = chosen .before .before .before .before .before in
     began .pre _ (chosen .a .given .1))
-    (λ c. search needs)
+    (λ other. search needs)
     (λ c. search needs)
     (λ c. search needs)
     (λ c.
