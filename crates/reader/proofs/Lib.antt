@@ -1,5 +1,4 @@
 pub mod Admissions
-pub mod StateNames
 pub mod AnswerWords
 pub mod Reports
 pub mod Outcomes

@@ -1,4 +1,4 @@
-// Reading a description: what a call answers, and the name of a state.
+// Reading a description: what a call answers.
 ghost use mathlib.Core.Path.{_≡_};
 ghost use mathlib.Core.Bool.{true, false};
 ghost use mathlib.Core.Option.{none};
@@ -10,7 +10,6 @@ use admission::Admission;
 use machine::Head;
 
 pub mod admission;
-pub mod name;
 pub mod report;
 pub mod sections;
 pub mod words;
