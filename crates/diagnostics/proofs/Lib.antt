@@ -1,3 +1,5 @@
 pub mod Taken
 pub mod NameLaws
 pub mod LineSteps
+pub mod Steps
+pub mod FinalSteps

@@ -22,9 +22,8 @@ use Rattle.assembler.proofs.FinalLaws.{at-most-final}
 use Rattle.assembler.proofs.RuleLaws.{one-rule}
 use Rattle.diagnostics.specs.declared.Search.{Search}
 use Rattle.diagnostics.specs.declared.Step.{Step}
-use Rattle.diagnostics.specs.Cursor.{moved, tallied, tallyOf, nextLine, stepped, taken}
+use Rattle.diagnostics.specs.Cursor.{moved, tallied, tallyOf, nextLine, ruled, stepped, taken}
 use Rattle.diagnostics.specs.Repeats.{nameError}
-use Rattle.diagnostics.specs.Stands.{RuleStep}
 use Rattle.diagnostics.proofs.Taken.{taken-is}
 use Rattle.diagnostics.proofs.NameLaws.{one-name}
 
@@ -56,18 +55,16 @@ module _ (r : Step) (q : Search) (g : List ℕ) (n : ℕ) (made : r ≡ stepped 
       (took (finalErrorAt text ts d qs before i) (x .0) (at-most-final text ts d qs before i), x .1)
 
   -- of a rule
-  pub rule-step : (ts : List Token) (s : Search) (t : Token) (v : Verdict) (p : Span) (c : Tally) (j : ℕ) (o : Search) → t ≡ peek ts (s .at) → v ≡ verdict (s .tally) (entryAt ts (s .at))
-      → p ≡ placeOf t → logged g n ≡ appendAll (logged (replicate 5 0) 0) (ruleError v (s .cut) p) → c ≡ after (tallyOf s) v
-      → j ≡ s .at + 1 + behind (s .at) t → o ≡ moved s 3 j → q ≡ tallied o (c .rules) (c .cut) → RuleStep ts s r
-  rule-step ts s t v p c j o et ev ep eg ec ej eo eq =
-      let all : r .search ≡ tallied (moved s 3 j) (c .rules) (c .cut) = ap (λ (r : Step). r .search) made ∙ eq ∙ ap (λ (o : Search). tallied o (c .rules) (c .cut)) eo in
-      record {
-        found =
-            took (ruleError v (s .cut) p) eg (one-rule v (s .cut) p) ∙ ap (λ (p : Span). ruleError v (s .cut) p) (ep ∙ ap placeOf et)
-            ∙ ap (λ (v : Verdict). ruleError v (s .cut) (placeOf (peek ts (s .at)))) ev;
-        count = ap (λ (x : Search). x .count) all;
-        first = ap (λ (x : Search). x .first) all;
-        pass = ap (λ (x : Search). x .pass) all;
-        at = ap (λ (x : Search). x .at) all ∙ ej ∙ ap (λ (t : Token). s .at + 1 + behind (s .at) t) et;
-        tally = ap tallyOf all ∙ ec ∙ ap (after (tallyOf s)) ev;
-      }
+  module _ (ts : List Token) (s : Search) (t : Token) (v : Verdict) (et : t ≡ peek ts (s .at)) (ev : v ≡ verdict (s .tally) (entryAt ts (s .at))) where
+    pub took-rule : (p : Span) → p ≡ placeOf t → logged g n ≡ appendAll (logged (replicate 5 0) 0) (ruleError v (s .cut) p)
+        → taken r ≡ ruleError (verdict (s .tally) (entryAt ts (s .at))) (s .cut) (placeOf (peek ts (s .at)))
+    took-rule p ep eg =
+        took (ruleError v (s .cut) p) eg (one-rule v (s .cut) p) ∙ ap (λ (p : Span). ruleError v (s .cut) p) (ep ∙ ap placeOf et)
+        ∙ ap (λ (v : Verdict). ruleError v (s .cut) (placeOf (peek ts (s .at)))) ev
+
+pub search-rule : (x q : Search) → x ≡ q → (ts : List Token) (s : Search) (t : Token) (v : Verdict) → t ≡ peek ts (s .at) → v ≡ verdict (s .tally) (entryAt ts (s .at))
+    → (c : Tally) (j : ℕ) (o : Search) → c ≡ after (tallyOf s) v → j ≡ s .at + 1 + behind (s .at) t → o ≡ moved s 3 j → q ≡ tallied o (c .rules) (c .cut) → x ≡ ruled ts s
+search-rule x q made ts s t v et ev c j o ec ej eo eq =
+    made ∙ eq ∙ ap (λ (o : Search). tallied o (c .rules) (c .cut)) eo
+    ∙ ap (λ (j : ℕ). tallied (moved s 3 j) (c .rules) (c .cut)) (ej ∙ ap (λ (t : Token). s .at + 1 + behind (s .at) t) et)
+    ∙ ap (λ (c : Tally). tallied (moved s 3 (nextLine ts (s .at))) (c .rules) (c .cut)) (ec ∙ ap (after (tallyOf s)) ev)

@@ -8,7 +8,8 @@ use Rattle.parser.specs.Row.{peek}
 use Rattle.diag.specs.declared.Diagnostic.{Diagnostic}
 use Rattle.diag.specs.Log.{none, error, recordFrom}
 use Rattle.assembler.specs.declared.rules.Tally.{Tally}
-use Rattle.assembler.specs.Entries.{behind}
+use Rattle.assembler.specs.Entries.{entryAt, behind}
+use Rattle.assembler.specs.Rules.{verdict, after}
 use Rattle.diagnostics.specs.declared.Search.{Search}
 use Rattle.diagnostics.specs.declared.Step.{Step}
 
@@ -27,6 +28,10 @@ tallyOf s = record { rules = s .tally; cut = s .cut }
 -- where the line behind the one at an index begins
 abbrev pub nextLine : List Token → ℕ → ℕ
 nextLine ts i = i + 1 + behind i (peek ts i)
+
+-- the search behind a line, with the rules that it stands for
+abbrev pub ruled : List Token → Search → Search
+ruled ts s = let c = after (tallyOf s) (verdict (s .tally) (entryAt ts (s .at))) in tallied (moved s 3 (nextLine ts (s .at))) (c .rules) (c .cut)
 
 -- a step, with what a log of one record, given n diagnostics, took
 abbrev pub stepped : Search → List ℕ → ℕ → Step

@@ -1,24 +1,21 @@
 -- What holds while a search runs.
-use Prim.Native.Nat.{ℕ, suc, _+_, _≤_, _<_}
+use Prim.Native.Nat.{ℕ, _≤_, _<_}
 use mathlib.Core.Path.{_≡_}
-use mathlib.Core.List.{List, [], _∷_, _++_}
+use mathlib.Core.List.{List, _++_}
 use lib.ListN.{length, getD}
 use Rattle.chars.specs.Utf8.{decode}
-use Rattle.tokens.specs.declared.Token.{Token}
 use Rattle.language.specs.Lines.{readLines}
 use Rattle.language.specs.Assembly.{diagnosticsOf}
 use Rattle.language.specs.Infer.{machineOf}
-use Rattle.parser.specs.Row.{peek}
-use Rattle.assembler.specs.Rows.{rows, placeOf}
-use Rattle.assembler.specs.Entries.{entryAt, entries}
+use Rattle.assembler.specs.Rows.{rows}
+use Rattle.assembler.specs.Entries.{entries}
 use Rattle.assembler.specs.Declarations.{undeclared, declarations}
-use Rattle.assembler.specs.Finals.{Laid, Interned, Marks, Kept, namesOf}
-use Rattle.assembler.specs.Rules.{verdict, after, ruleError}
+use Rattle.assembler.specs.Finals.{Laid, Interned, Marks, namesOf}
 use Rattle.assembler.specs.Records.{recordsOf}
 use Rattle.assembler.specs.Assembled.{Entered, wordsFrom, marksFrom}
 use Rattle.diagnostics.specs.declared.Search.{Search}
 use Rattle.diagnostics.specs.declared.Step.{Step}
-use Rattle.diagnostics.specs.Cursor.{moved, tallied, tallyOf, nextLine, taken}
+use Rattle.diagnostics.specs.Cursor.{taken}
 use Rattle.diagnostics.specs.Pending.{namesBefore, pending, left}
 
 -- the rows stand in work, the cursor is in one of the four passes, and in that over F the marks say which names it has come by
@@ -47,12 +44,3 @@ pub record Stepped (text w₀ w : List ℕ) (s : Search) (r : Step) : Type 0 whe
   pub found : pending text w₀ s ≡ taken r ++ pending text w (r .search)
   pub less : left (r .search) < left s
   pub size : length w ≡ length w₀
-
--- one line, as one that may be a rule
-pub record RuleStep (ts : List Token) (s : Search) (r : Step) : Type 0 where
-  pub found : taken r ≡ ruleError (verdict (s .tally) (entryAt ts (s .at))) (s .cut) (placeOf (peek ts (s .at)))
-  pub count : r .search .count ≡ s .count
-  pub first : r .search .first ≡ s .first
-  pub pass : r .search .pass ≡ 3
-  pub at : r .search .at ≡ nextLine ts (s .at)
-  pub tally : tallyOf (r .search) ≡ after (tallyOf s) (verdict (s .tally) (entryAt ts (s .at)))

@@ -2,18 +2,16 @@
 ghost use mathlib.Core.Path.{_≡_};
 ghost use mathlib.Core.List.{List, _++_};
 ghost use Prim.Native.Nat.{ℕ, _+_, _*_, _≤_, _<_, _^_};
-ghost use lib.Dec.{ltb};
-ghost use lib.ListN.{length, getD};
+ghost use lib.ListN.{length};
 ghost use Rattle.diag.specs.Log.{logged, appendAll};
 ghost use Rattle.parser.specs.Row.{peek};
 ghost use Rattle.assembler.specs.Rows.{rows, placeOf};
-ghost use Rattle.assembler.specs.Entries.{entryAt, behind};
+ghost use Rattle.assembler.specs.Entries.{entryAt};
 ghost use Rattle.assembler.specs.Failures.{lineError};
 ghost use Rattle.assembler.specs.Finals.{Laid, Interned, Kept, Marks, nameAt, finalErrorAt};
-ghost use Rattle.assembler.specs.Rules.{verdict, after, ruleError};
-ghost use Rattle.diagnostics.specs.Cursor.{moved, tallied, tallyOf, stepped, taken, nextLine};
+ghost use Rattle.assembler.specs.Rules.{verdict, ruleError};
+ghost use Rattle.diagnostics.specs.Cursor.{moved, ruled, stepped, taken, nextLine};
 ghost use Rattle.diagnostics.specs.Repeats.{nameError};
-ghost use Rattle.diagnostics.specs.Stands.{RuleStep};
 use crate::Search;
 use crate::Step;
 use assembler::declarations;
@@ -91,7 +89,7 @@ pub fn listed(text: &[u8], work: &mut [u32], a: usize, b: usize, s: Search, decl
 // A line, as one that may be a rule.
 pub fn rule(work: &[u32], s: Search) -> Step
     requires { ⌜ (4 * s .count ≤ length (now work)) × (s .count < 2 ^ 31) × (s .at < s .count) × (s .tally ≤ 262144) ⌝ }
-    ensures { λ r. ⌜ RuleStep (rows (s .count) (now (work .entry))) s r ⌝ }
+    ensures { λ r. ⌜ (taken r ≡ ruleError (verdict (s .tally) (entryAt (rows (s .count) (now (work .entry))) (s .at))) (s .cut) (placeOf (peek (rows (s .count) (now (work .entry))) (s .at)))) × (r .search ≡ ruled (rows (s .count) (now (work .entry))) s) ⌝ }
 {
     let mut log = [0u32; 5];
     let t = entry::token_at(work, s.count, s.at);

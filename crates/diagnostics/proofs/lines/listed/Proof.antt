@@ -4,7 +4,7 @@ use Rattle.diagnostics.proofs.LineSteps.{took-listed, search-at}
 use Rattle.diagnostics.proofs.lines.listed.Statement.{statement}
 use Rattle.diagnostics.proofs.lines.listed.Tie as tie
 
-ruleset laws = (needs, took-listed, search-at)
+ruleset laws = (needs, search-at)
 
 -- src/lines.rt:87:73
 slice-aggregate-final-at : tie.Need-slice-aggregate-final-at
@@ -32,7 +32,7 @@ same-length c = search needs
 
 -- src/lines.rt:82:1
 returns : tie.Need-returns
-returns c = (search laws, search laws, search laws)
+returns c = (search needs, search laws, took-listed _ _ _ _ (c .stepped .ensures) _ _ _ _ _ _ _ _ (c .before .before .before .before .before .before .before .final-at .ensures .1))
 
 pub listed-spec : {M : Type 1} → statement M
 listed-spec =
