@@ -3,3 +3,4 @@ pub mod NameLaws
 pub mod LineSteps
 pub mod Steps
 pub mod FinalSteps
+pub mod Going

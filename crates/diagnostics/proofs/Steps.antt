@@ -165,3 +165,7 @@ module _ (text w : List ℕ) (s : Search) (st : Stands text w s) where
           behind = m .behind;
           marks = m .marks;
         }) found (less-on 3 (nextLine ts (s .at)) three h (next-high (s .at))) refl
+
+-- a pass that is none of the first three
+pub last-pass : (p : ℕ) → p ≤ 3 → (p ≡ 0 → ⊥) → (p ≡ 1 → ⊥) → (p ≡ 2 → ⊥) → p ≡ 3
+last-pass p h a b c = omega arith
