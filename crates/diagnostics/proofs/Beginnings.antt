@@ -4,7 +4,7 @@ use mathlib.Core.Bool.{true, false}
 use mathlib.Core.List.{List, [], _∷_, _++_, map}
 use Prim.Native.Nat.{ℕ, zero, suc, _+_, _-_, _*_, _≤_, _<_, _^_}
 use native.Mathlib.Omega.{arith}
-use lib.ListN.{length}
+use lib.ListN.{length, length-map}
 use Rattle.chars.specs.Utf8.{decode}
 use Rattle.lexer.specs.Tokens.{tokens}
 use Rattle.tokens.specs.declared.Token.{Token}
@@ -20,7 +20,7 @@ use Rattle.assembler.specs.Failures.{lineErrors}
 use Rattle.assembler.specs.Declarations.{undeclared, declarations, declarationErrors}
 use Rattle.assembler.specs.Finals.{finalsErrors, Laid}
 use Rattle.assembler.specs.Rules.{noRules, ruleErrors}
-use Rattle.assembler.specs.Records.{recordsOf}
+use Rattle.assembler.specs.Records.{recordOf, recordsOf}
 use Rattle.assembler.specs.Assembled.{Tokenized, Outcome, rowDiagnostics, wordsFrom, marksFrom}
 use Rattle.assembler.proofs.Rows.{length-rows}
 use Rattle.assembler.proofs.AssembledLaws.{row-mean, passes-laid}
@@ -69,3 +69,8 @@ started text count w₀ w log₀ log r p o =
       };
       whole = row-found text (rows count w) count r size (omega (arith, laid .few)) (o .first) ∙ ap (rowDiagnostics text) row ∙ row-mean text few;
     }
+
+-- as many as there are errors
+pub started-count : (text : List ℕ) (count : ℕ) (w₀ w : List ℕ) (s : Search) → Started text count w₀ w s → s .errors ≡ length (pending text w s)
+unfolding recordsOf
+started-count text count w₀ w s b = b .errors ∙ sym (ap length (b .whole) ∙ length-map (diagnosticsOf (readLines (decode text))) recordOf)
