@@ -67,7 +67,7 @@ pub piece-tok : (o n : ℕ) (r : List ℕ) (t : TokenKind) (w a b k e v m : ℕ)
 unfolding pieceOf
 piece-tok o n r t w a b k e v m p q g = cc
 
-piece-of : (o n : ℕ) (r : List ℕ) (s s′ : Step) (x : Piece) → s ≡ s′ → x ≡ pieceOf o n r s′ → x ≡ pieceOf o n r s
+pub piece-of : (o n : ℕ) (r : List ℕ) (s s′ : Step) (x : Piece) → s ≡ s′ → x ≡ pieceOf o n r s′ → x ≡ pieceOf o n r s
 piece-of o n r s s′ x p q = q ∙ sym (ap (pieceOf o n r) p)
 
 -- the beginnings that the scans find
@@ -406,7 +406,7 @@ number-token t at c next end v m d p g e =
     (g ∙ ap (λ (l : List ℕ). next + sizes l) (sym (run-prefix isAsciiDigit r)))
 
 -- ---- a character of no class, and the first character of any piece
-step-word : (c : ℕ) (r : List ℕ) → c ≡ 0x5F → otherStep c r ≡ wordStep c r
+pub step-word : (c : ℕ) (r : List ℕ) → c ≡ 0x5F → otherStep c r ≡ wordStep c r
 unfolding otherStep
 step-word c r e = rw (eq-eqb c 0x5F e, otherStep)
 
@@ -422,11 +422,11 @@ step-slash : (c : ℕ) (r : List ℕ) → c ≡ 0x2F → otherStep c r ≡ slash
 unfolding otherStep
 step-slash c r e = ap (λ (x : ℕ). otherStep x r) e
 
-step-sign : (c : ℕ) (r : List ℕ) → (c ≡ 0x5F → ⊥) → (c ≡ 0x22 → ⊥) → (c ≡ 0x27 → ⊥) → (c ≡ 0x2F → ⊥) → otherStep c r ≡ tok (sign c) (size c) 0 0 0
+pub step-sign : (c : ℕ) (r : List ℕ) → (c ≡ 0x5F → ⊥) → (c ≡ 0x22 → ⊥) → (c ≡ 0x27 → ⊥) → (c ≡ 0x2F → ⊥) → otherStep c r ≡ tok (sign c) (size c) 0 0 0
 unfolding otherStep
 step-sign c r f g h k = rw (ne-eqb c 0x5F f, otherStep) (rw (ne-eqb c 0x22 g, ne-eqb c 0x27 h, ne-eqb c 0x2F k))
 
-sign-token : (at c next k : ℕ) (r : List ℕ) → next ≡ at + size c → k ≡ signNumber c → Tok k next c next ≡ pieceOf at next r (tok (sign c) (size c) 0 0 0)
+pub sign-token : (at c next k : ℕ) (r : List ℕ) → next ≡ at + size c → k ≡ signNumber c → Tok k next c next ≡ pieceOf at next r (tok (sign c) (size c) 0 0 0)
 unfolding kindNumber tokenValue sizes
 sign-token at c next k r m e = rw e (piece-tok at next r (sign c) (size c) 0 0 0 next c next m refl (no-bytes next))
 
