@@ -1,5 +1,6 @@
 pub mod Scans
 pub mod Keywords
+pub mod Ascii
 pub mod Pieces
 pub mod Steps
 pub mod Leads

@@ -28,16 +28,11 @@ pub(crate) fn is_word_start(c: u32) -> bool
     }
 }
 
-// Whether c can continue a word.
-pub(crate) fn is_word_continue(c: u32) -> bool
+// Whether c, which is above ASCII, can continue a word.
+fn continues_above(c: u32) -> bool
+    requires { ⌜ 0x80 ≤ c ⌝ }
     ensures { λ r. ⌜ r ≡ isWordContinue c ⌝ }
 {
-    if c == 0x5F {
-        return true;
-    }
-    if c == 0x27 {
-        return true;
-    }
     let k = chars::class_of(c);
     match k {
         Class::Letter => true,
@@ -48,22 +43,29 @@ pub(crate) fn is_word_continue(c: u32) -> bool
     }
 }
 
+// Whether c can continue a word.
+pub(crate) fn is_word_continue(c: u32) -> bool
+    ensures { λ r. ⌜ r ≡ isWordContinue c ⌝ }
+{
+    match c {
+        0x30..=0x39 | 0x61..=0x7A | 0x41..=0x5A | 0x27 | 0x5F => true,
+        0x00..=0x7F => false,
+        _ => continues_above(c),
+    }
+}
+
 // Whether c is an ASCII digit.
 pub(crate) fn is_ascii_digit(c: u32) -> bool
     ensures { λ r. ⌜ r ≡ isAsciiDigit c ⌝ }
 {
-    let k = chars::class_of(c);
-    match k {
-        Class::Letter => false,
-        Class::Digit => true,
-        Class::Space => false,
-        Class::Sign => false,
-        Class::Other => false,
+    match c {
+        0x30..=0x39 => true,
+        _ => false,
     }
 }
 
-// Whether c is white space.
-pub(crate) fn is_whitespace(c: u32) -> bool
+// Whether c is white space, by its class.
+fn space_by_class(c: u32) -> bool
     ensures { λ r. ⌜ r ≡ isWhitespace c ⌝ }
 {
     let k = chars::class_of(c);
@@ -73,6 +75,17 @@ pub(crate) fn is_whitespace(c: u32) -> bool
         Class::Space => true,
         Class::Sign => false,
         Class::Other => false,
+    }
+}
+
+// Whether c is white space.
+pub(crate) fn is_whitespace(c: u32) -> bool
+    ensures { λ r. ⌜ r ≡ isWhitespace c ⌝ }
+{
+    match c {
+        0x09..=0x0D | 0x20 => true,
+        0x00..=0x7F => false,
+        _ => space_by_class(c),
     }
 }
 
