@@ -5,13 +5,15 @@ use native.Mathlib.Omega.{arith}
 use mathlib.Core.Logic.{_⊎_, inl, inr, ⊎-elim}
 use mathlib.Core.Bool.{Bool, true, false, cond, _&&_, _||_, not}
 use mathlib.Core.List.{List, [], _∷_, _++_}
+use mathlib.Core.Option.{some}
 use lib.Dec.{leb, eqb}
 use borrow.Author.Tests.{leb-true, le-leb}
 use types.Run.{OneOf}
-use Rattle.chars.specs.Class.{classOf}
+use Rattle.chars.specs.Class.{classes, classOf}
 use Rattle.chars.specs.declared.Class.{Class}
+use Rattle.chars.specs.declared.Class.the-variants.{Letter, Other}
 use Rattle.chars.proofs.Tests.{lt-or-ge, or-cases, and-both}
-use Rattle.chars.proofs.Segments.{has, Not, no-none, no-more, all-of}
+use Rattle.chars.proofs.Segments.{has, over, one-over, Not, no-none, no-more, all-of}
 use Rattle.lexer.specs.Tokens.{isLetter, isDigit, isSpace, isWordContinue, isAsciiDigit, isWhitespace}
 use Rattle.lexer.proofs.Scans.{byTest, digit-range}
 use Rattle.lexer.proofs.Keywords.{allBelow, all-below}
@@ -119,3 +121,12 @@ module _ (c : ℕ) where
 
   pub digit-above : 0x3A ≤ c → false ≡ isAsciiDigit c
   digit-above l = byTest (isAsciiDigit c) (λ e. absurd (omega (arith, digit-range c e))) (λ e. sym e)
+
+-- ---- letters
+module _ (c : ℕ) where
+  pub latin-from : (lo hi : ℕ) (b : Bool) → lo ≤ c → c < hi → over classes Other [] lo hi ≡ some Letter → b ≡ true → classOf c ≡ Letter
+  unfolding classOf
+  latin-from lo hi b l u e p = one-over c Other [] (no-none c) lo hi l u classes Letter e
+
+  pub latin-not : false ≡ true → classOf c ≡ Letter
+  latin-not e = cc

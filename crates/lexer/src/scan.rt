@@ -1,9 +1,11 @@
 // Scans: how far a word, a number, a line or a string goes.
 ghost use mathlib.Core.Path.{_≡_};
-ghost use mathlib.Core.Bool.{false};
+ghost use mathlib.Core.Bool.{true, false};
 ghost use Prim.Native.Nat.{_+_, _-_, _*_, _≤_, min};
 ghost use Rattle.chars.specs.Utf8.{sizes};
-ghost use Rattle.lexer.specs.Tokens.{isWordStart, isWordContinue, isAsciiDigit, isWhitespace, run};
+ghost use Rattle.chars.specs.Class.{classOf};
+ghost use Rattle.chars.specs.declared.Class.the-variants.{Letter};
+ghost use Rattle.lexer.specs.Tokens.{isWordContinue, isAsciiDigit, isWhitespace, run};
 ghost use Rattle.lexer.specs.Words.{value};
 ghost use Rattle.lexer.specs.Places.{rest, startsWith, lineAt, stringEnd};
 use crate::Line;
@@ -11,20 +13,13 @@ use crate::StringEnd;
 use chars::Class;
 use chars::Decoded;
 
-// Whether c can start a word.
-pub(crate) fn is_word_start(c: u32) -> bool
-    ensures { λ r. ⌜ r ≡ isWordStart c ⌝ }
+// Whether c is an ASCII letter.
+pub(crate) fn is_latin(c: u32) -> bool
+    ensures { λ r. ⌜ (r ≡ true → classOf c ≡ Letter) ⌝ }
 {
-    if c == 0x5F {
-        return true;
-    }
-    let k = chars::class_of(c);
-    match k {
-        Class::Letter => true,
-        Class::Digit => false,
-        Class::Space => false,
-        Class::Sign => false,
-        Class::Other => false,
+    match c {
+        0x61..=0x7A | 0x41..=0x5A => true,
+        _ => false,
     }
 }
 
