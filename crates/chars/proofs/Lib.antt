@@ -5,4 +5,5 @@ pub mod Encoding
 pub mod Laws
 pub mod Scans
 pub mod Theorems
+pub mod Blocks
 pub mod Examples

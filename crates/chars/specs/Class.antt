@@ -3,7 +3,7 @@ use Prim.Native.Nat.{ℕ, _+_}
 use mathlib.Core.List.{List, [], _∷_}
 use mathlib.Core.Bool.{true, false}
 use Rattle.chars.specs.Ranges.{Range, to, Entry, rows, lookup, within}
-use Rattle.chars.specs.Utf8.{size, decode}
+use Rattle.chars.specs.Utf8.{size, decode, validUpTo}
 use Rattle.chars.specs.declared.Class.{Class}
 use Rattle.chars.specs.declared.Class.the-variants.{Letter, Digit, Space, Sign, Other}
 use Rattle.chars.specs.declared.Outside.{Outside}
@@ -51,3 +51,13 @@ outsideFrom o (c ∷ cs) = elim (within admitted c) [ true ↦ outsideFrom (o + 
 unfoldable pub firstOutside : List ℕ → Outside
 unfolding outsideFrom decode
 firstOutside t = outsideFrom 0 (decode t)
+
+-- the place of the first character outside the set where there is one, else the place v
+unfoldable pub orElse : Outside → ℕ → ℕ
+orElse (At i) v = i
+orElse Nowhere v = v
+
+-- how far a text is UTF-8 and within the set
+unfoldable pub plainUpTo : List ℕ → ℕ
+unfolding orElse firstOutside validUpTo
+plainUpTo t = orElse (firstOutside t) (validUpTo t)

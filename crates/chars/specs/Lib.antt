@@ -1,3 +1,4 @@
 pub mod Utf8
 pub mod Ranges
 pub mod Class
+pub mod Blocks

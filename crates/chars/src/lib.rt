@@ -1,10 +1,11 @@
 // Characters of a text: UTF-8 (RFC 3629), the set that a description may use, and the classes of code points.
 ghost use mathlib.Core.Path.{_≡_};
 ghost use Prim.Native.Nat.{_+_, _<_, _≤_};
-ghost use lib.ListN.{getD, drop};
-ghost use Rattle.chars.specs.Utf8.{scalar, size, tailOf, form, lead, front, decodedAt, validUpTo};
+ghost use lib.ListN.{length, getD, drop};
+ghost use Rattle.chars.specs.Utf8.{scalar, size, sizes, tailOf, form, front, decode, decodedAt, validUpTo};
 ghost use Rattle.chars.specs.Ranges.{within};
-ghost use Rattle.chars.specs.Class.{admitted, firstOutside, classOf};
+ghost use Rattle.chars.specs.Blocks.{ors};
+ghost use Rattle.chars.specs.Class.{admitted, outsideFrom, firstOutside, plainUpTo, classOf};
 
 // The character at a place: its code point and the place after it; no character; the text's end.
 pub enum Decoded {
@@ -46,7 +47,7 @@ pub fn len_utf8(c: u32) -> usize
 
 // A byte as a number to count with.
 fn wide(b: u8) -> u32
-    ensures { λ r. ⌜ r ≡ b ⌝ }
+    ensures { λ r. ⌜ (r ≡ b) × (r < 256) ⌝ }
 {
     b as u32
 }
@@ -97,47 +98,47 @@ fn formed(at: usize, n: usize, code: u32) -> Decoded
     Decoded::Invalid
 }
 
-// The character at a place, of its first byte, which is above ASCII, and the bits of the three bytes after it.
-fn character(at: usize, a: u32, b: u32, c: u32, d: u32) -> Decoded
-    requires { ⌜ (at + 4 < 18446744073709551616) × (0x80 ≤ a) × (a < 256) ⌝ }
-    ensures { λ r. ⌜ r ≡ decodedAt at (lead a b c d) ⌝ }
+// The character at a place whose first byte, a, is above ASCII.
+fn long_at(text: &[u8], at: usize, a: u32) -> Decoded
+    requires { ⌜ (at < length (now text)) × (a ≡ getD (now text) at 0) × (0x80 ≤ a) × (a < 256) ⌝ }
+    ensures { λ r. ⌜ r ≡ decodedAt at (front (drop at (now (text .entry)))) ⌝ }
 {
     if a < 0xC0 {
         return Decoded::Invalid;
     }
+    let b = tail(byte(text, at + 1));
     if 64 <= b {
         return Decoded::Invalid;
     }
     if a < 0xE0 {
         return formed(at, 2, (a - 0xC0) * 64 + b);
     }
+    let c = tail(byte(text, at + 2));
     if 64 <= c {
         return Decoded::Invalid;
     }
     if a < 0xF0 {
         return formed(at, 3, (a - 0xE0) * 4096 + b * 64 + c);
     }
+    let d = tail(byte(text, at + 3));
     if 64 <= d {
         return Decoded::Invalid;
     }
     formed(at, 4, (a - 0xF0) * 262144 + b * 4096 + c * 64 + d)
 }
 
-// The character at a place of a text.
+// The character at a place of a text. Small, so that it is compiled into its callers: ASCII is decided here.
 pub fn char_at(text: &[u8], at: usize) -> Decoded
     ensures { λ r. ⌜ r ≡ decodedAt at (front (drop at (now (text .entry)))) ⌝ }
 {
     if text.len() <= at {
         return Decoded::End;
     }
-    let a = wide(byte(text, at));
+    let a = wide(text[at]);
     if a < 0x80 {
         return Decoded::Char(a, at + 1);
     }
-    let b = tail(byte(text, at + 1));
-    let c = tail(byte(text, at + 2));
-    let d = tail(byte(text, at + 3));
-    character(at, a, b, c, d)
+    long_at(text, at, a)
 }
 
 // The length of the longest UTF-8 beginning.
@@ -184,6 +185,70 @@ pub fn first_outside(text: &[u8]) -> Outside
             }
             Decoded::Invalid => return Outside::Nowhere,
             Decoded::End => return Outside::Nowhere,
+        }
+    }
+}
+
+// Eight bytes, or-ed together: below 80 where all are ASCII.
+fn eight(text: &[u8], at: usize) -> u8
+    requires { ⌜ at + 8 ≤ length (now text) ⌝ }
+    ensures { λ r. ⌜ r ≡ ors (now (text .entry)) at ⌝ }
+{
+    let x = text[at] | (text[at + 1] | (text[at + 2] | text[at + 3]));
+    x | (text[at + 4] | (text[at + 5] | (text[at + 6] | text[at + 7])))
+}
+
+// A place before which all bytes are ASCII, from one on: blocks of eight are passed over.
+fn ascii_blocks(text: &[u8], at: usize) -> usize
+    requires { ⌜ at ≤ length (now text) ⌝ }
+    ensures { λ r. ⌜ (at ≤ r) × (r ≤ length (now (text .entry))) × (r + sizes (decode (drop r (now (text .entry)))) ≡ at + sizes (decode (drop at (now (text .entry))))) × (outsideFrom r (decode (drop r (now (text .entry)))) ≡ outsideFrom at (decode (drop at (now (text .entry))))) ⌝ }
+{
+    let mut i = at;
+    while 8 <= text.len() - i {
+        if 0x80 <= eight(text, i) {
+            return i;
+        }
+        i += 8;
+    }
+    i
+}
+
+// The place of the first byte above ASCII from a place on, or the end.
+fn ascii_end(text: &[u8], at: usize) -> usize
+    requires { ⌜ at ≤ length (now text) ⌝ }
+    ensures { λ r. ⌜ (at ≤ r) × (r ≤ length (now (text .entry))) × (r + sizes (decode (drop r (now (text .entry)))) ≡ at + sizes (decode (drop at (now (text .entry))))) × (outsideFrom r (decode (drop r (now (text .entry)))) ≡ outsideFrom at (decode (drop at (now (text .entry))))) × (r < length (now (text .entry)) → 0x80 ≤ getD (now (text .entry)) r 0) ⌝ }
+{
+    let mut i = ascii_blocks(text, at);
+    while i < text.len() {
+        if 0x80 <= text[i] {
+            return i;
+        }
+        i += 1;
+    }
+    i
+}
+
+// The place of the first character outside the set, or the end of the longest UTF-8 beginning where there is none.
+pub fn plain_up_to(text: &[u8]) -> usize
+    ensures { λ r. ⌜ r ≡ plainUpTo (now (text .entry)) ⌝ }
+{
+    let mut at = 0;
+    loop {
+        let end = ascii_end(text, at);
+        if text.len() <= end {
+            return end;
+        }
+        let d = long_at(text, end, wide(text[end]));
+        match d {
+            Decoded::Char(c, next) => {
+                if is_admitted(c) {
+                    at = next;
+                } else {
+                    return end;
+                }
+            }
+            Decoded::Invalid => return end,
+            Decoded::End => return end,
         }
     }
 }

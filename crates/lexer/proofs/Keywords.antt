@@ -9,13 +9,12 @@ use mathlib.Core.List.{List, [], _∷_, _++_, map}
 use lib.Dec.{eqb, leb}
 use lib.ListN.{length, getD, take, drop, drop-of-length-le}
 use lib.Seq.{drop-cons}
-use borrow.Author.Tests.{eq-eqb, ne-eqb, eqb-true, leb-true, le-leb, lt-leb}
-use mir.Syntax.{w64}
-use mir.Val.{Fits}
+use borrow.Author.Tests.{eq-eqb, ne-eqb, eqb-true, eqb-false, leb-true, le-leb, lt-leb}
 use Rattle.chars.specs.Utf8.{encode}
 use Rattle.chars.proofs.Tests.{and-both, lt-or-ge}
+use Rattle.chars.proofs.Segments.{has, Not, no-none, no-more}
 use Rattle.lexer.specs.Text.{same}
-use Rattle.lexer.specs.Words.{keywords, keywordBytes, position}
+use Rattle.lexer.specs.Words.{keywords, keywordBytes, position, numbered, keywordsOf, numberIn}
 use Rattle.lexer.specs.Places.{part}
 use Rattle.lexer.proofs.Scans.{byTest}
 
@@ -91,56 +90,6 @@ all-below f (suc n) e k h =
     let w = and-both (f n) (allBelow f n) e in
     ⊎-elim (λ (l : k < n). all-below f n (w .1) k l) (λ (g : n ≤ k). let p : k ≡ n = omega arith in rw p (w .0)) (lt-or-ge k n)
 
--- the bytes of all keywords, one behind the other, and where each starts
-abbrev pub joined : List (List ℕ) → List ℕ
-joined [] = []
-joined (w ∷ ws) = w ++ joined ws
-
-abbrev pub startsFrom : ℕ → List (List ℕ) → List ℕ
-startsFrom n [] = n ∷ []
-startsFrom n (w ∷ ws) = n ∷ startsFrom (n + length w) ws
-
-unfoldable pub table : List ℕ
-unfolding keywordBytes
-table = joined keywordBytes
-
-unfoldable pub starts : List ℕ
-unfolding keywordBytes
-starts = startsFrom 0 keywordBytes
-
--- the k-th keyword stands between its start and the next one's
-abbrev rowRight : ℕ → Bool
-rowRight k =
-    leb (getD starts k 0) (getD starts (suc k) 0) && (leb (getD starts (suc k) 0) (length table)
-    && same (take (getD starts (suc k) 0 - getD starts k 0) (drop (getD starts k 0) table)) (getD keywordBytes k []))
-
-rows-right : allBelow rowRight 24 ≡ true
-unfolding table starts keywordBytes
-rows-right = refl
-
-count : length keywordBytes ≡ 24
-unfolding keywordBytes
-count = refl
-
--- what the table says of each k
-module _ (k : ℕ) (h : k < 24) where
-  right : (leb (getD starts k 0) (getD starts (suc k) 0) ≡ true) × ((leb (getD starts (suc k) 0) (length table)
-      && same (take (getD starts (suc k) 0 - getD starts k 0) (drop (getD starts k 0) table)) (getD keywordBytes k [])) ≡ true)
-  right = and-both _ _ (all-below rowRight 24 rows-right k h)
-
-  pub row-order : getD starts k 0 ≤ getD starts (k + 1) 0
-  row-order = rw add-one (leb-true _ _ (right .0))
-
-  pub row-inside : getD starts (k + 1) 0 ≤ length table
-  row-inside = rw add-one (leb-true _ _ (and-both _ _ (right .1) .0))
-
-  pub row-is : take (getD starts (k + 1) 0 - getD starts k 0) (drop (getD starts k 0) table) ≡ getD keywordBytes k []
-  row-is =
-      rw add-one
-      (same-true (take (getD starts (suc k) 0 - getD starts k 0) (drop (getD starts k 0) table)) (getD keywordBytes k [])
-      (and-both (leb (getD starts (suc k) 0) (length table)) (same (take (getD starts (suc k) 0 - getD starts k 0) (drop (getD starts k 0) table)) (getD keywordBytes k []))
-      (right .1) .1))
-
 pub position-true : (n : ℕ) (w : List ℕ) (ws : List (List ℕ)) (x : List ℕ) → same w x ≡ true → position n (w ∷ ws) x ≡ n
 unfolding position
 position-true n w ws x e = rw (e, position)
@@ -149,58 +98,58 @@ pub position-false : (n : ℕ) (w : List ℕ) (ws : List (List ℕ)) (x : List �
 unfolding position
 position-false n w ws x e = rw (e, position)
 
--- the loop of `keyword_of`: none of the first k keywords is the name
-pub record Sought (names from name : List ℕ) (k : ℕ) : Type 0 where
-  pub is-table : names ≡ table
-  pub is-starts : from ≡ starts
-  pub few : k ≤ 24
-  pub left : position (suc k) (drop k keywordBytes) name ≡ position 1 keywordBytes name
+-- ---- the keywords of a length
+pub number-hit : (n : ℕ) (k w : List ℕ) (ks : List (ℕ × List ℕ)) (b : Bool) → b ≡ same k w → b ≡ true → n ≡ numberIn ((n, k) ∷ ks) w
+unfolding numberIn
+number-hit n k w ks b e p = rw (← e, p)
 
-pub sought-start : (names from name : List ℕ) → names ≡ table → from ≡ starts → Sought names from name 0
-sought-start names from name p q = record { is-table = p; is-starts = q; few = omega arith; left = refl }
+pub number-miss : (x n : ℕ) (k w : List ℕ) (ks : List (ℕ × List ℕ)) (b : Bool) → b ≡ same k w → b ≡ false → x ≡ numberIn ks w → x ≡ numberIn ((n, k) ∷ ks) w
+unfolding numberIn
+number-miss x n k w ks b e p q = rw (← e, p) q
 
-module _ (names from name : List ℕ) (k : ℕ) (st : Sought names from name k) where
-  module _ (h : k < 24) where
-    pub sought-order : getD from k 0 ≤ getD from (k + 1) 0
-    sought-order = rw (st .is-starts) (row-order k h)
+pub number-none : (w : List ℕ) → 0 ≡ numberIn [] w
+unfolding numberIn
+number-none w = refl
 
-    pub sought-inside : getD from (k + 1) 0 ≤ length names
-    sought-inside = rw (st .is-starts, st .is-table) (row-inside k h)
+-- of another length, a keyword is not the name
+numbered-is : (ks : List (List ℕ)) (n : ℕ) (w : List ℕ) → numberIn (numbered (length w) n ks) w ≡ position n ks w
+unfolding numberIn numbered position
+numbered-is [] n w = refl
+numbered-is (k ∷ ks) n w =
+    byTest (eqb (length k) (length w))
+    (λ e. byTest (same k w)
+    (λ p. rw (e, numbered) (rw p (sym (position-true n k ks w p))))
+    (λ p. rw (e, numbered) (rw p (numbered-is ks (suc n) w ∙ sym (position-false n k ks w p)))))
+    (λ e.
+    let p : same k w ≡ false = sym (same-lengths k w (eqb-false (length k) (length w) e)) in
+    rw (e, numbered) (numbered-is ks (suc n) w ∙ sym (position-false n k ks w p)))
 
-    pub sought-next-fits : Fits w64 (getD from (k + 1) 0)
-    unfolding table keywordBytes
-    sought-next-fits = omega (arith, row-inside k h, ap (λ (s : List ℕ). getD s (k + 1) 0) (st .is-starts))
+pub keyword-of-length : (m r : ℕ) (w : List ℕ) → length w ≡ m → r ≡ numberIn (keywordsOf m) w → r ≡ position 1 keywordBytes w
+unfolding keywordsOf
+keyword-of-length m r w e p = p ∙ sym (ap (λ (j : ℕ). numberIn (numbered j 1 keywordBytes) w) e) ∙ numbered-is keywordBytes 1 w
 
-    pub sought-fits : Fits w64 (getD from k 0)
-    unfolding table keywordBytes
-    sought-fits = omega (arith, row-inside k h, row-order k h, ap (λ (s : List ℕ). getD s k 0) (st .is-starts))
+abbrev lengths : List ℕ
+lengths = 1 ∷ 2 ∷ 3 ∷ 4 ∷ 5 ∷ 6 ∷ 7 ∷ 8 ∷ 10 ∷ []
 
-    here : position (suc k) (getD keywordBytes k [] ∷ drop (suc k) keywordBytes) name ≡ position 1 keywordBytes name
-    here = sym (ap (λ (l : List (List ℕ)). position (suc k) l name) (drop-cons keywordBytes k [] (rw count h))) ∙ st .left
+abbrev allIn : List (List ℕ) → Bool
+allIn [] = true
+allIn (k ∷ ks) = has lengths (length k) && allIn ks
 
-    row-same : (b : Bool) → b ≡ same (take (getD from (k + 1) 0 - getD from k 0) (drop (getD from k 0) names)) name → same (getD keywordBytes k []) name ≡ b
-    row-same b e =
-        sym (ap (λ (l : List ℕ). same l name) (row-is k h))
-        ∙ sym (e ∙ ap (λ (s : List ℕ). same (take (getD s (k + 1) 0 - getD s k 0) (drop (getD s k 0) names)) name) (st .is-starts)
-        ∙ ap (λ (s : List ℕ). same (take (getD starts (k + 1) 0 - getD starts k 0) (drop (getD starts k 0) s)) name) (st .is-table))
+lengths-right : allIn keywordBytes ≡ true
+unfolding keywordBytes
+lengths-right = refl
 
-    module _ (b : Bool) (e : b ≡ same (take (getD from (k + 1) 0 - getD from k 0) (drop (getD from k 0) names)) name) where
-      pub sought-found : b ≡ true → k + 1 ≡ position 1 keywordBytes name
-      sought-found p = rw add-one (sym (position-true (suc k) (getD keywordBytes k []) (drop (suc k) keywordBytes) name (row-same b e ∙ p)) ∙ here)
+no-position : (ks : List (List ℕ)) (n : ℕ) (w : List ℕ) → allIn ks ≡ true → Not (length w) lengths → 0 ≡ position n ks w
+unfolding position
+no-position [] n w e f = refl
+no-position (k ∷ ks) n w e f =
+    let u = and-both (has lengths (length k)) (allIn ks) e in
+    let p : same k w ≡ false = sym (same-lengths k w (λ (z : length k ≡ length w). f (length k) (u .0) (sym z))) in
+    no-position ks (suc n) w (u .1) f ∙ sym (position-false n k ks w p)
 
-      pub sought-on : b ≡ false → Sought names from name (k + 1)
-      sought-on p = record {
-        is-table = st .is-table;
-        is-starts = st .is-starts;
-        few = omega arith;
-        left = rw add-one (sym (position-false (suc k) (getD keywordBytes k []) (drop (suc k) keywordBytes) name (row-same b e ∙ p)) ∙ here);
-      }
-
-  pub sought-none : 24 ≤ k → 0 ≡ position 1 keywordBytes name
-  unfolding position keywordBytes
-  sought-none h =
-      let p : k ≡ 24 = omega (arith, st .few) in
-      sym (ap (λ (j : ℕ). position (suc j) (drop j keywordBytes) name) p) ∙ st .left
+pub keyword-of-none : (w : List ℕ) → (length w ≡ 1 → ⊥) → (length w ≡ 2 → ⊥) → (length w ≡ 3 → ⊥) → (length w ≡ 4 → ⊥) → (length w ≡ 5 → ⊥) → (length w ≡ 6 → ⊥) → (length w ≡ 7 → ⊥) → (length w ≡ 8 → ⊥) → (length w ≡ 10 → ⊥) → 0 ≡ position 1 keywordBytes w
+keyword-of-none w f1 f2 f3 f4 f5 f6 f7 f8 f10 =
+    no-position keywordBytes 1 w lengths-right (no-more (length w) (1 ∷ []) (2 ∷ 3 ∷ 4 ∷ 5 ∷ 6 ∷ 7 ∷ 8 ∷ 10 ∷ []) f1 (no-more (length w) (2 ∷ []) (3 ∷ 4 ∷ 5 ∷ 6 ∷ 7 ∷ 8 ∷ 10 ∷ []) f2 (no-more (length w) (3 ∷ []) (4 ∷ 5 ∷ 6 ∷ 7 ∷ 8 ∷ 10 ∷ []) f3 (no-more (length w) (4 ∷ []) (5 ∷ 6 ∷ 7 ∷ 8 ∷ 10 ∷ []) f4 (no-more (length w) (5 ∷ []) (6 ∷ 7 ∷ 8 ∷ 10 ∷ []) f5 (no-more (length w) (6 ∷ []) (7 ∷ 8 ∷ 10 ∷ []) f6 (no-more (length w) (7 ∷ []) (8 ∷ 10 ∷ []) f7 (no-more (length w) (8 ∷ []) (10 ∷ []) f8 (no-more (length w) (10 ∷ []) [] f10 (no-none (length w)))))))))))
 
 pub same-of : (x y a b : List ℕ) (r : Bool) → x ≡ a → y ≡ b → r ≡ same x y → r ≡ same a b
 same-of x y a b r p q e = cc

@@ -67,7 +67,7 @@ pub piece-tok : (o n : ℕ) (r : List ℕ) (t : TokenKind) (w a b k e v m : ℕ)
 unfolding pieceOf
 piece-tok o n r t w a b k e v m p q g = cc
 
-piece-of : (o n : ℕ) (r : List ℕ) (s s′ : Step) (x : Piece) → s ≡ s′ → x ≡ pieceOf o n r s′ → x ≡ pieceOf o n r s
+pub piece-of : (o n : ℕ) (r : List ℕ) (s s′ : Step) (x : Piece) → s ≡ s′ → x ≡ pieceOf o n r s′ → x ≡ pieceOf o n r s
 piece-of o n r s s′ x p q = q ∙ sym (ap (pieceOf o n r) p)
 
 -- the beginnings that the scans find
@@ -406,34 +406,17 @@ number-token t at c next end v m d p g e =
     (g ∙ ap (λ (l : List ℕ). next + sizes l) (sym (run-prefix isAsciiDigit r)))
 
 -- ---- a character of no class, and the first character of any piece
-step-word : (c : ℕ) (r : List ℕ) → c ≡ 0x5F → otherStep c r ≡ wordStep c r
+pub step-word : (c : ℕ) (r : List ℕ) → c ≡ 0x5F → otherStep c r ≡ wordStep c r
 unfolding otherStep
 step-word c r e = rw (eq-eqb c 0x5F e, otherStep)
 
-step-string : (c : ℕ) (r : List ℕ) → c ≡ 0x22 → otherStep c r ≡ stringStep r
-unfolding otherStep
-step-string c r e = ap (λ (x : ℕ). otherStep x r) e
-
-step-quoted : (c : ℕ) (r : List ℕ) → c ≡ 0x27 → otherStep c r ≡ quotedStep r
-unfolding otherStep
-step-quoted c r e = ap (λ (x : ℕ). otherStep x r) e
-
-step-slash : (c : ℕ) (r : List ℕ) → c ≡ 0x2F → otherStep c r ≡ slashStep r
-unfolding otherStep
-step-slash c r e = ap (λ (x : ℕ). otherStep x r) e
-
-step-sign : (c : ℕ) (r : List ℕ) → (c ≡ 0x5F → ⊥) → (c ≡ 0x22 → ⊥) → (c ≡ 0x27 → ⊥) → (c ≡ 0x2F → ⊥) → otherStep c r ≡ tok (sign c) (size c) 0 0 0
+pub step-sign : (c : ℕ) (r : List ℕ) → (c ≡ 0x5F → ⊥) → (c ≡ 0x22 → ⊥) → (c ≡ 0x27 → ⊥) → (c ≡ 0x2F → ⊥) → otherStep c r ≡ tok (sign c) (size c) 0 0 0
 unfolding otherStep
 step-sign c r f g h k = rw (ne-eqb c 0x5F f, otherStep) (rw (ne-eqb c 0x22 g, ne-eqb c 0x27 h, ne-eqb c 0x2F k))
 
-sign-token : (at c next k : ℕ) (r : List ℕ) → next ≡ at + size c → k ≡ signNumber c → Tok k next c next ≡ pieceOf at next r (tok (sign c) (size c) 0 0 0)
+pub sign-token : (at c next k : ℕ) (r : List ℕ) → next ≡ at + size c → k ≡ signNumber c → Tok k next c next ≡ pieceOf at next r (tok (sign c) (size c) 0 0 0)
 unfolding kindNumber tokenValue sizes
 sign-token at c next k r m e = rw e (piece-tok at next r (sign c) (size c) 0 0 0 next c next m refl (no-bytes next))
-
--- a character of no class starts a word where it is an underscore
-start-other : (c : ℕ) (b : Bool) → classOf c ≡ Other → b ≡ isWordStart c → {x : Bool} → b ≡ x → eqb c 0x5F ≡ x
-unfolding isWordStart
-start-other c b k q e = sym (ap (λ (y : Class). isLetter y || eqb c 0x5F) k) ∙ sym q ∙ e
 
 -- a character of one byte: the next stands one further on
 one-next : (at c n next : ℕ) → next ≡ at + size c → c ≡ n → size n ≡ 1 → at + 1 ≡ next
@@ -456,32 +439,41 @@ step-class c r f Sign e = rw (ne-eqb c 10 f, step) (rw e)
 step-class c r f Other e = rw (ne-eqb c 10 f, step) (rw e)
 
 module _ (t : List ℕ) (at c next : ℕ) (m : next ≡ at + size c) where
-  pub other-word : (x : Piece) (b : Bool) → classOf c ≡ Other → b ≡ isWordStart c → b ≡ true → x ≡ pieceOf at next (decode (drop next t)) (wordStep c (decode (drop next t))) → x ≡ pieceOf at next (decode (drop next t)) (otherStep c (decode (drop next t)))
-  other-word x b k q e p = piece-of at next _ _ _ x (step-word c (decode (drop next t)) (eqb-true c 0x5F (start-other c b k q e))) p
+  pub other-word : (x : Piece) → c ≡ 0x5F → x ≡ pieceOf at next (decode (drop next t)) (wordStep c (decode (drop next t))) → x ≡ pieceOf at next (decode (drop next t)) (otherStep c (decode (drop next t)))
+  other-word x e p = piece-of at next _ _ _ x (step-word c (decode (drop next t)) e) p
 
-  -- the piece at the place behind a character of one byte
-  moved : (x : Piece) (s : List ℕ → Step) → at + 1 ≡ next → otherStep c (decode (drop next t)) ≡ s (decode (drop next t))
-      → x ≡ pieceOf at (at + 1) (decode (drop (at + 1) t)) (s (decode (drop (at + 1) t))) → x ≡ pieceOf at next (decode (drop next t)) (otherStep c (decode (drop next t)))
+  pub other-sign : (k : ℕ) → (c ≡ 0x5F → ⊥) → (c ≡ 0x22 → ⊥) → (c ≡ 0x27 → ⊥) → (c ≡ 0x2F → ⊥) → k ≡ signNumber c
+      → Tok k next c next ≡ pieceOf at next (decode (drop next t)) (otherStep c (decode (drop next t)))
+  other-sign k f g h i e = piece-of at next _ _ _ _ (step-sign c (decode (drop next t)) f g h i) (sign-token at c next k (decode (drop next t)) m e)
+
+  -- ---- a quote or a slash: the piece at the place behind a character of one byte
+  moved : (x : Piece) (s : List ℕ → Step) → at + 1 ≡ next → step c (decode (drop next t)) ≡ s (decode (drop next t))
+      → x ≡ pieceOf at (at + 1) (decode (drop (at + 1) t)) (s (decode (drop (at + 1) t))) → x ≡ pieceOf at next (decode (drop next t)) (step c (decode (drop next t)))
   moved x s o q p = piece-of at next _ _ _ x q (p ∙ ap (λ (j : ℕ). pieceOf at j (decode (drop j t)) (s (decode (drop j t)))) o)
 
-  pub other-string : (x : Piece) → c ≡ 0x22 → x ≡ pieceOf at (at + 1) (decode (drop (at + 1) t)) (stringStep (decode (drop (at + 1) t)))
-      → x ≡ pieceOf at next (decode (drop next t)) (otherStep c (decode (drop next t)))
-  unfolding size
-  other-string x e p = moved x stringStep (one-next at c 0x22 next m e refl) (step-string c (decode (drop next t)) e) p
+  pub from-string : (x : Piece) → c ≡ 0x22 → x ≡ pieceOf at (at + 1) (decode (drop (at + 1) t)) (stringStep (decode (drop (at + 1) t)))
+      → x ≡ pieceOf at next (decode (drop next t)) (step c (decode (drop next t)))
+  unfolding size step
+  from-string x e p = moved x stringStep (one-next at c 0x22 next m e refl) (ap (λ (y : ℕ). step y (decode (drop next t))) e) p
 
-  pub other-quoted : (x : Piece) → c ≡ 0x27 → x ≡ pieceOf at (at + 1) (decode (drop (at + 1) t)) (quotedStep (decode (drop (at + 1) t)))
-      → x ≡ pieceOf at next (decode (drop next t)) (otherStep c (decode (drop next t)))
-  unfolding size
-  other-quoted x e p = moved x quotedStep (one-next at c 0x27 next m e refl) (step-quoted c (decode (drop next t)) e) p
+  pub from-quoted : (x : Piece) → c ≡ 0x27 → x ≡ pieceOf at (at + 1) (decode (drop (at + 1) t)) (quotedStep (decode (drop (at + 1) t)))
+      → x ≡ pieceOf at next (decode (drop next t)) (step c (decode (drop next t)))
+  unfolding size step
+  from-quoted x e p = moved x quotedStep (one-next at c 0x27 next m e refl) (ap (λ (y : ℕ). step y (decode (drop next t))) e) p
 
-  pub other-slash : (x : Piece) → c ≡ 0x2F → x ≡ pieceOf at (at + 1) (decode (drop (at + 1) t)) (slashStep (decode (drop (at + 1) t)))
-      → x ≡ pieceOf at next (decode (drop next t)) (otherStep c (decode (drop next t)))
-  unfolding size
-  other-slash x e p = moved x slashStep (one-next at c 0x2F next m e refl) (step-slash c (decode (drop next t)) e) p
+  pub from-slash : (x : Piece) → c ≡ 0x2F → x ≡ pieceOf at (at + 1) (decode (drop (at + 1) t)) (slashStep (decode (drop (at + 1) t)))
+      → x ≡ pieceOf at next (decode (drop next t)) (step c (decode (drop next t)))
+  unfolding size step
+  from-slash x e p = moved x slashStep (one-next at c 0x2F next m e refl) (ap (λ (y : ℕ). step y (decode (drop next t))) e) p
 
-  pub other-sign : (k : ℕ) (b : Bool) → classOf c ≡ Other → b ≡ isWordStart c → b ≡ false → (c ≡ 0x22 → ⊥) → (c ≡ 0x27 → ⊥) → (c ≡ 0x2F → ⊥) → k ≡ signNumber c
-      → Tok k next c next ≡ pieceOf at next (decode (drop next t)) (otherStep c (decode (drop next t)))
-  other-sign k b o q f g h i e = piece-of at next _ _ _ _ (step-sign c (decode (drop next t)) (eqb-false c 0x5F (start-other c b o q f)) g h i) (sign-token at c next k (decode (drop next t)) m e)
+  -- an ASCII letter
+  pub from-latin : (y : Piece) (b : Bool) → (b ≡ true → classOf c ≡ Letter) → b ≡ true → y ≡ pieceOf at next (decode (drop next t)) (wordStep c (decode (drop next t)))
+      → y ≡ pieceOf at next (decode (drop next t)) (step c (decode (drop next t)))
+  unfolding classOf
+  from-latin y b f e q = piece-of at next _ _ _ y (step-class c (decode (drop next t)) (λ (z : c ≡ 10). feed-letter (ap classOf (sym z) ∙ f e)) Letter (f e)) q
+    where
+      feed-letter : classOf 10 ≡ Letter → ⊥
+      feed-letter p = let z : _≡_ {A = ℕ} 0 1 = cc in omega arith
 
   -- ---- by class
   pub from-feed : c ≡ 10 → Tok 13 next 0 next ≡ pieceOf at next (decode (drop next t)) (step c (decode (drop next t)))

@@ -47,6 +47,9 @@ module _ (c : ℕ) (k x : Class) (b : Bool) (e : k ≡ classOf c) (p : k ≡ x) 
   unfolding isWordContinue
   continue-class f g q = rw (ne-eqb c 0x5F f, ne-eqb c 0x27 g, ← e, p) (q ∙ simp or-false)
 
+  pub continue-class-above : 0x80 ≤ c → b ≡ (isLetter x || isDigit x) → b ≡ isWordContinue c
+  continue-class-above l q = continue-class (λ (z : c ≡ 0x5F). omega arith) (λ (z : c ≡ 0x27). omega arith) q
+
   pub digit-class : b ≡ isDigit x → b ≡ isAsciiDigit c
   unfolding isAsciiDigit
   digit-class q = q ∙ ap isDigit (sym p ∙ e)

@@ -4,10 +4,10 @@ use Prim.Native.Nat.{ℕ, zero, suc, _+_, _-_, _*_, _≤_, _<_}
 use native.Mathlib.Omega.{arith}
 use native.Mathlib.Nat.{zero-add}
 use mathlib.Core.List.{List, [], _∷_, _++_}
-use lib.ListN.{length, take, drop, length-append, length-take}
+use lib.ListN.{length, getD, take, drop, length-append, length-take}
 use lib.Seq.{sets, sets-eq, length-sets, take-take}
 use lib.Dec.{leb}
-use borrow.Author.Tests.{le-leb, lt-leb}
+use borrow.Author.Tests.{eq-eqb, ne-eqb, le-leb, lt-leb}
 use mir.Syntax.{w32}
 use mir.Val.{Fits}
 use Rattle.chars.specs.Utf8.{size, sizes, decode, validUpTo}
@@ -17,6 +17,7 @@ use Rattle.chars.proofs.Theorems.{valid-le}
 use Rattle.lexer.specs.Tokens.{TokenKind, newline, Span, span, Token, tokenAt, Step, gap, tok, step, emit, tokensFrom, tokens}
 use Rattle.lexer.specs.Words.{kindNumber, tokenValue, tokenWords, flat, onto, tokenized}
 use Rattle.lexer.specs.Places.{pieceOf, piece}
+use Rattle.lexer.specs.Quick.{quickValue, quickPiece}
 use Rattle.lexer.specs.declared.Piece.{Piece}
 use Rattle.lexer.specs.declared.Piece.the-variants.{Token as Tok, Gap, End}
 use Rattle.lexer.proofs.Scans.{byTest}
@@ -212,6 +213,41 @@ module _ (t w₀ w : List ℕ) (at n : ℕ) (r : Piece) (st : State t w₀ w at 
         let f : 0 + length (flat ts) ≤ length w₀ = omega (arith, length-flat ts, done-count, st .few, st .place) in
         q ∙ sym (ap (λ (l : List (Token Span)). sets w (4 * n) (flat l)) left) ∙ st .words ∙ sets-eq (flat ts) w₀ 0 f
         ∙ ap (λ (z : ℕ). flat ts ++ drop z w₀) (zero-add (length (flat ts)))
+
+-- a character that is a piece alone, told by the table
+quick-gap : (o k c : ℕ) → k ≡ 16 → quickPiece o k c ≡ Gap (o + 1)
+unfolding quickPiece
+quick-gap o k c e = rw (eq-eqb k 16 e)
+
+quick-token : (o k c v : ℕ) → k < 16 → v ≡ quickValue k c → quickPiece o k c ≡ Tok k (o + 1) v (o + 1)
+unfolding quickPiece
+quick-token o k c v h e = rw (ne-eqb k 16 (λ (p : k ≡ 16). omega arith)) (cc)
+
+module _ (t w₀ w : List ℕ) (at n k : ℕ) (st : State t w₀ w at n) (f : k < 17 → quickPiece at k (getD t at 0) ≡ piece at (decode (drop at t))) where
+  module _ (h : k < 16) where
+    pub quick-in : (k < 17 → at < length t) → at < length t
+    quick-in g = g (omega arith)
+
+    pub quick-room : (k < 17 → at < length t) → 4 * length t + 4 ≤ length w₀ → 4 * n + 4 ≤ length w
+    quick-room g l = let p = g (omega arith) in omega (arith, st .few, st .long, st .place)
+
+    pub quick-falls : (k < 17 → at < length t) → length t - (at + 1) < length t - at
+    quick-falls g = let p = g (omega arith) in omega arith
+
+    pub state-quick : (c v : ℕ) (w′ : List ℕ) → c ≡ getD t at 0 → v ≡ quickValue k c → w′ ≡ sets w (4 * n) (k ∷ at ∷ (at + 1) ∷ v ∷ []) → State t w₀ w′ (at + 1) (n + 1)
+    state-quick c v w′ e q p =
+        state-token t w₀ w at n (quickPiece at k (getD t at 0)) st (f (omega arith)) k (at + 1) v (at + 1)
+        (quick-token at k (getD t at 0) v h (q ∙ ap (quickValue k) e)) w′ p
+
+  module _ (h : k ≡ 16) where
+    pub blank-in : (k < 17 → at < length t) → at < length t
+    blank-in g = g (omega arith)
+
+    pub blank-falls : (k < 17 → at < length t) → length t - (at + 1) < length t - at
+    blank-falls g = let p = g (omega arith) in omega arith
+
+    pub state-blank : State t w₀ w (at + 1) n
+    state-blank = state-gap t w₀ w at n (quickPiece at k (getD t at 0)) st (f (omega arith)) (at + 1) (quick-gap at k (getD t at 0) h)
 
 -- ---- how many tokens there are
 emit-few : (s : Step) (o m : ℕ) (next : ℕ → List (Token Span)) → ((n : ℕ) → length (next n) ≤ m) → length (emit o s next) ≤ suc m

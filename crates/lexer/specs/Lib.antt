@@ -2,3 +2,4 @@ pub mod Text
 pub mod Tokens
 pub mod Words
 pub mod Places
+pub mod Quick

@@ -30,6 +30,21 @@ unfoldable pub keywordBytes : List (List ℕ)
 unfolding encode
 keywordBytes = map encode keywords
 
+-- the members of m bytes, each with its number, counted from n
+unfoldable pub numbered : ℕ → ℕ → List (List ℕ) → List (ℕ × List ℕ)
+numbered m n [] = []
+numbered m n (k ∷ ks) = cond (eqb (length k) m) ((n, k) ∷ numbered m (suc n) ks) (numbered m (suc n) ks)
+
+-- the keywords of m bytes with their numbers
+unfoldable pub keywordsOf : ℕ → List (ℕ × List ℕ)
+unfolding numbered keywordBytes
+keywordsOf m = numbered m 1 keywordBytes
+
+-- the number of the first of them that equals w; 0 if none does
+unfoldable pub numberIn : List (ℕ × List ℕ) → List ℕ → ℕ
+numberIn [] w = 0
+numberIn (k ∷ ks) w = cond (same (k .1) w) (k .0) (numberIn ks w)
+
 -- the value of a list of digits behind n
 unfoldable pub valueFrom : ℕ → List ℕ → ℕ
 valueFrom n [] = n

@@ -5,8 +5,6 @@ ghost use mathlib.Core.Bool.{true};
 ghost use mathlib.Core.List.{_∷_};
 ghost use lib.ListN.{length};
 ghost use Rattle.chars.specs.Utf8.{size};
-ghost use Rattle.chars.specs.Class.{classOf};
-ghost use Rattle.chars.specs.declared.Class.the-variants.{Other};
 ghost use Rattle.lexer.specs.Tokens.{isAsciiDigit, step, wordStep, numberStep, stringStep, quotedStep, commentStep, slashStep, otherStep};
 ghost use Rattle.lexer.specs.Words.{signNumber};
 ghost use Rattle.lexer.specs.Places.{rest, pieceOf, piece};
@@ -120,31 +118,25 @@ fn slash(text: &[u8], at: usize) -> Piece
     Piece::Token(kind::OTHER, at + 1, 0x2F, at + 1)
 }
 
-// A character of no class: the beginning of a word, a string, a quoted character or a comment; or a token of its own.
+// A character of no class that is no quote and no slash: an underscore, the beginning of a word; or a token of its own.
 fn other(text: &[u8], at: usize, c: u32, next: usize) -> Piece
-    requires { ⌜ (next ≡ at + size c) × (rest (now text) at ≡ c ∷ rest (now text) next) × (at < length (now text)) × (next ≤ length (now text)) × (classOf c ≡ Other) ⌝ }
+    requires { ⌜ (next ≡ at + size c) × (rest (now text) at ≡ c ∷ rest (now text) next) × (next ≤ length (now text)) × (c ≡ 0x22 → ⊥) × (c ≡ 0x27 → ⊥) × (c ≡ 0x2F → ⊥) ⌝ }
     ensures { λ r. ⌜ r ≡ pieceOf at next (rest (now (text .entry)) next) (otherStep c (rest (now (text .entry)) next)) ⌝ }
 {
-    if scan::is_word_start(c) {
+    if c == 0x5F {
         return word(text, at, c, next);
-    }
-    if c == 0x22 {
-        return string(text, at);
-    }
-    if c == 0x27 {
-        return quoted(text, at);
-    }
-    if c == 0x2F {
-        return slash(text, at);
     }
     Piece::Token(sign_number(c), next, c, next)
 }
 
-// What begins with the character c at a place; the next stands at next.
-fn piece_from(text: &[u8], at: usize, c: u32, next: usize) -> Piece
-    requires { ⌜ (next ≡ at + size c) × (rest (now text) at ≡ c ∷ rest (now text) next) × (at < length (now text)) × (next ≤ length (now text)) ⌝ }
+// What begins with the character c at a place, which is no quote and no slash; the next stands at next. ASCII letters first: most words begin so.
+fn unmarked(text: &[u8], at: usize, c: u32, next: usize) -> Piece
+    requires { ⌜ (next ≡ at + size c) × (rest (now text) at ≡ c ∷ rest (now text) next) × (next ≤ length (now text)) × (c ≡ 0x22 → ⊥) × (c ≡ 0x27 → ⊥) × (c ≡ 0x2F → ⊥) ⌝ }
     ensures { λ r. ⌜ r ≡ pieceOf at next (rest (now (text .entry)) next) (step c (rest (now (text .entry)) next)) ⌝ }
 {
+    if scan::is_latin(c) {
+        return word(text, at, c, next);
+    }
     if c == 10 {
         return Piece::Token(kind::NEWLINE, next, 0, next);
     }
@@ -156,6 +148,23 @@ fn piece_from(text: &[u8], at: usize, c: u32, next: usize) -> Piece
         Class::Sign => Piece::Token(sign_number(c), next, c, next),
         Class::Other => other(text, at, c, next),
     }
+}
+
+// What begins with the character c at a place; the next stands at next.
+fn piece_from(text: &[u8], at: usize, c: u32, next: usize) -> Piece
+    requires { ⌜ (next ≡ at + size c) × (rest (now text) at ≡ c ∷ rest (now text) next) × (at < length (now text)) × (next ≤ length (now text)) ⌝ }
+    ensures { λ r. ⌜ r ≡ pieceOf at next (rest (now (text .entry)) next) (step c (rest (now (text .entry)) next)) ⌝ }
+{
+    if c == 0x27 {
+        return quoted(text, at);
+    }
+    if c == 0x22 {
+        return string(text, at);
+    }
+    if c == 0x2F {
+        return slash(text, at);
+    }
+    unmarked(text, at, c, next)
 }
 
 // What stands at a place.

@@ -7,10 +7,12 @@ ghost use lib.Seq.{sets};
 ghost use Rattle.chars.specs.Utf8.{decode};
 ghost use Rattle.lexer.specs.Tokens.{tokens};
 ghost use Rattle.lexer.specs.Words.{flat, onto, tokenized};
+ghost use Rattle.lexer.specs.Quick.{leads};
 
 pub mod kind;
 mod lex;
 pub mod names;
+mod quick;
 mod scan;
 
 // A half-open range of byte offsets.
@@ -53,30 +55,49 @@ fn push(work: &mut [u32], n: usize, kind: u32, start: u32, end: u32, value: u32)
     work[o + 3] = value;
 }
 
-// The tokens of a text, at the front of work; answers their number. The rest of work stays as it was.
-pub fn tokenize(text: &[u8], work: &mut [u32]) -> usize
-    requires { ⌜ (length (now text) ≤ 0x400000) × (4 * length (now text) + 4 ≤ length (now work)) ⌝ }
+// The tokens of a text, as `tokenize` has them: of one ASCII character by the table, of any other by what stands at the place.
+fn fill(table: &[u8; 128], text: &[u8], work: &mut [u32]) -> usize
+    requires { ⌜ (now table ≡ leads) × (length (now text) ≤ 0x400000) × (4 * length (now text) + 4 ≤ length (now work)) ⌝ }
     ensures { λ r. ⌜ (r ≡ length (tokens (decode (now (text .entry))))) × (now (work .exit) ≡ onto (flat (tokens (decode (now (text .entry))))) (now (work .entry))) ⌝ }
 {
     let mut at = 0;
     let mut n = 0;
     loop {
-        let p = lex::piece_at(text, at);
-        match p {
-            Piece::Token(kind, end, value, next) => {
-                push(work, n, kind, at as u32, end as u32, value);
-                n += 1;
-                at = next;
-            }
-            Piece::Gap(next) => {
-                at = next;
-            }
-            Piece::End => {
-                push(work, n, kind::NEWLINE, at as u32, at as u32, 0);
-                return n + 1;
+        let k = quick::lead_at(table, text, at);
+        if k < 16 {
+            let v = quick::value_of(k, text[at]);
+            push(work, n, k, at as u32, (at + 1) as u32, v);
+            n += 1;
+            at += 1;
+        } else if k == 16 {
+            at += 1;
+        } else {
+            let p = lex::piece_at(text, at);
+            match p {
+                Piece::Token(kind, end, value, next) => {
+                    push(work, n, kind, at as u32, end as u32, value);
+                    n += 1;
+                    at = next;
+                }
+                Piece::Gap(next) => {
+                    at = next;
+                }
+                Piece::End => {
+                    push(work, n, kind::NEWLINE, at as u32, at as u32, 0);
+                    return n + 1;
+                }
             }
         }
     }
+}
+
+// The tokens of a text, at the front of work; answers their number. The rest of work stays as it was.
+pub fn tokenize(text: &[u8], work: &mut [u32]) -> usize
+    requires { ⌜ (length (now text) ≤ 0x400000) × (4 * length (now text) + 4 ≤ length (now work)) ⌝ }
+    ensures { λ r. ⌜ (r ≡ length (tokens (decode (now (text .entry))))) × (now (work .exit) ≡ onto (flat (tokens (decode (now (text .entry))))) (now (work .entry))) ⌝ }
+{
+    let table = quick::LEADS;
+    fill(&table, text, work)
 }
 
 // The same for callers in other languages; a text that is too long or work that is too short is left as it is, and the answer is all ones.

@@ -1,9 +1,11 @@
 // Scans: how far a word, a number, a line or a string goes.
 ghost use mathlib.Core.Path.{_≡_};
-ghost use mathlib.Core.Bool.{false};
+ghost use mathlib.Core.Bool.{true, false};
 ghost use Prim.Native.Nat.{_+_, _-_, _*_, _≤_, min};
 ghost use Rattle.chars.specs.Utf8.{sizes};
-ghost use Rattle.lexer.specs.Tokens.{isWordStart, isWordContinue, isAsciiDigit, isWhitespace, run};
+ghost use Rattle.chars.specs.Class.{classOf};
+ghost use Rattle.chars.specs.declared.Class.the-variants.{Letter};
+ghost use Rattle.lexer.specs.Tokens.{isWordContinue, isAsciiDigit, isWhitespace, run};
 ghost use Rattle.lexer.specs.Words.{value};
 ghost use Rattle.lexer.specs.Places.{rest, startsWith, lineAt, stringEnd};
 use crate::Line;
@@ -11,17 +13,25 @@ use crate::StringEnd;
 use chars::Class;
 use chars::Decoded;
 
-// Whether c can start a word.
-pub(crate) fn is_word_start(c: u32) -> bool
-    ensures { λ r. ⌜ r ≡ isWordStart c ⌝ }
+// Whether c is an ASCII letter.
+pub(crate) fn is_latin(c: u32) -> bool
+    ensures { λ r. ⌜ (r ≡ true → classOf c ≡ Letter) ⌝ }
 {
-    if c == 0x5F {
-        return true;
+    match c {
+        0x61..=0x7A | 0x41..=0x5A => true,
+        _ => false,
     }
+}
+
+// Whether c, which is above ASCII, can continue a word.
+fn continues_above(c: u32) -> bool
+    requires { ⌜ 0x80 ≤ c ⌝ }
+    ensures { λ r. ⌜ r ≡ isWordContinue c ⌝ }
+{
     let k = chars::class_of(c);
     match k {
         Class::Letter => true,
-        Class::Digit => false,
+        Class::Digit => true,
         Class::Space => false,
         Class::Sign => false,
         Class::Other => false,
@@ -32,19 +42,10 @@ pub(crate) fn is_word_start(c: u32) -> bool
 pub(crate) fn is_word_continue(c: u32) -> bool
     ensures { λ r. ⌜ r ≡ isWordContinue c ⌝ }
 {
-    if c == 0x5F {
-        return true;
-    }
-    if c == 0x27 {
-        return true;
-    }
-    let k = chars::class_of(c);
-    match k {
-        Class::Letter => true,
-        Class::Digit => true,
-        Class::Space => false,
-        Class::Sign => false,
-        Class::Other => false,
+    match c {
+        0x30..=0x39 | 0x61..=0x7A | 0x41..=0x5A | 0x27 | 0x5F => true,
+        0x00..=0x7F => false,
+        _ => continues_above(c),
     }
 }
 
@@ -52,18 +53,14 @@ pub(crate) fn is_word_continue(c: u32) -> bool
 pub(crate) fn is_ascii_digit(c: u32) -> bool
     ensures { λ r. ⌜ r ≡ isAsciiDigit c ⌝ }
 {
-    let k = chars::class_of(c);
-    match k {
-        Class::Letter => false,
-        Class::Digit => true,
-        Class::Space => false,
-        Class::Sign => false,
-        Class::Other => false,
+    match c {
+        0x30..=0x39 => true,
+        _ => false,
     }
 }
 
-// Whether c is white space.
-pub(crate) fn is_whitespace(c: u32) -> bool
+// Whether c is white space, by its class.
+fn space_by_class(c: u32) -> bool
     ensures { λ r. ⌜ r ≡ isWhitespace c ⌝ }
 {
     let k = chars::class_of(c);
@@ -73,6 +70,17 @@ pub(crate) fn is_whitespace(c: u32) -> bool
         Class::Space => true,
         Class::Sign => false,
         Class::Other => false,
+    }
+}
+
+// Whether c is white space.
+pub(crate) fn is_whitespace(c: u32) -> bool
+    ensures { λ r. ⌜ r ≡ isWhitespace c ⌝ }
+{
+    match c {
+        0x09..=0x0D | 0x20 => true,
+        0x00..=0x7F => false,
+        _ => space_by_class(c),
     }
 }
 

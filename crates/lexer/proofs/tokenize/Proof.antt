@@ -1,41 +1,9 @@
--- `lexer::tokenize` meets its contract: the invariant: what is left to write, written behind what is there, gives the words of all tokens. Assumes nothing.
-use Prim.Native.Nat.{_-_}
-use lib.ListN.{length}
-use Rattle.lexer.proofs.Writes.{State, state-start, end-fits, token-falls, token-room, state-token, gap-falls, state-gap, end-room, done-count, done-words}
+-- `lexer::tokenize` meets its contract: the table is what each ASCII character begins, by one computed test, and `fill` does the rest.
 use borrow.Author.Needs.{needs}
+use Rattle.lexer.specs.Quick.{leads}
 use Rattle.lexer.proofs.tokenize.Statement.{statement}
 use Rattle.lexer.proofs.tokenize.Tie as tie
 
-abbrev Inv-loop : tie.InvT-loop
-Inv-loop text work₀ at₀ n₀ work at n = State text work₀ work at n
-
-abbrev μ-loop : tie.MeasureT-loop
-μ-loop text work₀ at₀ n₀ work at n = length text - at
-
-ruleset laws = (needs, state-start, end-fits, token-falls, token-room, state-token, gap-falls, state-gap, end-room, done-count, done-words)
-
 pub tokenize-spec : {M : Type 1} → statement M
-tokenize-spec =
-    tie.close
-    (tie.spec
-    Inv-loop
-    μ-loop
-    (λ c. search laws)
-    (λ c κs. search laws)
-    (λ c. search laws)
-    (λ c. search laws)
-    (λ c. search laws)
-    (λ c κs. search laws)
-    (λ c. search laws)
-    (λ c. search laws)
-    (λ c. search laws)
-    (λ c. search laws)
-    (λ c. search laws)
-    (λ c. search laws)
-    (λ c. search laws)
-    (λ c. search laws)
-    (λ c. search laws)
-    (λ c κs. search laws)
-    (λ c. search laws)
-    (λ c. search laws)
-    (λ c. search laws))
+unfolding leads
+tokenize-spec = tie.close (tie.spec (λ c κs. search needs) (λ c. search needs) (λ c. search needs))

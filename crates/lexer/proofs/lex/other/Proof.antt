@@ -1,21 +1,16 @@
--- `lexer::lex::other` meets its contract: one law for each return. Assumes nothing.
-use Rattle.lexer.proofs.Pieces.{other-word, other-string, other-quoted, other-slash, other-sign}
+-- `lexer::lex::other` meets its contract: one law for each return.
+use Rattle.lexer.proofs.Pieces.{other-word, other-sign}
 use borrow.Author.Needs.{needs}
 use Rattle.lexer.proofs.lex.other.Statement.{statement}
 use Rattle.lexer.proofs.lex.other.Tie as tie
+
+ruleset laws = (needs, other-word, other-sign)
 
 pub other-spec : {M : Type 1} → statement M
 other-spec =
     tie.close
     (tie.spec
-    (λ c κs. search needs)
-    (λ c κs. search needs)
-    (λ c. search (needs, other-word, other-string, other-quoted, other-slash, other-sign))
-    (λ c κs. search needs)
-    (λ c. search (needs, other-word, other-string, other-quoted, other-slash, other-sign))
-    (λ c κs. search needs)
-    (λ c. search (needs, other-word, other-string, other-quoted, other-slash, other-sign))
-    (λ c κs. search needs)
-    (λ c. search (needs, other-word, other-string, other-quoted, other-slash, other-sign))
-    (λ c κs. search needs)
-    (λ c. search (needs, other-word, other-string, other-quoted, other-slash, other-sign)))
+    (λ c κs. search laws)
+    (λ c. search laws)
+    (λ c κs. search laws)
+    (λ c. search laws))

@@ -1,26 +1,20 @@
--- `lexer::lex::piece_from` meets its contract: one law for each class. Assumes nothing.
-use Rattle.lexer.proofs.Pieces.{from-feed, from-space, from-letter, from-digit, from-sign, from-other, digit-by, class-by}
+-- `lexer::lex::piece_from` meets its contract: a quote or a slash by its test, `unmarked` answers for any other character.
+use Rattle.lexer.proofs.Pieces.{from-string, from-quoted, from-slash}
 use borrow.Author.Needs.{needs}
 use Rattle.lexer.proofs.lex.piece_from.Statement.{statement}
 use Rattle.lexer.proofs.lex.piece_from.Tie as tie
+
+ruleset laws = (needs, from-string, from-quoted, from-slash)
 
 pub piece-from-spec : {M : Type 1} → statement M
 piece-from-spec =
     tie.close
     (tie.spec
-    (λ c. search (needs, from-feed, from-space, from-letter, from-digit, from-sign, from-other, digit-by, class-by))
-    (λ c κs. search (needs, from-feed, from-space, from-letter, from-digit, from-sign, from-other, digit-by, class-by))
-    (λ c. search (needs, from-feed, from-space, from-letter, from-digit, from-sign, from-other, digit-by, class-by))
-    (λ c. search (needs, from-feed, from-space, from-letter, from-digit, from-sign, from-other, digit-by, class-by))
-    (λ c κs. search (needs, from-feed, from-space, from-letter, from-digit, from-sign, from-other, digit-by, class-by))
-    (λ c. search (needs, from-feed, from-space, from-letter, from-digit, from-sign, from-other, digit-by, class-by))
-    (λ c κs. search (needs, from-feed, from-space, from-letter, from-digit, from-sign, from-other, digit-by, class-by))
-    (λ c. search (needs, from-feed, from-space, from-letter, from-digit, from-sign, from-other, digit-by, class-by))
-    (λ c κs. search (needs, from-feed, from-space, from-letter, from-digit, from-sign, from-other, digit-by, class-by))
-    (λ c. search (needs, from-feed, from-space, from-letter, from-digit, from-sign, from-other, digit-by, class-by))
-    (λ c κs. search (needs, from-feed, from-space, from-letter, from-digit, from-sign, from-other, digit-by, class-by))
-    (λ c. search (needs, from-feed, from-space, from-letter, from-digit, from-sign, from-other, digit-by, class-by))
-    (λ c. search (needs, from-feed, from-space, from-letter, from-digit, from-sign, from-other, digit-by, class-by))
-    (λ c. search (needs, from-feed, from-space, from-letter, from-digit, from-sign, from-other, digit-by, class-by))
-    (λ c. search (needs, from-feed, from-space, from-letter, from-digit, from-sign, from-other, digit-by, class-by))
-    (λ c. search (needs, from-feed, from-space, from-letter, from-digit, from-sign, from-other, digit-by, class-by)))
+    (λ c κs. search laws)
+    (λ c. search laws)
+    (λ c κs. search laws)
+    (λ c. search laws)
+    (λ c κs. search laws)
+    (λ c. search laws)
+    (λ c κs. search laws)
+    (λ c. search laws))

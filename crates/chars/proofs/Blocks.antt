@@ -1,0 +1,180 @@
+-- Runs of ASCII bytes: what the definitions say of a text behind one is what they say before it.
+use mathlib.Core.Path.{_≡_, refl, sym, ap, subst, _∙_}
+use Prim.Native.Nat.{ℕ, zero, suc, _+_, _-_, _≤_, _<_, zero-le}
+use native.Mathlib.Omega.{arith}
+use native.Mathlib.Nat.{add-zero}
+use mathlib.Core.Bool.{Bool, true, false}
+use mathlib.Core.List.{List, [], _∷_}
+use mathlib.Core.Option.{some}
+use lib.Bits.{bitOr, bitAnd, or-add-and, and-le-l, and-le-r}
+use lib.ListN.{length, getD, drop}
+use Rattle.chars.specs.Utf8.{size, sizes, front, decode, validUpTo, decodedAt}
+use Rattle.chars.specs.Ranges.{rows, within}
+use Rattle.chars.specs.Blocks.{ors}
+use Rattle.chars.specs.Class.{admitted, outsideFrom, firstOutside, orElse, plainUpTo}
+use Rattle.chars.specs.declared.Decoded.{Decoded}
+use Rattle.chars.specs.declared.Decoded.the-variants.{Char, Invalid, End}
+use Rattle.chars.specs.declared.Outside.{Outside}
+use Rattle.chars.specs.declared.Outside.the-variants.{At, Nowhere}
+use Rattle.chars.proofs.Front.{char-at-ascii}
+use Rattle.chars.proofs.Laws.{char-decode, char-falls, decode-end}
+use Rattle.chars.proofs.Scans.{valid-on, valid-invalid, valid-end, outside-on, outside-here, outside-invalid, outside-end}
+use Rattle.chars.proofs.Encoding.{size-range}
+use Rattle.chars.proofs.Theorems.{valid-le}
+use Rattle.chars.proofs.Segments.{over, one-over, no-none}
+
+-- ---- one ASCII byte
+admitted-ascii : (c : ℕ) → c < 0x80 → true ≡ within admitted c
+unfolding within
+admitted-ascii c u = sym (one-over c _ [] (no-none c) 0 0x80 zero-le u (rows true admitted []) true refl)
+
+module _ (t : List ℕ) (i : ℕ) (h : i < length t) (l : getD t i 0 < 0x80) where
+  pub ascii-decode : decode (drop i t) ≡ getD t i 0 ∷ decode (drop (i + 1) t)
+  ascii-decode = char-decode t i (Char (getD t i 0) (i + 1)) (char-at-ascii t i (getD t i 0) h refl l) (getD t i 0) (i + 1) refl
+
+  ascii-valid : (v : ℕ) → i + sizes (decode (drop i t)) ≡ v → i + 1 + sizes (decode (drop (i + 1) t)) ≡ v
+  ascii-valid v p = valid-on t i (Char (getD t i 0) (i + 1)) (char-at-ascii t i (getD t i 0) h refl l) v p (getD t i 0) (i + 1) refl
+
+  ascii-outside : (v : Outside) → outsideFrom i (decode (drop i t)) ≡ v → outsideFrom (i + 1) (decode (drop (i + 1) t)) ≡ v
+  ascii-outside v p =
+      outside-on t i (Char (getD t i 0) (i + 1)) (char-at-ascii t i (getD t i 0) h refl l) v p (getD t i 0) (i + 1) refl true (admitted-ascii (getD t i 0) l) refl
+
+-- ---- several
+pub many : (t : List ℕ) (P : ℕ → Type 0) → ((i : ℕ) → i < length t → getD t i 0 < 0x80 → P i → P (i + 1))
+    → (k i : ℕ) → i + k ≤ length t → ((j : ℕ) → j < k → getD t (i + j) 0 < 0x80) → P i → P (i + k)
+many t P step zero i h f p = subst P (sym (add-zero i)) p
+many t P step (suc k) i h f p =
+    let e : i + k + 1 ≡ i + suc k = omega arith in
+    subst P e (step (i + k) (omega arith) (f k (omega arith)) (many t P step k i (omega arith) (λ (j : ℕ) (g : j < k). f j (omega arith)) p))
+
+or-left : (a b : ℕ) → a ≤ bitOr a b
+or-left a b = omega (arith, or-add-and a b, and-le-r a b)
+
+or-right : (a b : ℕ) → b ≤ bitOr a b
+or-right a b = omega (arith, or-add-and a b, and-le-l a b)
+
+-- what holds of 0 to 7 holds below 8
+pub below-eight : (P : ℕ → Type 0) → P 0 → P 1 → P 2 → P 3 → P 4 → P 5 → P 6 → P 7 → (j : ℕ) → j < 8 → P j
+below-eight P a b c d e f g h zero l = a
+below-eight P a b c d e f g h (suc zero) l = b
+below-eight P a b c d e f g h (suc (suc zero)) l = c
+below-eight P a b c d e f g h (suc (suc (suc zero))) l = d
+below-eight P a b c d e f g h (suc (suc (suc (suc zero)))) l = e
+below-eight P a b c d e f g h (suc (suc (suc (suc (suc zero))))) l = f
+below-eight P a b c d e f g h (suc (suc (suc (suc (suc (suc zero)))))) l = g
+below-eight P a b c d e f g h (suc (suc (suc (suc (suc (suc (suc zero))))))) l = h
+below-eight P a b c d e f g h (suc (suc (suc (suc (suc (suc (suc (suc j)))))))) l = absurd (omega arith)
+
+-- eight bytes whose or is below 80 are ASCII
+pub eight-ascii : (t : List ℕ) (i x : ℕ) → x ≡ ors t i → x < 0x80 → (j : ℕ) → j < 8 → getD t (i + j) 0 < 0x80
+unfolding ors
+eight-ascii t i x e l =
+    let b0 : ℕ = getD t i 0 in
+    let b1 : ℕ = getD t (i + 1) 0 in
+    let b2 : ℕ = getD t (i + 2) 0 in
+    let b3 : ℕ = getD t (i + 3) 0 in
+    let b4 : ℕ = getD t (i + 4) 0 in
+    let b5 : ℕ = getD t (i + 5) 0 in
+    let b6 : ℕ = getD t (i + 6) 0 in
+    let b7 : ℕ = getD t (i + 7) 0 in
+    let y : ℕ = bitOr b0 (bitOr b1 (bitOr b2 b3)) in
+    let z : ℕ = bitOr b4 (bitOr b5 (bitOr b6 b7)) in
+    let p = or-left y z in
+    let q = or-right y z in
+    let p1 = or-right b0 (bitOr b1 (bitOr b2 b3)) in
+    let p2 = or-right b1 (bitOr b2 b3) in
+    let q1 = or-right b4 (bitOr b5 (bitOr b6 b7)) in
+    let q2 = or-right b5 (bitOr b6 b7) in
+    let z0 : i + 0 ≡ i = omega arith in
+    below-eight (λ (j : ℕ). getD t (i + j) 0 < 0x80)
+    (rw z0 (omega (arith, or-left b0 (bitOr b1 (bitOr b2 b3)))))
+    (omega (arith, or-left b1 (bitOr b2 b3)))
+    (omega (arith, or-left b2 b3))
+    (omega (arith, or-right b2 b3))
+    (omega (arith, or-left b4 (bitOr b5 (bitOr b6 b7))))
+    (omega (arith, or-left b5 (bitOr b6 b7)))
+    (omega (arith, or-left b6 b7))
+    (omega (arith, or-right b6 b7))
+
+-- the loop of `ascii_blocks`
+module _ (t : List ℕ) (i x : ℕ) (h : 8 ≤ length t - i) (e : x ≡ ors t i) (l : x < 0x80) where
+  pub block-valid : (v : ℕ) → i + sizes (decode (drop i t)) ≡ v → i + 8 + sizes (decode (drop (i + 8) t)) ≡ v
+  block-valid v =
+      many t (λ (j : ℕ). j + sizes (decode (drop j t)) ≡ v) (λ j g k p. ascii-valid t j g k v p) 8 i (omega arith) (eight-ascii t i x e l)
+
+  pub block-outside : (v : Outside) → outsideFrom i (decode (drop i t)) ≡ v → outsideFrom (i + 8) (decode (drop (i + 8) t)) ≡ v
+  block-outside v =
+      many t (λ (j : ℕ). outsideFrom j (decode (drop j t)) ≡ v) (λ j g k p. ascii-outside t j g k v p) 8 i (omega arith) (eight-ascii t i x e l)
+
+-- the loop of `ascii_end`
+module _ (t : List ℕ) (i x : ℕ) (h : i < length t) (e : x ≡ getD t i 0) (l : x < 0x80) where
+  pub byte-valid : (v : ℕ) → i + sizes (decode (drop i t)) ≡ v → i + 1 + sizes (decode (drop (i + 1) t)) ≡ v
+  byte-valid v p = ascii-valid t i h (omega arith) v p
+
+  pub byte-outside : (v : Outside) → outsideFrom i (decode (drop i t)) ≡ v → outsideFrom (i + 1) (decode (drop (i + 1) t)) ≡ v
+  byte-outside v p = ascii-outside t i h (omega arith) v p
+
+pub high-at : (t : List ℕ) (i x : ℕ) → x ≡ getD t i 0 → 0x80 ≤ x → i < length t → 0x80 ≤ getD t i 0
+high-at t i x e l h = omega arith
+
+pub high-end : (t : List ℕ) (i : ℕ) → length t ≤ i → i < length t → 0x80 ≤ getD t i 0
+high-end t i g h = absurd (omega arith)
+
+pub high-first : (t : List ℕ) (i a x : ℕ) → (i < length t → 0x80 ≤ getD t i 0) → i < length t → a ≡ getD t i 0 → 0x80 ≤ a
+high-first t i a x f h e = let g = f h in omega arith
+
+-- ---- the loop of `plain_up_to`: i is where the ASCII bytes from `at` on end
+module _ (t : List ℕ) (at i : ℕ) (a : i + sizes (decode (drop i t)) ≡ at + sizes (decode (drop at t))) (b : outsideFrom i (decode (drop i t)) ≡ outsideFrom at (decode (drop at t)))
+    (p : at + sizes (decode (drop at t)) ≡ validUpTo t) (q : outsideFrom at (decode (drop at t)) ≡ firstOutside t) where
+  plain-none : Nowhere ≡ firstOutside t → i ≡ validUpTo t → i ≡ plainUpTo t
+  unfolding plainUpTo
+  plain-none m n = n ∙ ap (λ (o : Outside). orElse o (validUpTo t)) m
+
+  pub plain-end : length t ≤ i → i ≡ plainUpTo t
+  unfolding sizes outsideFrom
+  plain-end h =
+      let d = decode-end t i h in
+      plain-none (sym (ap (outsideFrom i) d) ∙ b ∙ q) (omega (arith, ap sizes d))
+
+  module _ (r : Decoded) (s : r ≡ decodedAt i (front (drop i t))) where
+    pub plain-invalid : r ≡ Invalid → i ≡ plainUpTo t
+    plain-invalid e = plain-none (outside-invalid t i r s (firstOutside t) (b ∙ q) e) (valid-invalid t i r s (validUpTo t) (a ∙ p) e)
+
+    pub plain-stop : r ≡ End → i ≡ plainUpTo t
+    plain-stop e = plain-none (outside-end t i r s (firstOutside t) (b ∙ q) e) (valid-end t i r s (validUpTo t) (a ∙ p) e)
+
+    module _ (c n : ℕ) (e : r ≡ Char c n) where
+      pub plain-valid : n + sizes (decode (drop n t)) ≡ validUpTo t
+      plain-valid = valid-on t i r s (validUpTo t) (a ∙ p) c n e
+
+      module _ (w : Bool) (g : w ≡ within admitted c) where
+        pub plain-outside : w ≡ true → outsideFrom n (decode (drop n t)) ≡ firstOutside t
+        plain-outside h = outside-on t i r s (firstOutside t) (b ∙ q) c n e w g h
+
+        pub plain-here : w ≡ false → i ≡ plainUpTo t
+        unfolding plainUpTo
+        plain-here h = ap (λ (o : Outside). orElse o (validUpTo t)) (outside-here t i r s (firstOutside t) (b ∙ q) c n e w g h)
+
+    pub plain-falls : (c n : ℕ) → r ≡ Char c n → at ≤ i → length t - n < length t - at
+    plain-falls c n e h = omega (arith, char-falls t i r s c n e)
+
+-- ---- a text that is UTF-8 and within the set to its end
+outside-below : (o i : ℕ) (cs : List ℕ) → outsideFrom o cs ≡ At i → i < o + sizes cs
+unfolding outsideFrom sizes
+outside-below o i [] e = let z : _≡_ {A = ℕ} 0 1 = cc in absurd (omega arith)
+outside-below o i (c ∷ cs) e = go (within admitted c) refl (λ x. outside-below (o + size c) i cs x)
+  where
+    go : (b : Bool) → within admitted c ≡ b → (outsideFrom (o + size c) cs ≡ At i → i < o + size c + sizes cs) → i < o + sizes (c ∷ cs)
+    go true p f = omega (arith, f (rw (outsideFrom, p) at e))
+    go false p f = let g : At o ≡ At i = rw (outsideFrom, p) at e in let h : o ≡ i = cc in omega (arith, size-range c)
+
+pub plain-whole : (t : List ℕ) → plainUpTo t ≡ length t → (firstOutside t ≡ Nowhere) × (validUpTo t ≡ length t)
+unfolding plainUpTo
+plain-whole t e = go (firstOutside t) refl
+  where
+    go : (o : Outside) → firstOutside t ≡ o → (firstOutside t ≡ Nowhere) × (validUpTo t ≡ length t)
+    go (At i) p =
+        let h : i < 0 + sizes (decode t) = outside-below 0 i (decode t) p in
+        let g : i ≡ length t = sym (ap (λ (x : Outside). orElse x (validUpTo t)) p) ∙ e in
+        absurd (omega (arith, valid-le t))
+    go Nowhere p = (p, sym (ap (λ (x : Outside). orElse x (validUpTo t)) p) ∙ e)

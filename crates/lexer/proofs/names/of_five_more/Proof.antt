@@ -1,0 +1,27 @@
+-- `lexer::names::of_five_more` meets its contract: the keywords of the definition are compared in their order.
+use Rattle.lexer.specs.Words.{keywordsOf}
+use Rattle.lexer.proofs.Keywords.{number-hit, number-miss, number-none}
+use borrow.Author.Needs.{needs}
+use Rattle.lexer.proofs.names.of_five_more.Statement.{statement}
+use Rattle.lexer.proofs.names.of_five_more.Tie as tie
+
+ruleset laws = (needs, number-hit, number-miss, number-none)
+
+pub of-five-more-spec : {M : Type 1} → statement M
+unfolding keywordsOf
+of-five-more-spec =
+    tie.close
+    (tie.spec
+    (λ c. search laws)
+    (λ c κs. search laws)
+    (λ c. search laws)
+    (λ c. search laws)
+    (λ c κs. search laws)
+    (λ c. search laws)
+    (λ c. search laws)
+    (λ c κs. search laws)
+    (λ c. search laws)
+    (λ c. search laws)
+    (λ c κs. search laws)
+    (λ c. search laws)
+    (λ c. search laws))
