@@ -2,7 +2,7 @@
 use mathlib.Core.Path.{_≡_, refl, sym, ap, subst, _∙_}
 use mathlib.Core.Bool.{Bool, true, false}
 use mathlib.Core.List.{List, [], _∷_, _++_}
-use Prim.Native.Nat.{ℕ, suc, _+_, _-_, _*_, _%_, _≤_, _<_, _^_}
+use Prim.Native.Nat.{ℕ, suc, _+_, _-_, _*_, _/_, _%_, _≤_, _<_, _^_}
 use native.Mathlib.Omega.{arith}
 use native.Mathlib.Numerals.{add-one}
 use native.Mathlib.Nat.{mod-lt, mul-le-mul-right, mul-le-mul-left}
@@ -11,7 +11,7 @@ use mir.Val.{Fits}
 use borrow.Author.Tests.{eq-eqb, ne-eqb, eqb-true, ltb-true, ltb-false}
 use borrow.Rule.Slice.PartMut.{midOf, postOf, putMid, same-len-mid, mid-len, take-put}
 use lib.Dec.{eqb, ltb}
-use lib.ListN.{length, getD, take, drop, set, replicate, length-set, length-replicate, getD-replicate, drop-of-length-le, List·getD-append}
+use lib.ListN.{length, getD, take, drop, set, replicate, length-set, length-drop, length-replicate, getD-replicate, drop-of-length-le, List·getD-append}
 use lib.Seq.{drop-cons, getD-append-add, getD-set-same, getD-set-other, take-set-le, take-take, length-take-le}
 use Rattle.diag.proofs.Cases.{by-test}
 use Rattle.lexer.specs.Places.{part}
@@ -19,40 +19,106 @@ use Rattle.tokens.specs.declared.Token.{Token}
 use Rattle.parser.specs.Row.{peek}
 use Rattle.equal_names.specs.Rows.{rows, Kept}
 use Rattle.equal_names.specs.Names.{isWord, sameWord, firstEqual, Interned}
-use Rattle.equal_names.specs.Index.{hashFrom, slotOf, stops, filled, Probed, Room, Reached, Indexed, Tried}
+use Rattle.equal_names.specs.Index.{step, fourAt, restOf, hashFrom, slotOf, stops, filled, Probed, Room, Reached, Indexed, Tried}
 use Rattle.equal_names.proofs.NameLaws.{length-rows, kept-rows, kept-refl, kept-trans, word-part, first-before, first-equal, first-word, first-same, first-again}
 
 by-equal : {X : Type 0} (a b : ℕ) → (a ≡ b → X) → ((a ≡ b → ⊥) → X) → X
 by-equal a b f g = by-test (eqb a b) (λ e. f (eqb-true a b e)) (λ n. g (λ q. let z : true ≡ false = sym (eq-eqb a b q) ∙ n in let o : _≡_ {A = ℕ} 0 1 = cc in omega arith))
 
 -- ---- the hash
-pub product-low : (h c k : ℕ) → h < 2147483647 → c < 256 → k < 2 ^ 31 → (h + c) * k ≤ 2147483903 * 2147483648
-product-low h c k l b m =
-    let x : (h + c) * k ≤ 2147483903 * k = mul-le-mul-right {m = h + c} {n = 2147483903} k (omega arith) in
-    let y : 2147483903 * k ≤ 2147483903 * 2147483648 = mul-le-mul-left {m = k} {n = 2147483648} 2147483903 (omega arith) in
+pub product-low : (h q k : ℕ) → h < 2 ^ 33 → q < 2 ^ 32 → k < 2 ^ 30 → (h + q) * k ≤ 12884901888 * 1073741824
+product-low h q k l b m =
+    let x : (h + q) * k ≤ 12884901888 * k = mul-le-mul-right {m = h + q} {n = 12884901888} k (omega arith) in
+    let y : 12884901888 * k ≤ 12884901888 * 1073741824 = mul-le-mul-left {m = k} {n = 1073741824} 12884901888 (omega arith) in
     omega arith
 
+pub fold-low : (x : ℕ) → x < 2 ^ 64 → x % 4294967296 + x / 4294967296 < 2 ^ 33
+fold-low x h = omega arith
+
+pub step-low : (h q k : ℕ) → h < 2 ^ 33 → q < 2 ^ 32 → k < 2 ^ 30 → step k h q < 2 ^ 33
+step-low h q k l b m = fold-low ((h + q) * k) (omega (arith, product-low h q k l b m))
+
+short-hash : (k h : ℕ) (l : List ℕ) → length l < 4 → step k h (restOf l) ≡ hashFrom k h l
+unfolding hashFrom restOf
+short-hash k h [] n = refl
+short-hash k h (a ∷ []) n = refl
+short-hash k h (a ∷ b ∷ []) n = refl
+short-hash k h (a ∷ b ∷ c ∷ []) n = refl
+short-hash k h (a ∷ b ∷ c ∷ d ∷ r) n = absurd (omega arith)
+
+four-front : (name : List ℕ) (i : ℕ) → i + 4 ≤ length name → drop i name ≡ getD name i 0 ∷ getD name (i + 1) 0 ∷ getD name (i + 2) 0 ∷ getD name (i + 3) 0 ∷ drop (i + 4) name
+four-front name i h =
+    let e₁ : suc i ≡ i + 1 = omega arith in
+    let e₂ : suc (i + 1) ≡ i + 2 = omega arith in
+    let e₃ : suc (i + 2) ≡ i + 3 = omega arith in
+    let e₄ : suc (i + 3) ≡ i + 4 = omega arith in
+    drop-cons name i 0 (omega arith)
+    ∙ ap (λ (l : List ℕ). getD name i 0 ∷ l) (ap (λ (j : ℕ). drop j name) e₁ ∙ drop-cons name (i + 1) 0 (omega arith)
+    ∙ ap (λ (l : List ℕ). getD name (i + 1) 0 ∷ l) (ap (λ (j : ℕ). drop j name) e₂ ∙ drop-cons name (i + 2) 0 (omega arith)
+    ∙ ap (λ (l : List ℕ). getD name (i + 2) 0 ∷ l) (ap (λ (j : ℕ). drop j name) e₃ ∙ drop-cons name (i + 3) 0 (omega arith)
+    ∙ ap (λ (l : List ℕ). getD name (i + 3) 0 ∷ l) (ap (λ (j : ℕ). drop j name) e₄))))
+
 module _ (name : List ℕ) (k h i : ℕ) (inv : hashFrom k h (drop i name) ≡ hashFrom k 0 name) where
-  pub hash-on : (c : ℕ) → i < length name → c ≡ getD name i 0 → hashFrom k ((h + c) * k % 2147483647) (drop (i + 1) name) ≡ hashFrom k 0 name
+  pub hash-on : (q s : ℕ) → 4 ≤ length name - i → q ≡ fourAt name i → s ≡ step k h q → hashFrom k s (drop (i + 4) name) ≡ hashFrom k 0 name
   unfolding hashFrom
-  hash-on c l e =
-      ap (λ (j : ℕ). hashFrom k ((h + c) * k % 2147483647) (drop j name)) (add-one i)
-      ∙ ap (λ (c : ℕ). hashFrom k ((h + c) * k % 2147483647) (drop (suc i) name)) e
-      ∙ sym (ap (hashFrom k h) (drop-cons name i 0 l)) ∙ inv
+  hash-on q s l e z =
+      ap (λ (s : ℕ). hashFrom k s (drop (i + 4) name)) (z ∙ ap (step k h) e) ∙ sym (ap (hashFrom k h) (four-front name i (omega arith))) ∙ inv
 
-  pub hash-end : length name ≤ i → h ≡ hashFrom k 0 name
-  unfolding hashFrom
-  hash-end l = sym (ap (hashFrom k h) (drop-of-length-le name {i = i} l)) ∙ inv
+  pub hash-end : (q s : ℕ) → i ≤ length name → length name - i < 4 → q ≡ restOf (drop i name) → s ≡ step k h q → s ≡ hashFrom k 0 name
+  hash-end q s m l e z = z ∙ ap (step k h) e ∙ short-hash k h (drop i name) (omega (arith, length-drop i name)) ∙ inv
 
-pub hash-low : (n : ℕ) → n % 2147483647 < 2147483647
-hash-low n = mod-lt n (omega arith)
+-- the last bytes
+last : (n : ℕ) → n < 4 → (n ≡ 0 → ⊥) → (n ≡ 1 → ⊥) → (n ≡ 2 → ⊥) → n ≡ 3
+last n h a b c = by-equal n 3 (λ e. e) (λ d. absurd (omega arith))
 
-pub slot-is : (text : List ℕ) (k span : ℕ) (t : Token) (name : List ℕ) (h : ℕ) → name ≡ part text (t .start) (t .end) → h ≡ hashFrom k 0 name → h % span ≡ slotOf text k span t
+module _ (name : List ℕ) (i : ℕ) where
+  pub rest-0 : i ≤ length name → length name - i ≡ 0 → 0 ≡ restOf (drop i name)
+  unfolding restOf
+  rest-0 h e = sym (ap restOf (drop-of-length-le name {i = i} (omega arith)))
+
+  pub rest-1 : (a : ℕ) → length name - i ≡ 1 → a ≡ getD name i 0 → a ≡ restOf (drop i name)
+  unfolding restOf
+  rest-1 a e p =
+      let z : drop i name ≡ getD name i 0 ∷ [] = drop-cons name i 0 (omega arith) ∙ ap (λ (l : List ℕ). getD name i 0 ∷ l) (drop-of-length-le name {i = suc i} (omega arith)) in
+      p ∙ sym (ap restOf z)
+
+  pub rest-2 : (a b : ℕ) → length name - i ≡ 2 → a ≡ getD name i 0 → b ≡ getD name (i + 1) 0 → a + b * 256 ≡ restOf (drop i name)
+  unfolding restOf
+  rest-2 a b e p q =
+      let s₁ : suc i ≡ i + 1 = omega arith in
+      let z : drop i name ≡ getD name i 0 ∷ getD name (i + 1) 0 ∷ [] =
+      drop-cons name i 0 (omega arith)
+      ∙ ap (λ (l : List ℕ). getD name i 0 ∷ l) (ap (λ (j : ℕ). drop j name) s₁ ∙ drop-cons name (i + 1) 0 (omega arith)
+      ∙ ap (λ (l : List ℕ). getD name (i + 1) 0 ∷ l) (drop-of-length-le name {i = suc (i + 1)} (omega arith))) in
+      ap (λ (a : ℕ). a + b * 256) p ∙ ap (λ (b : ℕ). getD name i 0 + b * 256) q ∙ sym (ap restOf z)
+
+  pub rest-3 : (a b c : ℕ) → length name < i + 4 → (length name - i ≡ 0 → ⊥) → (length name - i ≡ 1 → ⊥) → (length name - i ≡ 2 → ⊥) → a ≡ getD name i 0 → b ≡ getD name (i + 1) 0 → c ≡ getD name (i + 2) 0 → a + b * 256 + c * 65536 ≡ restOf (drop i name)
+  unfolding restOf
+  rest-3 a b c low n₀ n₁ n₂ p q r =
+      let e : length name - i ≡ 3 = last (length name - i) (omega arith) n₀ n₁ n₂ in
+      let s₁ : suc i ≡ i + 1 = omega arith in
+      let s₂ : suc (i + 1) ≡ i + 2 = omega arith in
+      let z : drop i name ≡ getD name i 0 ∷ getD name (i + 1) 0 ∷ getD name (i + 2) 0 ∷ [] =
+      drop-cons name i 0 (omega arith)
+      ∙ ap (λ (l : List ℕ). getD name i 0 ∷ l) (ap (λ (j : ℕ). drop j name) s₁ ∙ drop-cons name (i + 1) 0 (omega arith)
+      ∙ ap (λ (l : List ℕ). getD name (i + 1) 0 ∷ l) (ap (λ (j : ℕ). drop j name) s₂ ∙ drop-cons name (i + 2) 0 (omega arith)
+      ∙ ap (λ (l : List ℕ). getD name (i + 2) 0 ∷ l) (drop-of-length-le name {i = suc (i + 2)} (omega arith)))) in
+      ap (λ (a : ℕ). a + b * 256 + c * 65536) p ∙ ap (λ (b : ℕ). getD name i 0 + b * 256 + c * 65536) q ∙ ap (λ (c : ℕ). getD name i 0 + getD name (i + 1) 0 * 256 + c * 65536) r ∙ sym (ap restOf z)
+
+pub slot-is : (text : List ℕ) (k span : ℕ) (t : Token) (name : List ℕ) (h : ℕ) → name ≡ part text (t .start) (t .end) → h ≡ hashFrom k 0 name → h % 4294967296 * span / 4294967296 ≡ slotOf text k span t
 unfolding slotOf
-slot-is text k span t name h e q = ap (λ (h : ℕ). h % span) (q ∙ ap (hashFrom k 0) e)
+slot-is text k span t name h e q = ap (λ (h : ℕ). h % 4294967296 * span / 4294967296) (q ∙ ap (hashFrom k 0) e)
 
-pub slot-low : (n span : ℕ) → 0 < span → n % span < span
-slot-low n span h = mod-lt n h
+pub slot-product : (h span : ℕ) → span < 2 ^ 32 → h % 4294967296 * span ≤ 4294967295 * 4294967295
+slot-product h span s =
+    let x : h % 4294967296 * span ≤ 4294967295 * span = mul-le-mul-right {m = h % 4294967296} {n = 4294967295} span (omega arith) in
+    let y : 4294967295 * span ≤ 4294967295 * 4294967295 = mul-le-mul-left {m = span} {n = 4294967295} 4294967295 (omega arith) in
+    omega arith
+
+pub slot-low : (h span : ℕ) → 0 < span → h % 4294967296 * span / 4294967296 < span
+slot-low h span p =
+    let x : h % 4294967296 * span ≤ 4294967295 * span = mul-le-mul-right {m = h % 4294967296} {n = 4294967295} span (omega arith) in
+    omega arith
 
 -- ---- a slot
 module _ (text : List ℕ) (ts : List Token) (t : Token) (v : ℕ) where
@@ -161,7 +227,7 @@ module _ (text : List ℕ) (count a b span window k : ℕ) (w : List ℕ) (x : �
 
     same-slot : (y : ℕ) → sameWord text u (peek ts y) ≡ true → slotOf text k span (peek ts y) ≡ s
     unfolding slotOf
-    same-slot y e = ap (λ (l : List ℕ). hashFrom k 0 l % span) (word-part text u (peek ts y) e) ∙ own-slot
+    same-slot y e = ap (λ (l : List ℕ). hashFrom k 0 l % 4294967296 * span / 4294967296) (word-part text u (peek ts y) e) ∙ own-slot
 
     -- an empty slot ends the search of a word that is the first of its name
     empty-first : v ≡ 0 → f ≡ x
@@ -297,7 +363,7 @@ pub record Indexing (text : List ℕ) (count a b span window k : ℕ) (w₀ w : 
 
 module _ (text : List ℕ) (count a b span window k : ℕ) where
   kept-room : {w₀ w : List ℕ} → Kept a w₀ w → Room count a b span window k w₀ → Room count a b span window k w
-  kept-room e r = record { tokens = r .tokens; words = r .words; table = omega (arith, e .size, r .table); some = r .some; few = r .few; factor = r .factor }
+  kept-room e r = record { tokens = r .tokens; words = r .words; table = omega (arith, e .size, r .table); some = r .some; few = r .few; factor = r .factor; narrow = r .narrow }
 
   pub indexing-start : (w₀ w : List ℕ) → Room count a b span window k w₀ → Kept a w₀ w → Indexed text (rows count w₀) a b span window k w 0 → Indexing text count a b span window k w w 0
   indexing-start w₀ w r e i = record {
@@ -378,9 +444,12 @@ module _ (text : List ℕ) (count a : ℕ) where
     searching-end h = record { interned = λ y l e. s .names y (omega (arith, length-rows count w₀ (omega arith))) }
 
 -- ---- one factor after another
-module _ (text : List ℕ) (count a b size window : ℕ) where
-  pub factor-room : (w₀ w : List ℕ) (k : ℕ) → 4 * count ≤ a → a + count ≤ b → b + size ≤ length w₀ → window < size → count < 2 ^ 31 → k < 2 ^ 31 → Kept a w₀ w → Room count a b (size - window) window k w
-  factor-room w₀ w k t o l h f g e = record { tokens = t; words = o; table = omega (arith, e .size); some = omega arith; few = f; factor = g }
+module _ (text : List ℕ) (count a b size span window : ℕ) where
+  pub factor-room : (w₀ w : List ℕ) (k : ℕ) → 4 * count ≤ a → a + count ≤ b → b + size ≤ length w₀ → span + window ≤ size → 0 < span → span < 2 ^ 32 → count < 2 ^ 31 → k < 2 ^ 30 → Kept a w₀ w → Room count a b span window k w
+  factor-room w₀ w k t o l h p n f g e = record { tokens = t; words = o; table = omega (arith, e .size); some = p; few = f; factor = g; narrow = n }
+
+pub factor-low : (h : ℕ) → h < 2 ^ 33 → h / 8 < 2 ^ 30
+factor-low h l = omega arith
 
 module _ (text : List ℕ) (count a : ℕ) (w₀ w w′ : List ℕ) (kept : Kept a w₀ w) (tokens : 4 * count ≤ a) where
   module _ (r : Bool) (tried : Tried (Interned text (rows count w) a w′) a w w′ r) where
@@ -395,3 +464,11 @@ module _ (text : List ℕ) (count a : ℕ) (w₀ w w′ : List ℕ) (kept : Kept
 
   pub last-done : Interned text (rows count w) a w′ → Interned text (rows count w₀) a w′
   last-done i = subst (λ (ts : List Token). Interned text ts a w′) (kept-rows count a w₀ w kept tokens) i
+
+-- ---- the small table
+module _ (text : List ℕ) (count a : ℕ) (w₀ w : List ℕ) (r : Bool) (tried : Tried (Interned text (rows count w₀) a w) a w₀ w r) where
+  pub small-kept : Kept a w₀ w
+  small-kept = tried .kept
+
+  pub small-done : r ≡ true → Interned text (rows count w₀) a w
+  small-done e = tried .done e

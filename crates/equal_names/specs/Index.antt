@@ -1,5 +1,5 @@
 -- An index of names: a table of slots, each 0 or 1 and the index of a first equal word, in which a name is looked for from its hash on.
-use Prim.Native.Nat.{ℕ, _+_, _-_, _*_, _%_, _≤_, _<_, _^_}
+use Prim.Native.Nat.{ℕ, _+_, _-_, _*_, _/_, _%_, _≤_, _<_, _^_}
 use mathlib.Core.Path.{_≡_}
 use mathlib.Core.Bool.{Bool, true, false, cond}
 use mathlib.Core.List.{List, [], _∷_}
@@ -11,15 +11,35 @@ use Rattle.parser.specs.Row.{peek}
 use Rattle.equal_names.specs.Rows.{Kept}
 use Rattle.equal_names.specs.Names.{isWord, sameWord, firstEqual}
 
--- the hash of bytes behind others whose hash is h: each is added, and the sum multiplied by k, modulo a prime
+-- the hash h with a number behind it: the sum times k, what is above 2 to the 32nd added below
+abbrev pub step : ℕ → ℕ → ℕ → ℕ
+step k h q = (h + q) * k % 4294967296 + (h + q) * k / 4294967296
+
+-- four bytes from an index on as one number
+abbrev pub fourAt : List ℕ → ℕ → ℕ
+fourAt l i = getD l i 0 + getD l (i + 1) 0 * 256 + getD l (i + 2) 0 * 65536 + getD l (i + 3) 0 * 16777216
+
+-- at most three bytes as one number
+unfoldable pub restOf : List ℕ → ℕ
+restOf [] = 0
+restOf (a ∷ []) = a
+restOf (a ∷ b ∷ []) = a + b * 256
+restOf (a ∷ b ∷ c ∷ []) = a + b * 256 + c * 65536
+restOf (a ∷ b ∷ c ∷ d ∷ r) = 0
+
+-- the hash of bytes behind others whose hash is h: in steps of four bytes, and one of what is left
 unfoldable pub hashFrom : ℕ → ℕ → List ℕ → ℕ
-hashFrom k h [] = h
-hashFrom k h (c ∷ r) = hashFrom k ((h + c) * k % 2147483647) r
+unfolding restOf
+hashFrom k h [] = step k h (restOf [])
+hashFrom k h (a ∷ []) = step k h (restOf (a ∷ []))
+hashFrom k h (a ∷ b ∷ []) = step k h (restOf (a ∷ b ∷ []))
+hashFrom k h (a ∷ b ∷ c ∷ []) = step k h (restOf (a ∷ b ∷ c ∷ []))
+hashFrom k h (a ∷ b ∷ c ∷ d ∷ r) = hashFrom k (step k h (a + b * 256 + c * 65536 + d * 16777216)) r
 
 -- where a token's name is looked for first, in a table with `span` places to begin
 unfoldable pub slotOf : List ℕ → ℕ → ℕ → Token → ℕ
 unfolding hashFrom
-slotOf text k span t = hashFrom k 0 (part text (t .start) (t .end)) % span
+slotOf text k span t = hashFrom k 0 (part text (t .start) (t .end)) % 4294967296 * span / 4294967296
 
 -- the search for t ends at a slot that holds v: it is empty, or its word has the characters of t
 unfoldable pub stops : List ℕ → List Token → Token → ℕ → Bool
@@ -43,7 +63,8 @@ pub record Room (count a b span window k : ℕ) (w : List ℕ) : Type 0 where
   pub table : b + span + window ≤ length w
   pub some : 0 < span
   pub few : count < 2 ^ 31
-  pub factor : k < 2 ^ 31
+  pub factor : k < 2 ^ 30
+  pub narrow : span < 2 ^ 32
 
 -- the search for the token u gets to its first equal word: every slot before it is filled
 pub record Reached (text : List ℕ) (ts : List Token) (b span k : ℕ) (w : List ℕ) (u : Token) : Type 0 where
