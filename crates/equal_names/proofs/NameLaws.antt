@@ -107,6 +107,10 @@ pub word-is : (text : List ℕ) (t u : Token) → sameWord text t u ≡ true →
 unfolding sameWord
 word-is text t u e = by-test (isWord u) (λ w. w) (λ w. let z : false ≡ true = rw w at e in cc)
 
+pub word-yes : (text : List ℕ) (t u : Token) → isWord u ≡ true → partOf text u ≡ partOf text t → sameWord text t u ≡ true
+unfolding sameWord
+word-yes text t u w e = rw w (part-name text u t e)
+
 -- ---- the first equal word is found
 pub record Found (text : List ℕ) (t : Token) (i : ℕ) (us : List Token) (k : ℕ) : Type 0 where
   pub at : ℕ

@@ -1,12 +1,13 @@
 // Equal names: for each word the first that equals it, found by an index of the names.
 ghost use mathlib.Core.Path.{_≡_};
-ghost use Prim.Native.Nat.{_+_, _*_, _-_, _<_, _≤_, _^_};
+ghost use mathlib.Core.Bool.{true};
+ghost use Prim.Native.Nat.{_+_, _*_, _-_, _/_, _<_, _≤_, _^_};
 ghost use lib.ListN.{length, getD, set, drop};
 ghost use Rattle.parser.specs.Row.{peek};
 ghost use Rattle.equal_names.specs.Rows.{rows, Kept};
-ghost use Rattle.equal_names.specs.Names.{sameWord, firstEqual, Interned};
+ghost use Rattle.equal_names.specs.Names.{isWord, sameWord, firstEqual, Interned};
 ghost use Rattle.lexer.specs.Places.{part};
-ghost use Rattle.equal_names.specs.Index.{step, fourAt, restOf, hashFrom, slotOf, stops, filled, Probed, Room, Indexed, Tried};
+ghost use Rattle.equal_names.specs.Index.{step, fourAt, restOf, hashFrom, letterOf, slotOf, stops, filled, Probed, Room, Indexed, Tried};
 use lexer::Span;
 use lexer::kind;
 use lexer::names;
@@ -16,6 +17,8 @@ use tokens::Token;
 const CUT: usize = 4294967296;
 // The factor of the hash for the small table.
 const FACTOR: usize = 663608941;
+// How many slots at most are kept for names of one byte.
+const LETTERS: usize = 128;
 // How many slots the small table has to begin in, and in how many a name is looked for there.
 const SMALL: usize = 8192;
 
@@ -120,12 +123,25 @@ fn hash(name: &[u8], k: usize) -> usize
     step(k, h, rest(name, i))
 }
 
-// Where the name of t is looked for first.
-fn slot_of(text: &[u8], name: &[u8], k: usize, span: usize, t: Token) -> usize
-    requires { ⌜ (now name ≡ part (now text) (t .start) (t .end)) × (k < 2 ^ 30) × (0 < span) × (span < 2 ^ 32) ⌝ }
-    ensures { λ r. ⌜ (r ≡ slotOf (now (text .entry)) k span t) × (r < span) ⌝ }
+// The byte of a name of one byte; 256 for any other.
+fn letter(text: &[u8], t: Token) -> usize
+    ensures { λ r. ⌜ r ≡ letterOf (part (now (text .entry)) (t .start) (t .end)) ⌝ }
 {
-    hash(name, k) % CUT * span / CUT
+    if t.start as u64 + 1 != t.end as u64 {
+        return 256;
+    }
+    if text.len() < t.end as usize {
+        return 256;
+    }
+    byte(text[t.start as usize])
+}
+
+// Where the name of t, which is no letter with a slot of its own, is looked for first.
+fn slot_of(text: &[u8], name: &[u8], letters: usize, k: usize, span: usize, t: Token) -> usize
+    requires { ⌜ (now name ≡ part (now text) (t .start) (t .end)) × (k < 2 ^ 30) × (letters < span) × (span < 2 ^ 32) × (letters ≤ letterOf (part (now text) (t .start) (t .end))) ⌝ }
+    ensures { λ r. ⌜ (r ≡ slotOf (now (text .entry)) letters k span t) × (r < span) × (letters ≤ r) ⌝ }
+{
+    letters + hash(name, k) % CUT * (span - letters) / CUT
 }
 
 // Whether the search for t ends at a slot that holds v.
@@ -184,6 +200,33 @@ fn store(work: &mut [u32], slot: usize, name: usize, x: usize)
     work[name] = v - 1;
 }
 
+// Enters the word x, whose name is no letter with a slot of its own; false where its window is full.
+fn enter_name(
+    text: &[u8],
+    work: &mut [u32],
+    count: usize,
+    a: usize,
+    b: usize,
+    letters: usize,
+    span: usize,
+    window: usize,
+    k: usize,
+    x: usize,
+) -> bool
+    requires { ⌜ Room count a b letters span window k (now work) × Indexed (now text) (rows count (now work)) a b letters span window k (now work) x × (x < count) × (isWord (peek (rows count (now work)) x) ≡ true) × (letters ≤ letterOf (part (now text) (peek (rows count (now work)) x .start) (peek (rows count (now work)) x .end))) ⌝ }
+    ensures { λ r. ⌜ Tried (Indexed (now (text .entry)) (rows count (now (work .entry))) a b letters span window k (now (work .exit)) (x + 1)) a (now (work .entry)) (now (work .exit)) r ⌝ }
+{
+    let t = token_at(work, count, x);
+    let name = names::part_of(text, t.start as usize, t.end as usize);
+    let at = b + slot_of(text, name, letters, k, span, t);
+    let d = probe(text, name, work, count, at, window, t);
+    if d < window {
+        store(work, at + d, a + x, x);
+        return true;
+    }
+    false
+}
+
 // Enters the token x, if it is a word; false where its window is full.
 fn enter_token(
     text: &[u8],
@@ -191,26 +234,25 @@ fn enter_token(
     count: usize,
     a: usize,
     b: usize,
+    letters: usize,
     span: usize,
     window: usize,
     k: usize,
     x: usize,
 ) -> bool
-    requires { ⌜ Room count a b span window k (now work) × Indexed (now text) (rows count (now work)) a b span window k (now work) x × (x < count) ⌝ }
-    ensures { λ r. ⌜ Tried (Indexed (now (text .entry)) (rows count (now (work .entry))) a b span window k (now (work .exit)) (x + 1)) a (now (work .entry)) (now (work .exit)) r ⌝ }
+    requires { ⌜ Room count a b letters span window k (now work) × Indexed (now text) (rows count (now work)) a b letters span window k (now work) x × (x < count) ⌝ }
+    ensures { λ r. ⌜ Tried (Indexed (now (text .entry)) (rows count (now (work .entry))) a b letters span window k (now (work .exit)) (x + 1)) a (now (work .entry)) (now (work .exit)) r ⌝ }
 {
     let t = token_at(work, count, x);
     if t.kind != kind::WORD {
         return true;
     }
-    let name = names::part_of(text, t.start as usize, t.end as usize);
-    let at = b + slot_of(text, name, k, span, t);
-    let d = probe(text, name, work, count, at, window, t);
-    if d < window {
-        store(work, at + d, a + x, x);
+    let c = letter(text, t);
+    if c < letters {
+        store(work, b + c, a + x, x);
         return true;
     }
-    false
+    enter_name(text, work, count, a, b, letters, span, window, k, x)
 }
 
 // Empties the table.
@@ -220,12 +262,13 @@ fn clear_table(
     count: usize,
     a: usize,
     b: usize,
+    letters: usize,
     span: usize,
     window: usize,
     k: usize,
 )
-    requires { ⌜ Room count a b span window k (now work) ⌝ }
-    ensures { λ _. ⌜ Kept a (now (work .entry)) (now (work .exit)) × Indexed (now (text .entry)) (rows count (now (work .entry))) a b span window k (now (work .exit)) 0 ⌝ }
+    requires { ⌜ Room count a b letters span window k (now work) ⌝ }
+    ensures { λ _. ⌜ Kept a (now (work .entry)) (now (work .exit)) × Indexed (now (text .entry)) (rows count (now (work .entry))) a b letters span window k (now (work .exit)) 0 ⌝ }
 {
     let e = b + span + window;
     diag::clear(&mut work[b..e]);
@@ -238,17 +281,18 @@ fn index(
     count: usize,
     a: usize,
     b: usize,
+    letters: usize,
     span: usize,
     window: usize,
     k: usize,
 ) -> bool
-    requires { ⌜ Room count a b span window k (now work) ⌝ }
+    requires { ⌜ Room count a b letters span window k (now work) ⌝ }
     ensures { λ r. ⌜ Tried (Interned (now (text .entry)) (rows count (now (work .entry))) a (now (work .exit))) a (now (work .entry)) (now (work .exit)) r ⌝ }
 {
-    clear_table(text, work, count, a, b, span, window, k);
+    clear_table(text, work, count, a, b, letters, span, window, k);
     let mut x = 0;
     while x < count {
-        if enter_token(text, work, count, a, b, span, window, k, x) {
+        if enter_token(text, work, count, a, b, letters, span, window, k, x) {
             x += 1;
         } else {
             return false;
@@ -288,21 +332,32 @@ fn search(text: &[u8], work: &mut [u32], count: usize, a: usize)
     }
 }
 
+// The number of slots for letters.
+fn letters_of(size: usize) -> usize
+    requires { ⌜ 4 ≤ size ⌝ }
+    ensures { λ r. ⌜ (r ≤ size / 2) × (r ≤ 256) ⌝ }
+{
+    if size / 2 < LETTERS {
+        return size / 2;
+    }
+    LETTERS
+}
+
 // The number of slots in which a name is looked for.
 fn window_of(size: usize, most: usize) -> usize
-    requires { ⌜ 0 < size ⌝ }
-    ensures { λ r. ⌜ r < size ⌝ }
+    requires { ⌜ (4 ≤ size) × (0 < most) ⌝ }
+    ensures { λ r. ⌜ (r ≤ size / 4) × (0 < r) ⌝ }
 {
-    if size / 2 < most {
-        return size / 2;
+    if size / 4 < most {
+        return size / 4;
     }
     most
 }
 
 // The number of slots in which a search may begin.
-fn span_of(size: usize, window: usize, most: usize) -> usize
-    requires { ⌜ (window < size) × (0 < most) × (most < 2 ^ 32) ⌝ }
-    ensures { λ r. ⌜ (r + window ≤ size) × (0 < r) × (r < 2 ^ 32) ⌝ }
+fn span_of(size: usize, letters: usize, window: usize, most: usize) -> usize
+    requires { ⌜ (letters + window < size) × (letters < most) × (most < 2 ^ 32) ⌝ }
+    ensures { λ r. ⌜ (r + window ≤ size) × (letters < r) × (r < 2 ^ 32) ⌝ }
 {
     if size - window < most {
         return size - window;
@@ -312,15 +367,16 @@ fn span_of(size: usize, window: usize, most: usize) -> usize
 
 // The row of first equal words by a large table; a factor for which a window is full gives way to the next.
 fn large(text: &[u8], work: &mut [u32], count: usize, a: usize, b: usize, size: usize)
-    requires { ⌜ (4 * count ≤ a) × (a + count ≤ b) × (b + size ≤ length (now work)) × (0 < size) × (count < 2 ^ 31) ⌝ }
+    requires { ⌜ (4 * count ≤ a) × (a + count ≤ b) × (b + size ≤ length (now work)) × (4 ≤ size) × (count < 2 ^ 31) ⌝ }
     ensures { λ _. ⌜ Kept a (now (work .entry)) (now (work .exit)) × Interned (now (text .entry)) (rows count (now (work .entry))) a (now (work .exit)) ⌝ }
 {
+    let letters = letters_of(size);
     let window = window_of(size, WINDOW);
-    let span = span_of(size, window, CUT - 1);
+    let span = span_of(size, letters, window, CUT - 1);
     let mut i = 0usize;
     while i < FACTORS {
         let k = hash(text, FIRST + i) / 8;
-        if index(text, work, count, a, b, span, window, k) {
+        if index(text, work, count, a, b, letters, span, window, k) {
             return;
         }
         i += 1;
@@ -333,9 +389,13 @@ pub fn intern(text: &[u8], work: &mut [u32], count: usize, a: usize, b: usize, s
     requires { ⌜ (4 * count ≤ a) × (a + count ≤ b) × (b + size ≤ length (now work)) × (0 < size) × (count < 2 ^ 31) ⌝ }
     ensures { λ _. ⌜ Kept a (now (work .entry)) (now (work .exit)) × Interned (now (text .entry)) (rows count (now (work .entry))) a (now (work .exit)) ⌝ }
 {
+    if size < 4 {
+        return search(text, work, count, a);
+    }
+    let letters = letters_of(size);
     let window = window_of(size, SMALL_WINDOW);
-    let span = span_of(size, window, SMALL);
-    if index(text, work, count, a, b, span, window, FACTOR) {
+    let span = span_of(size, letters, window, SMALL);
+    if index(text, work, count, a, b, letters, span, window, FACTOR) {
         return;
     }
     large(text, work, count, a, b, size);

@@ -12,6 +12,10 @@ intern-spec =
     tie.close
     (tie.spec
     (λ c κs. search laws)
+    (λ c. search laws)
+    (λ c. search laws)
+    (λ c κs. search laws)
+    (λ c κs. search laws)
     (λ c κs. search laws)
     (λ c κs. search laws)
     (λ c. search laws)

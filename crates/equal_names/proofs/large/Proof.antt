@@ -8,10 +8,10 @@ use Rattle.equal_names.proofs.large.Statement.{statement}
 use Rattle.equal_names.proofs.large.Tie as tie
 
 abbrev Inv-loop : tie.InvT-loop
-Inv-loop text work₀ count a b size window span i₀ work i = Kept a work₀ work
+Inv-loop text work₀ count a b size letters window span i₀ work i = Kept a work₀ work
 
 abbrev μ-loop : tie.MeasureT-loop
-μ-loop text work₀ count a b size window span i₀ work i = 4 - i
+μ-loop text work₀ count a b size letters window span i₀ work i = 4 - i
 
 ruleset laws = (needs, factor-room, factor-low, factor-kept, factor-done, last-kept, last-done, kept-refl)
 
@@ -21,6 +21,7 @@ large-spec =
     (tie.spec
     Inv-loop
     μ-loop
+    (λ c κs. search laws)
     (λ c κs. search laws)
     (λ c. search laws)
     (λ c κs. search laws)
