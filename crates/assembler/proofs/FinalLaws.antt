@@ -326,6 +326,14 @@ finals-of text count a b w₀ w laid kept first q f l l′ eq ef e =
     ∙ ap (λ (q : ℕ). appendAll l (finalErrors text ts (ltb q (length ts)) (namesOf ts q) [] (namesOf ts f))) eq
     ∙ ap (λ (f : ℕ). appendAll l (finalErrors text ts (ltb (getD first 5 0) (length ts)) (namesOf ts (getD first 5 0)) [] (namesOf ts f))) ef
 
+pub finals-none : (text : List ℕ) (count a b : ℕ) (w : List ℕ) → Laid count a b w → (first : List ℕ) (f : ℕ) (l : Log) → f ≡ getD first 10 0 → count ≤ f → l ≡ appendAll l (finalsErrors text (rows count w) first)
+unfolding finalsErrors finalErrors namesOf namesFrom appendAll
+finals-none text count a b w laid first f l e h =
+    let ts : List Token = rows count w in
+    let size : length ts ≡ count = length-rows count w (omega (arith, laid .tokens, laid .words, laid .marks)) in
+    let n : namesOf ts (getD first 10 0) ≡ [] = ap (namesFrom (suc (getD first 10 0))) (drop-of-length-le ts {i = suc (getD first 10 0)} (omega (arith, e))) in
+    ap (λ (ns : List ℕ). appendAll l (finalErrors text ts (ltb (getD first 5 0) (length ts)) (namesOf ts (getD first 5 0)) [] ns)) (sym n)
+
 pub kept-marked : (count a b : ℕ) (w₀ w : List ℕ) → Laid count a b w₀ → Kept b w₀ w → (text : List ℕ) (q : ℕ) → Marks text (rows count w₀) a b w (namesOf (rows count w₀) q) []
     → Marks text (rows count w) a b w (namesOf (rows count w) q) []
 kept-marked count a b w₀ w laid kept text q p = subst (λ (r : List Token). Marks text r a b w (namesOf r q) []) (sym (kept-row count a b w₀ w laid kept)) p

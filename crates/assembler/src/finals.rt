@@ -166,8 +166,8 @@ fn final_errors(
     n
 }
 
-// The diagnostics of F, of the first declarations; the row of first equal words stands at a, and b is free for marks.
-pub fn finals(
+// The diagnostics of F by marks, which are put at b.
+fn marked(
     text: &[u8],
     work: &mut [u32],
     count: usize,
@@ -185,4 +185,24 @@ pub fn finals(
     clear_marks(text, work, count, a, b);
     mark_states(text, work, count, a, b, q);
     final_errors(text, work, count, a, b, q, f, log, errors)
+}
+
+// The diagnostics of F, of the first declarations; the row of first equal words stands at a, and b is free for marks. Without F there is none.
+pub fn finals(
+    text: &[u8],
+    work: &mut [u32],
+    count: usize,
+    a: usize,
+    b: usize,
+    first: &[u32; 11],
+    log: &mut [u32],
+    errors: usize,
+) -> usize
+    requires { ⌜ Laid count a b (now work) × Interned (now text) (rows count (now work)) a (now work) × (errors + count < 2 ^ 64) ⌝ }
+    ensures { λ r. ⌜ Kept b (now (work .entry)) (now (work .exit)) × (logged (now (log .exit)) r ≡ appendAll (logged (now (log .entry)) errors) (finalsErrors (now (text .entry)) (rows count (now (work .entry))) (now (first .entry)))) ⌝ }
+{
+    if count <= entry::wide(first[10]) {
+        return errors;
+    }
+    marked(text, work, count, a, b, first, log, errors)
 }

@@ -60,9 +60,9 @@ pub word-other : (text : List ℕ) (t u : Token) → (u .kind ≡ 0 → ⊥) →
 unfolding sameWord
 word-other text t u h = rw (ne-eqb (u .kind) 0 h)
 
-pub word-same : (text : List ℕ) (t u : Token) (r : Bool) → u .kind ≡ 0 → r ≡ same (part text (u .start) (u .end)) (part text (t .start) (t .end)) → r ≡ sameWord text t u
+pub word-same : (text : List ℕ) (t u : Token) (name other : List ℕ) (r : Bool) → u .kind ≡ 0 → name ≡ part text (t .start) (t .end) → other ≡ part text (u .start) (u .end) → r ≡ same other name → r ≡ sameWord text t u
 unfolding sameWord sameName
-word-same text t u r h e = rw (eq-eqb (u .kind) 0 h) e
+word-same text t u name other r h n o e = rw (eq-eqb (u .kind) 0 h) (e ∙ ap (same other) n ∙ ap (λ (l : List ℕ). same l (part text (t .start) (t .end))) o)
 
 -- ---- the search: the first from the index i on is the first of all
 module _ (text work : List ℕ) (count : ℕ) (t : Token) (i : ℕ) (inv : firstEqual text t i (drop i (rows count work)) ≡ firstEqual text t 0 (rows count work)) (room : 4 * count ≤ length work) where
@@ -106,6 +106,10 @@ word-part text t u e = by-test (isWord u) (λ w. name-part text u t (rw w at e))
 pub word-is : (text : List ℕ) (t u : Token) → sameWord text t u ≡ true → isWord u ≡ true
 unfolding sameWord
 word-is text t u e = by-test (isWord u) (λ w. w) (λ w. let z : false ≡ true = rw w at e in cc)
+
+pub word-yes : (text : List ℕ) (t u : Token) → isWord u ≡ true → partOf text u ≡ partOf text t → sameWord text t u ≡ true
+unfolding sameWord
+word-yes text t u w e = rw w (part-name text u t e)
 
 -- ---- the first equal word is found
 pub record Found (text : List ℕ) (t : Token) (i : ℕ) (us : List Token) (k : ℕ) : Type 0 where

@@ -1,20 +1,31 @@
 // Equal names: for each word the first that equals it, found by an index of the names.
 ghost use mathlib.Core.Path.{_≡_};
-ghost use Prim.Native.Nat.{_+_, _*_, _-_, _<_, _≤_, _^_};
-ghost use lib.ListN.{length, getD, set};
+ghost use mathlib.Core.Bool.{true};
+ghost use Prim.Native.Nat.{_+_, _*_, _-_, _/_, _<_, _≤_, _^_};
+ghost use lib.ListN.{length, getD, set, drop};
 ghost use Rattle.parser.specs.Row.{peek};
 ghost use Rattle.equal_names.specs.Rows.{rows, Kept};
-ghost use Rattle.equal_names.specs.Names.{sameWord, firstEqual, Interned};
-ghost use Rattle.equal_names.specs.Index.{hashFrom, slotOf, stops, filled, Probed, Room, Indexed, Tried};
+ghost use Rattle.equal_names.specs.Names.{isWord, sameWord, firstEqual, Interned};
+ghost use Rattle.lexer.specs.Places.{part};
+ghost use Rattle.equal_names.specs.Index.{step, fourAt, restOf, hashFrom, letterOf, slotOf, stops, filled, Probed, Room, Indexed, Tried};
 use lexer::Span;
 use lexer::kind;
 use lexer::names;
 use tokens::Token;
 
-// The modulus of the hash, a prime.
-const PRIME: usize = 2147483647;
+// 2 to the 32nd: the hash is cut and folded there.
+const CUT: usize = 4294967296;
+// The factor of the hash for the small table.
+const FACTOR: usize = 663608941;
+// How many slots at most are kept for names of one byte.
+const LETTERS: usize = 128;
+// How many slots the small table has to begin in, and in how many a name is looked for there.
+const SMALL: usize = 8192;
 
-// How many factors of the hash are tried.
+const SMALL_WINDOW: usize = 32;
+// In how many slots a name is looked for in the large table.
+const WINDOW: usize = 128;
+// How many factors are tried for the large table.
 const FACTORS: usize = 4;
 // The factor of the hash of the text from which the first one comes.
 const FIRST: usize = 1009;
@@ -49,67 +60,118 @@ fn token_at(work: &[u32], count: usize, at: usize) -> Token
     }
 }
 
-// Whether u is a word with the characters of t.
-fn same_word(text: &[u8], t: Token, u: Token) -> bool
+// Whether u is a word with the characters of t, which are `name`.
+fn same_word(text: &[u8], name: &[u8], t: Token, u: Token) -> bool
+    requires { ⌜ now name ≡ part (now text) (t .start) (t .end) ⌝ }
     ensures { λ r. ⌜ r ≡ sameWord (now (text .entry)) t u ⌝ }
 {
     if u.kind != kind::WORD {
         return false;
     }
-    let a = Span {
-        start: u.start,
-        end: u.end,
-    };
-    let b = Span {
-        start: t.start,
-        end: t.end,
-    };
-    names::same_name(text, a, b)
+    let other = names::part_of(text, u.start as usize, u.end as usize);
+    names::same_part(other, name)
+}
+
+// Four bytes from an index on, as one number.
+fn four(name: &[u8], i: usize) -> usize
+    requires { ⌜ i + 4 ≤ length (now name) ⌝ }
+    ensures { λ r. ⌜ (r ≡ fourAt (now (name .entry)) i) × (r < 2 ^ 32) ⌝ }
+{
+    let low = byte(name[i]) + byte(name[i + 1]) * 256;
+    low + byte(name[i + 2]) * 65536 + byte(name[i + 3]) * 16777216
+}
+
+// The last bytes, at most three, as one number.
+fn rest(name: &[u8], i: usize) -> usize
+    requires { ⌜ (i ≤ length (now name)) × (length (now name) < i + 4) ⌝ }
+    ensures { λ r. ⌜ (r ≡ restOf (drop i (now (name .entry)))) × (r < 2 ^ 32) ⌝ }
+{
+    let n = name.len() - i;
+    if n == 0 {
+        return 0;
+    }
+    if n == 1 {
+        return byte(name[i]);
+    }
+    let low = byte(name[i]) + byte(name[i + 1]) * 256;
+    if n == 2 {
+        return low;
+    }
+    low + byte(name[i + 2]) * 65536
+}
+
+// The hash h with a number behind it, by the factor k.
+fn step(k: usize, h: usize, q: usize) -> usize
+    requires { ⌜ (k < 2 ^ 30) × (h < 2 ^ 33) × (q < 2 ^ 32) ⌝ }
+    ensures { λ r. ⌜ (r ≡ step k h q) × (r < 2 ^ 33) ⌝ }
+{
+    let x = (h + q) * k;
+    x % CUT + x / CUT
 }
 
 // The hash of a name, by the factor k.
 fn hash(name: &[u8], k: usize) -> usize
-    requires { ⌜ k < 2 ^ 31 ⌝ }
-    ensures { λ r. ⌜ (r ≡ hashFrom k 0 (now (name .entry))) × (r < 2 ^ 31) ⌝ }
+    requires { ⌜ k < 2 ^ 30 ⌝ }
+    ensures { λ r. ⌜ (r ≡ hashFrom k 0 (now (name .entry))) × (r < 2 ^ 33) ⌝ }
 {
     let mut h = 0;
     let mut i = 0;
-    while i < name.len() {
-        h = (h + byte(name[i])) * k % PRIME;
-        i += 1;
+    while 4 <= name.len() - i {
+        h = step(k, h, four(name, i));
+        i += 4;
     }
-    h
+    step(k, h, rest(name, i))
 }
 
-// Where the name of t is looked for first.
-fn slot_of(text: &[u8], k: usize, span: usize, t: Token) -> usize
-    requires { ⌜ (k < 2 ^ 31) × (0 < span) ⌝ }
-    ensures { λ r. ⌜ (r ≡ slotOf (now (text .entry)) k span t) × (r < span) ⌝ }
+// The byte of a name of one byte; 256 for any other.
+fn letter(text: &[u8], t: Token) -> usize
+    ensures { λ r. ⌜ r ≡ letterOf (part (now (text .entry)) (t .start) (t .end)) ⌝ }
 {
-    let name = names::part_of(text, t.start as usize, t.end as usize);
-    hash(name, k) % span
+    if t.start as u64 + 1 != t.end as u64 {
+        return 256;
+    }
+    if text.len() < t.end as usize {
+        return 256;
+    }
+    byte(text[t.start as usize])
+}
+
+// Where the name of t, which is no letter with a slot of its own, is looked for first.
+fn slot_of(text: &[u8], name: &[u8], letters: usize, k: usize, span: usize, t: Token) -> usize
+    requires { ⌜ (now name ≡ part (now text) (t .start) (t .end)) × (k < 2 ^ 30) × (letters < span) × (span < 2 ^ 32) × (letters ≤ letterOf (part (now text) (t .start) (t .end))) ⌝ }
+    ensures { λ r. ⌜ (r ≡ slotOf (now (text .entry)) letters k span t) × (r < span) × (letters ≤ r) ⌝ }
+{
+    letters + hash(name, k) % CUT * (span - letters) / CUT
 }
 
 // Whether the search for t ends at a slot that holds v.
-fn stops_at(text: &[u8], work: &[u32], count: usize, t: Token, v: u32) -> bool
-    requires { ⌜ 4 * count ≤ length (now work) ⌝ }
+fn stops_at(text: &[u8], name: &[u8], work: &[u32], count: usize, t: Token, v: u32) -> bool
+    requires { ⌜ (now name ≡ part (now text) (t .start) (t .end)) × (4 * count ≤ length (now work)) ⌝ }
     ensures { λ r. ⌜ r ≡ stops (now (text .entry)) (rows count (now (work .entry))) t v ⌝ }
 {
     if v == 0 {
         return true;
     }
     let u = token_at(work, count, wide(v - 1));
-    same_word(text, t, u)
+    same_word(text, name, t, u)
 }
 
 // Looks for t in a window of slots: the distance at which the search ends, or the window's length.
-fn probe(text: &[u8], work: &[u32], count: usize, at: usize, window: usize, t: Token) -> usize
-    requires { ⌜ (4 * count ≤ length (now work)) × (at + window ≤ length (now work)) ⌝ }
+fn probe(
+    text: &[u8],
+    name: &[u8],
+    work: &[u32],
+    count: usize,
+    at: usize,
+    window: usize,
+    t: Token,
+) -> usize
+    requires { ⌜ (now name ≡ part (now text) (t .start) (t .end)) × (4 * count ≤ length (now work)) × (at + window ≤ length (now work)) ⌝ }
     ensures { λ r. ⌜ Probed (now (text .entry)) (rows count (now (work .entry))) (now (work .entry)) at window t r ⌝ }
 {
     let mut d = 0;
     while d < window {
-        if stops_at(text, work, count, t, work[at + d]) {
+        if stops_at(text, name, work, count, t, work[at + d]) {
             return d;
         }
         d += 1;
@@ -138,6 +200,33 @@ fn store(work: &mut [u32], slot: usize, name: usize, x: usize)
     work[name] = v - 1;
 }
 
+// Enters the word x, whose name is no letter with a slot of its own; false where its window is full.
+fn enter_name(
+    text: &[u8],
+    work: &mut [u32],
+    count: usize,
+    a: usize,
+    b: usize,
+    letters: usize,
+    span: usize,
+    window: usize,
+    k: usize,
+    x: usize,
+) -> bool
+    requires { ⌜ Room count a b letters span window k (now work) × Indexed (now text) (rows count (now work)) a b letters span window k (now work) x × (x < count) × (isWord (peek (rows count (now work)) x) ≡ true) × (letters ≤ letterOf (part (now text) (peek (rows count (now work)) x .start) (peek (rows count (now work)) x .end))) ⌝ }
+    ensures { λ r. ⌜ Tried (Indexed (now (text .entry)) (rows count (now (work .entry))) a b letters span window k (now (work .exit)) (x + 1)) a (now (work .entry)) (now (work .exit)) r ⌝ }
+{
+    let t = token_at(work, count, x);
+    let name = names::part_of(text, t.start as usize, t.end as usize);
+    let at = b + slot_of(text, name, letters, k, span, t);
+    let d = probe(text, name, work, count, at, window, t);
+    if d < window {
+        store(work, at + d, a + x, x);
+        return true;
+    }
+    false
+}
+
 // Enters the token x, if it is a word; false where its window is full.
 fn enter_token(
     text: &[u8],
@@ -145,25 +234,25 @@ fn enter_token(
     count: usize,
     a: usize,
     b: usize,
+    letters: usize,
     span: usize,
     window: usize,
     k: usize,
     x: usize,
 ) -> bool
-    requires { ⌜ Room count a b span window k (now work) × Indexed (now text) (rows count (now work)) a b span window k (now work) x × (x < count) ⌝ }
-    ensures { λ r. ⌜ Tried (Indexed (now (text .entry)) (rows count (now (work .entry))) a b span window k (now (work .exit)) (x + 1)) a (now (work .entry)) (now (work .exit)) r ⌝ }
+    requires { ⌜ Room count a b letters span window k (now work) × Indexed (now text) (rows count (now work)) a b letters span window k (now work) x × (x < count) ⌝ }
+    ensures { λ r. ⌜ Tried (Indexed (now (text .entry)) (rows count (now (work .entry))) a b letters span window k (now (work .exit)) (x + 1)) a (now (work .entry)) (now (work .exit)) r ⌝ }
 {
     let t = token_at(work, count, x);
     if t.kind != kind::WORD {
         return true;
     }
-    let at = b + slot_of(text, k, span, t);
-    let d = probe(text, work, count, at, window, t);
-    if d < window {
-        store(work, at + d, a + x, x);
+    let c = letter(text, t);
+    if c < letters {
+        store(work, b + c, a + x, x);
         return true;
     }
-    false
+    enter_name(text, work, count, a, b, letters, span, window, k, x)
 }
 
 // Empties the table.
@@ -173,12 +262,13 @@ fn clear_table(
     count: usize,
     a: usize,
     b: usize,
+    letters: usize,
     span: usize,
     window: usize,
     k: usize,
 )
-    requires { ⌜ Room count a b span window k (now work) ⌝ }
-    ensures { λ _. ⌜ Kept a (now (work .entry)) (now (work .exit)) × Indexed (now (text .entry)) (rows count (now (work .entry))) a b span window k (now (work .exit)) 0 ⌝ }
+    requires { ⌜ Room count a b letters span window k (now work) ⌝ }
+    ensures { λ _. ⌜ Kept a (now (work .entry)) (now (work .exit)) × Indexed (now (text .entry)) (rows count (now (work .entry))) a b letters span window k (now (work .exit)) 0 ⌝ }
 {
     let e = b + span + window;
     diag::clear(&mut work[b..e]);
@@ -191,17 +281,18 @@ fn index(
     count: usize,
     a: usize,
     b: usize,
+    letters: usize,
     span: usize,
     window: usize,
     k: usize,
 ) -> bool
-    requires { ⌜ Room count a b span window k (now work) ⌝ }
+    requires { ⌜ Room count a b letters span window k (now work) ⌝ }
     ensures { λ r. ⌜ Tried (Interned (now (text .entry)) (rows count (now (work .entry))) a (now (work .exit))) a (now (work .entry)) (now (work .exit)) r ⌝ }
 {
-    clear_table(text, work, count, a, b, span, window, k);
+    clear_table(text, work, count, a, b, letters, span, window, k);
     let mut x = 0;
     while x < count {
-        if enter_token(text, work, count, a, b, span, window, k, x) {
+        if enter_token(text, work, count, a, b, letters, span, window, k, x) {
             x += 1;
         } else {
             return false;
@@ -215,10 +306,11 @@ fn first_equal(text: &[u8], work: &[u32], count: usize, t: Token) -> usize
     requires { ⌜ 4 * count ≤ length (now work) ⌝ }
     ensures { λ r. ⌜ r ≡ firstEqual (now (text .entry)) t 0 (rows count (now (work .entry))) ⌝ }
 {
+    let name = names::part_of(text, t.start as usize, t.end as usize);
     let mut i = 0;
     while i < count {
         let u = token_at(work, count, i);
-        if same_word(text, t, u) {
+        if same_word(text, name, t, u) {
             return i;
         }
         i += 1;
@@ -240,31 +332,71 @@ fn search(text: &[u8], work: &mut [u32], count: usize, a: usize)
     }
 }
 
-// The number of slots in which a name is looked for.
-fn window_of(size: usize) -> usize
-    requires { ⌜ 0 < size ⌝ }
-    ensures { λ r. ⌜ r < size ⌝ }
+// The number of slots for letters.
+fn letters_of(size: usize) -> usize
+    requires { ⌜ 4 ≤ size ⌝ }
+    ensures { λ r. ⌜ (r ≤ size / 2) × (r ≤ 256) ⌝ }
 {
-    if size < 256 {
+    if size / 2 < LETTERS {
         return size / 2;
     }
-    128
+    LETTERS
 }
 
-// The row of first equal words, from the word a on; `size` words from b on are free. A factor for which a window is full gives way to the next.
-pub fn intern(text: &[u8], work: &mut [u32], count: usize, a: usize, b: usize, size: usize)
-    requires { ⌜ (4 * count ≤ a) × (a + count ≤ b) × (b + size ≤ length (now work)) × (0 < size) × (count < 2 ^ 31) ⌝ }
+// The number of slots in which a name is looked for.
+fn window_of(size: usize, most: usize) -> usize
+    requires { ⌜ (4 ≤ size) × (0 < most) ⌝ }
+    ensures { λ r. ⌜ (r ≤ size / 4) × (0 < r) ⌝ }
+{
+    if size / 4 < most {
+        return size / 4;
+    }
+    most
+}
+
+// The number of slots in which a search may begin.
+fn span_of(size: usize, letters: usize, window: usize, most: usize) -> usize
+    requires { ⌜ (letters + window < size) × (letters < most) × (most < 2 ^ 32) ⌝ }
+    ensures { λ r. ⌜ (r + window ≤ size) × (letters < r) × (r < 2 ^ 32) ⌝ }
+{
+    if size - window < most {
+        return size - window;
+    }
+    most
+}
+
+// The row of first equal words by a large table; a factor for which a window is full gives way to the next.
+fn large(text: &[u8], work: &mut [u32], count: usize, a: usize, b: usize, size: usize)
+    requires { ⌜ (4 * count ≤ a) × (a + count ≤ b) × (b + size ≤ length (now work)) × (4 ≤ size) × (count < 2 ^ 31) ⌝ }
     ensures { λ _. ⌜ Kept a (now (work .entry)) (now (work .exit)) × Interned (now (text .entry)) (rows count (now (work .entry))) a (now (work .exit)) ⌝ }
 {
-    let window = window_of(size);
-    let span = size - window;
+    let letters = letters_of(size);
+    let window = window_of(size, WINDOW);
+    let span = span_of(size, letters, window, CUT - 1);
     let mut i = 0usize;
     while i < FACTORS {
-        let k = hash(text, FIRST + i);
-        if index(text, work, count, a, b, span, window, k) {
+        let k = hash(text, FIRST + i) / 8;
+        if index(text, work, count, a, b, letters, span, window, k) {
             return;
         }
         i += 1;
     }
     search(text, work, count, a);
+}
+
+// The row of first equal words, from the word a on; `size` words from b on are free. Few names find room in a small table, which is soon emptied.
+pub fn intern(text: &[u8], work: &mut [u32], count: usize, a: usize, b: usize, size: usize)
+    requires { ⌜ (4 * count ≤ a) × (a + count ≤ b) × (b + size ≤ length (now work)) × (0 < size) × (count < 2 ^ 31) ⌝ }
+    ensures { λ _. ⌜ Kept a (now (work .entry)) (now (work .exit)) × Interned (now (text .entry)) (rows count (now (work .entry))) a (now (work .exit)) ⌝ }
+{
+    if size < 4 {
+        return search(text, work, count, a);
+    }
+    let letters = letters_of(size);
+    let window = window_of(size, SMALL_WINDOW);
+    let span = span_of(size, letters, window, SMALL);
+    if index(text, work, count, a, b, letters, span, window, FACTOR) {
+        return;
+    }
+    large(text, work, count, a, b, size);
 }

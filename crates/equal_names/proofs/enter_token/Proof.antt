@@ -1,10 +1,12 @@
--- `equal_names::enter_token` meets its contract: the slot at which the search ends holds the first equal word, or none and there is none.
+-- `equal_names::enter_token` meets its contract: a letter is entered in its own slot, another name in its window.
 use borrow.Author.Needs.{needs}
-use Rattle.equal_names.proofs.IndexLaws.{room-rows, enter-full, enter-other, enter-word}
+use native.Mathlib.Omega.{arith}
+use mathlib.Core.Path.{_≡_, ap, sym, _∙_}
+use Rattle.equal_names.proofs.IndexLaws.{room-rows, enter-other, enter-letter, word-at, long-there}
 use Rattle.equal_names.proofs.enter_token.Statement.{statement}
 use Rattle.equal_names.proofs.enter_token.Tie as tie
 
-ruleset laws = (needs, room-rows, enter-full, enter-other, enter-word)
+ruleset laws = (needs, room-rows, enter-other, enter-letter, word-at, long-there)
 
 pub enter-token-spec : {M : Type 1} → statement M
 enter-token-spec =
@@ -15,11 +17,10 @@ enter-token-spec =
     (λ c. search laws)
     (λ c κs. search laws)
     (λ c. search laws)
-    (λ c κs. search laws)
-    (λ c. search laws)
     (λ c. search laws)
     (λ c κs. search laws)
     (λ c. search laws)
     (λ c. search laws)
+    (λ c κs. search laws)
     (λ c. search laws)
     (λ c. search laws))

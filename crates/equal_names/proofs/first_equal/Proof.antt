@@ -1,4 +1,4 @@
--- `equal_names::first_equal` meets its contract: the invariant: the first from here on is the first of all.
+-- `equal_names::first_equal` meets its contract: the invariant: the first equal word from the index on is the first of all.
 use borrow.Author.Needs.{needs}
 use mathlib.Core.Path.{_≡_}
 use Prim.Native.Nat.{_-_}
@@ -10,10 +10,10 @@ use Rattle.equal_names.proofs.first_equal.Statement.{statement}
 use Rattle.equal_names.proofs.first_equal.Tie as tie
 
 abbrev Inv-loop : tie.InvT-loop
-Inv-loop text work count t i₀ i = firstEqual text t i (drop i (rows count work)) ≡ firstEqual text t 0 (rows count work)
+Inv-loop text work count t name i₀ i = firstEqual text t i (drop i (rows count work)) ≡ firstEqual text t 0 (rows count work)
 
 abbrev μ-loop : tie.MeasureT-loop
-μ-loop text work count t i₀ i = count - i
+μ-loop text work count t name i₀ i = count - i
 
 ruleset laws = (needs, equal-here, equal-on, equal-none)
 
@@ -23,6 +23,9 @@ first-equal-spec =
     (tie.spec
     Inv-loop
     μ-loop
+    (λ c. search laws)
+    (λ c. search laws)
+    (λ c κs. search laws)
     (λ c. search laws)
     (λ c κs. search laws)
     (λ c κs. search laws)

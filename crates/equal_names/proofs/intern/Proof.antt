@@ -1,35 +1,23 @@
--- `equal_names::intern` meets its contract: the invariant: only words behind the tokens have changed.
+-- `equal_names::intern` meets its contract: by the small table, or else by the large one.
 use borrow.Author.Needs.{needs}
-use Prim.Native.Nat.{_-_}
-use Rattle.equal_names.specs.Rows.{Kept}
-use Rattle.equal_names.proofs.IndexLaws.{factor-room, factor-kept, factor-done, last-kept, last-done}
+use Rattle.equal_names.proofs.IndexLaws.{factor-room, small-kept, small-done, last-kept, last-done}
 use Rattle.equal_names.proofs.NameLaws.{kept-refl}
 use Rattle.equal_names.proofs.intern.Statement.{statement}
 use Rattle.equal_names.proofs.intern.Tie as tie
 
-abbrev Inv-loop : tie.InvT-loop
-Inv-loop text work₀ count a b size window span i₀ work i = Kept a work₀ work
-
-abbrev μ-loop : tie.MeasureT-loop
-μ-loop text work₀ count a b size window span i₀ work i = 4 - i
-
-ruleset laws = (needs, factor-room, factor-kept, factor-done, last-kept, last-done, kept-refl)
+ruleset laws = (needs, factor-room, small-kept, small-done, last-kept, last-done, kept-refl)
 
 pub intern-spec : {M : Type 1} → statement M
 intern-spec =
     tie.close
     (tie.spec
-    Inv-loop
-    μ-loop
     (λ c κs. search laws)
-    (λ c. search laws)
     (λ c. search laws)
     (λ c. search laws)
     (λ c κs. search laws)
     (λ c κs. search laws)
-    (λ c. search laws)
-    (λ c. search laws)
-    (λ c. search laws)
+    (λ c κs. search laws)
+    (λ c κs. search laws)
     (λ c. search laws)
     (λ c. search laws)
     (λ c κs. search laws)

@@ -7,10 +7,10 @@ use Rattle.equal_names.proofs.probe.Statement.{statement}
 use Rattle.equal_names.proofs.probe.Tie as tie
 
 abbrev Inv-loop : tie.InvT-loop
-Inv-loop text work count at window t d₀ d = Probing text (rows count work) work at window t d
+Inv-loop text name work count at window t d₀ d = Probing text (rows count work) work at window t d
 
 abbrev μ-loop : tie.MeasureT-loop
-μ-loop text work count at window t d₀ d = window - d
+μ-loop text name work count at window t d₀ d = window - d
 
 ruleset laws = (needs, probing-start, probing-on, probing-here, probing-end)
 

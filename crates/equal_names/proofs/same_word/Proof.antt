@@ -11,5 +11,8 @@ same-word-spec =
     tie.close
     (tie.spec
     (λ c. search laws)
+    (λ c. search laws)
+    (λ c. search laws)
+    (λ c κs. search laws)
     (λ c κs. search laws)
     (λ c. search laws))
