@@ -1,6 +1,6 @@
 -- Laws of characters noted in a row of words.
 use mathlib.Core.Path.{_≡_, refl, sym, ap, subst, _∙_}
-use mathlib.Core.Bool.{Bool, true, false, cond, _||_}
+use mathlib.Core.Bool.{Bool, true, false, cond, _||_, false≢true}
 use mathlib.Core.List.{List, [], _∷_, _++_}
 use Prim.Native.Nat.{ℕ, zero, suc, _+_, _-_, _*_, _≤_, _<_}
 use native.Mathlib.Omega.{arith}
@@ -8,13 +8,28 @@ use native.Mathlib.Numerals.{add-one}
 use borrow.Author.Tests.{eq-eqb, ne-eqb}
 use lib.Dec.{eqb}
 use lib.ListN.{length, getD, take, drop, set, length-set, length-append, length-take, length-drop, drop-of-length-le}
-use lib.Seq.{length-take-le, getD-take, getD-drop, drop-cons, drop-set-add, take-suc-set}
+use lib.Seq.{take-set-le, length-take-le, getD-take, getD-drop, drop-cons, drop-set-add, take-suc-set}
 use Rattle.tokens.specs.declared.Token.{Token}
 use Rattle.assembler.specs.Rows.{rows}
 use Rattle.language.specs.Infer.{member}
 use Rattle.infer.specs.Page.{Kept}
 use Rattle.infer.specs.Codes.{noted, notedAll, held, Codes, Room}
 use Rattle.infer.proofs.Pages.{kept-refl, kept-on, kept-set, kept-rows}
+
+-- ---- tests
+or-true : (a b : Bool) → b ≡ true → (a || b) ≡ true
+or-true true b e = refl
+or-true false b e = e
+
+or-false : (a : Bool) → (a || false) ≡ a
+or-false true = refl
+or-false false = refl
+
+or-shift : (a b c : Bool) → ((a || b) || c) ≡ (b || (a || c))
+or-shift true true c = refl
+or-shift true false c = refl
+or-shift false true c = refl
+or-shift false false c = refl
 
 -- ---- the codes in a row
 pub held-length : (b n : ℕ) (w : List ℕ) → b + n ≤ length w → length (held b n w) ≡ n
@@ -23,22 +38,42 @@ held-length b n w h = length-take-le n (drop b w) (omega (arith, length-drop b w
 pub held-at : (b n i : ℕ) (w : List ℕ) → i < n → getD (held b n w) i 0 ≡ getD w (b + i) 0
 held-at b n i w h = getD-take n (drop b w) i 0 h ∙ getD-drop b w i 0
 
--- ---- the search: c is among all codes if it is among those from the index i on
-module _ (b n c : ℕ) (w : List ℕ) (i : ℕ) (inv : member eqb (drop i (held b n w)) c ≡ member eqb (held b n w) c) (room : b + n ≤ length w) where
-  here : i < n → drop i (held b n w) ≡ getD w (b + i) 0 ∷ drop (suc i) (held b n w)
-  here h = drop-cons (held b n w) i 0 (omega (arith, held-length b n w room)) ∙ ap (λ (x : ℕ). x ∷ drop (suc i) (held b n w)) (held-at b n i w h)
+-- ---- a guess that is right
+member-drop : (i : ℕ) (l : List ℕ) (c : ℕ) → member eqb (drop i l) c ≡ true → member eqb l c ≡ true
+unfolding member
+member-drop zero l c e = e
+member-drop (suc i) [] c e = e
+member-drop (suc i) (x ∷ l) c e = or-true (eqb x c) (member eqb l c) (member-drop i l c e)
 
-  pub contains-here : i < n → getD w (b + i) 0 ≡ c → true ≡ member eqb (held b n w) c
-  unfolding member
-  contains-here h e = sym (ap (λ (l : List ℕ). member eqb l c) (here h) ∙ rw (eq-eqb (getD w (b + i) 0) c e)) ∙ inv
+module _ (b n c : ℕ) (w : List ℕ) (i : ℕ) (room : b + n ≤ length w) (less : i < n) where
+  here : drop i (held b n w) ≡ getD w (b + i) 0 ∷ drop (suc i) (held b n w)
+  here = drop-cons (held b n w) i 0 (omega (arith, held-length b n w room)) ∙ ap (λ (x : ℕ). x ∷ drop (suc i) (held b n w)) (held-at b n i w less)
 
-  pub contains-on : i < n → (getD w (b + i) 0 ≡ c → ⊥) → member eqb (drop (i + 1) (held b n w)) c ≡ member eqb (held b n w) c
+  pub stands-there : eqb (getD w (b + i) 0) c ≡ true → member eqb (held b n w) c ≡ true
   unfolding member
-  contains-on h e = ap (λ (k : ℕ). member eqb (drop k (held b n w)) c) (add-one i) ∙ sym (ap (λ (l : List ℕ). member eqb l c) (here h) ∙ rw (ne-eqb (getD w (b + i) 0) c e)) ∙ inv
+  stands-there e = member-drop i (held b n w) c (ap (λ (l : List ℕ). member eqb l c) here ∙ ap (λ (t : Bool). t || member eqb (drop (suc i) (held b n w)) c) e)
 
-  pub contains-none : n ≤ i → false ≡ member eqb (held b n w) c
+pub stands-not : (t : Bool) → false ≡ true → t ≡ true
+stands-not t e = absurd (false≢true e)
+
+-- ---- the search: c is among all codes if it was found or is among those from the index i on
+pub meets-here : (found : Bool) (x c : ℕ) → x ≡ c → true ≡ (eqb x c || found)
+meets-here found x c e = rw (eq-eqb x c e)
+
+pub meets-not : (found : Bool) (x c : ℕ) → (x ≡ c → ⊥) → found ≡ (eqb x c || found)
+meets-not found x c e = rw (ne-eqb x c e)
+
+module _ (b n c : ℕ) (w : List ℕ) (found : Bool) (i : ℕ) (inv : (found || member eqb (drop i (held b n w)) c) ≡ member eqb (held b n w) c) (room : b + n ≤ length w) where
+  pub contains-on : (r : Bool) → i < n → r ≡ (eqb (getD w (b + i) 0) c || found) → (r || member eqb (drop (i + 1) (held b n w)) c) ≡ member eqb (held b n w) c
   unfolding member
-  contains-none h = sym (ap (λ (l : List ℕ). member eqb l c) (drop-of-length-le (held b n w) {i = i} (omega (arith, held-length b n w room)))) ∙ inv
+  contains-on r h e = ap (λ (t : Bool). t || member eqb (drop (i + 1) (held b n w)) c) e
+      ∙ ap (λ (k : ℕ). (eqb (getD w (b + i) 0) c || found) || member eqb (drop k (held b n w)) c) (add-one i)
+      ∙ or-shift (eqb (getD w (b + i) 0) c) found (member eqb (drop (suc i) (held b n w)) c)
+      ∙ ap (λ (l : List ℕ). found || member eqb l c) (sym (here b n c w i room h)) ∙ inv
+
+  pub contains-all : n ≤ i → found ≡ member eqb (held b n w) c
+  unfolding member
+  contains-all h = sym (or-false found) ∙ ap (λ (l : List ℕ). found || member eqb l c) (sym (drop-of-length-le (held b n w) {i = i} (omega (arith, held-length b n w room)))) ∙ inv
 
 -- ---- one code more
 module _ (b n c : ℕ) (w : List ℕ) (t : Bool) (room : Room b n w (c ∷ [])) (test : t ≡ member eqb (held b n w) c) where
@@ -60,6 +95,36 @@ module _ (b n c : ℕ) (w : List ℕ) (t : Bool) (room : Room b n w (c ∷ [])) 
       let more : held b (n + 1) (set w (b + n) c) ≡ held b n w ++ c ∷ [] = ap (λ (k : ℕ). take k (drop b (set w (b + n) c))) (add-one n) ∙ ap (take (suc n)) (drop-set-add b w n c) ∙ take-suc-set (drop b w) n c (omega (arith, length-drop b w, room-new e)) in
       let q : held b (n + 1) (set w (b + n) c) ≡ noted (held b n w) c = more ∙ rw (← test, e) in
       record { kept = kept-set b w (b + n) c (omega arith); codes = q; count = omega (arith, ap length (sym q ∙ more), length-append (held b n w) (c ∷ []), held-length b n w (room .low)) }
+
+-- a code that is seen to be there
+pub note-seen : (b n c : ℕ) (w : List ℕ) (t : Bool) → Room b n w (c ∷ []) → (t ≡ true → member eqb (held b n w) c ≡ true) → t ≡ true → Codes b w (noted (held b n w) c) w n
+note-seen b n c w t room test e = note-there b n c w true room (sym (test e)) refl
+
+-- a word behind the codes is none of them
+held-set : (b n i x : ℕ) (w : List ℕ) → b + n ≤ i → held b n (set w i x) ≡ held b n w
+held-set b n i x w h =
+    let e : i ≡ b + (i - b) = omega arith in
+    ap (λ (k : ℕ). held b n (set w k x)) e ∙ ap (take n) (drop-set-add b w (i - b) x) ∙ take-set-le n (drop b w) (i - b) x (omega arith)
+
+module _ (b n i x c : ℕ) (w : List ℕ) (room : Room b n w (c ∷ [])) (high : b + n < i) where
+  same-held : held b n (set w i x) ≡ held b n w
+  same-held = held-set b n i x w (omega arith)
+
+  pub hinted-room : Room b n (set w i x) (c ∷ [])
+  hinted-room = record {
+    low = omega (arith, room .low, length-set w i x);
+    fits = omega (arith, room .fits, length-set w i x, ap (λ (l : List ℕ). length (notedAll l (c ∷ []))) same-held);
+  }
+
+  pub hinted-size : (v cs : List ℕ) (m : ℕ) → Codes b (set w i x) cs v m → length v ≡ length w
+  hinted-size v cs m d = d .kept .size ∙ length-set w i x
+
+  pub hinted : (v : List ℕ) (m : ℕ) → Codes b (set w i x) (noted (held b n (set w i x)) c) v m → Codes b w (noted (held b n w) c) v m
+  hinted v m d = record {
+    kept = kept-on b w (set w i x) v (kept-set b w i x (omega arith)) (d .kept);
+    codes = d .codes ∙ ap (λ (l : List ℕ). noted l c) same-held;
+    count = d .count ∙ ap (λ (l : List ℕ). length (noted l c)) same-held;
+  }
 
 -- ---- many codes
 noted-append : (cs xs ys : List ℕ) → notedAll cs (xs ++ ys) ≡ notedAll (notedAll cs xs) ys

@@ -9,7 +9,7 @@ use borrow.Author.Tests.{le-leb, lt-leb, lt-ltb, le-ltb, eq-eqb, ne-eqb}
 use mir.Syntax.{w64}
 use mir.Val.{Fits}
 use lib.Dec.{eqb, leb, ltb}
-use lib.ListN.{length, getD, take, drop, set, length-append, length-drop, length-map, drop-of-length-le}
+use lib.ListN.{length, getD, take, drop, set, length-append, length-drop, length-map, length-set, drop-of-length-le}
 use lib.Seq.{sets, drop-cons, getD-drop, getD-take, length-take-le}
 use Rattle.tokens.specs.declared.Token.{Token}
 use Rattle.parser.specs.Row.{ended, peek}
@@ -24,7 +24,7 @@ use Rattle.sheet.specs.Wheels.{part}
 use Rattle.sheet.specs.Rules.{noSpan, resolve, written, moveOf, firstEntry, ruleAt, ownPlace, tapeWords, tapeAt, tapesWords, placesWords, headWords, ruleWords, Placed}
 use Rattle.assembler.proofs.Rows.{length-rows}
 use Rattle.sheet.proofs.CommentLaws.{between-few, length-texts}
-use Rattle.sheet.proofs.Writes.{stored-word, stored-none, stored-as, stored-append, Writing, writing-start, writing-on, writing-room, written as all-written}
+use Rattle.sheet.proofs.Writes.{stored-word, stored-none, stored-as, stored-append, stored-length, Writing, writing-start, writing-on, writing-room, written as all-written}
 
 -- ---- what a token says
 module _ (b : ℕ) (t : Token) where
@@ -123,6 +123,10 @@ tape-stored b r w d o o₁ o₂ o₃ at i j x y z p q ex ep s₁ ey eq s₂ ez e
     stored-as (tapeWords b r w d) (x ∷ spanWords p ++ four) o o₃ at (j + 1) same
     (stored-append (x ∷ spanWords p) four o o₁ o₃ at i (j + 1) s₁
     (stored-append (y ∷ spanWords q) (z ∷ []) o₁ o₂ o₃ i j (j + 1) s₂ (stored-word o₂ o₃ j z e)))
+
+pub tape-in-stored : (b : ℕ) (r w d : Token) (o o₁ o₂ : List ℕ) (at i j x y z : ℕ) (p q : Span) → x ≡ resolve b r → p ≡ placeOf r → Stored (x ∷ spanWords p) o at o₁ i
+    → y ≡ written b r w → q ≡ placeOf w → Stored (y ∷ spanWords q) o₁ i o₂ j → z ≡ moveOf d → Stored (tapeWords b r w d) o at (set o₂ j z) (j + 1)
+tape-in-stored b r w d o o₁ o₂ at i j x y z p q ex ep s₁ ey eq s₂ ez = tape-stored b r w d o o₁ o₂ (set o₂ j z) at i j x y z p q ex ep s₁ ey eq s₂ ez refl
 
 pub tape-at-stored : (b : ℕ) (ts : List Token) (r : Rule) (t c c′ : ℕ) (x y z : Token) (o o′ : List ℕ) (i i′ : ℕ) → c′ ≡ c → x ≡ peek ts c′ → y ≡ peek ts (r .write + 2 * t)
     → z ≡ peek ts (r .dir + 2 * t) → Stored (tapeWords b x y z) o i o′ i′ → Stored (tapeAt b ts r t c) o i o′ i′
@@ -250,6 +254,21 @@ head-stored ts r c n k o o₁ o₂ o₃ o₄ at i a b d e =
     (stored-append (ruleLength n k ∷ []) (placesWords ts r c ++ n ∷ k ∷ []) o o₁ o₄ at (at + 1) (i + 1 + 1) (stored-word o o₁ at (ruleLength n k) a)
     (stored-append (placesWords ts r c) (n ∷ k ∷ []) o₁ o₂ o₄ (at + 1) i (i + 1 + 1) b
     (stored-append (n ∷ []) (k ∷ []) o₂ o₃ o₄ i (i + 1) (i + 1 + 1) (stored-word o₂ o₃ i n d) (stored-word o₃ o₄ (i + 1) k e))))
+
+-- where there is room for it
+pub places-room-in : (o o₁ : List ℕ) (at x : ℕ) → at + 11 ≤ length o → o₁ ≡ set o at x → at + 1 + 8 ≤ length o₁
+places-room-in o o₁ at x h e = omega (arith, length-set o at x, h, ap length e)
+
+module _ (ts : List Token) (r : Rule) (c : Span) (o o₁ : List ℕ) (at : ℕ) (o₂ : List ℕ) (i : ℕ) (h : at + 11 ≤ length o) (e : length o₁ ≡ length o) (s : Stored (placesWords ts r c) o₁ (at + 1) o₂ i) where
+  nine : i + 2 ≤ length o₂
+  unfolding placesWords
+  nine = omega (arith, s .behind, stored-length (placesWords ts r c) o₁ o₂ (at + 1) i s)
+
+  pub tapes-in : i < length o₂
+  tapes-in = omega (arith, nine)
+
+  pub leading-in : (o₃ : List ℕ) (y : ℕ) → o₃ ≡ set o₂ i y → i + 1 < length o₃
+  leading-in o₃ y f = omega (arith, nine, ap length f, length-set o₂ i y)
 
 -- ---- a rule
 

@@ -4,7 +4,7 @@ use mathlib.Core.List.{List, [], _∷_, _++_}
 use Prim.Native.Nat.{ℕ, zero, suc, _+_, _≤_, _<_}
 use native.Mathlib.Omega.{arith}
 use native.Mathlib.Numerals.{add-one}
-use lib.ListN.{length, set, length-append}
+use lib.ListN.{length, set, length-append, length-set}
 use lib.Seq.{sets, set-out, length-sets}
 use Rattle.diag.specs.declared.Span.{Span}
 use Rattle.sheet.specs.Stored.{Stored}
@@ -45,6 +45,25 @@ stored-length ws o o′ i i′ s = ap length (s .words) ∙ length-sets o i ws
 
 pub symbol-stored : (o o₁ o₂ : List ℕ) (i r x : ℕ) (p : Span) → o₁ ≡ set o i x → Stored (spanWords p) o₁ (i + 1) o₂ r → Stored (x ∷ spanWords p) o i o₂ r
 symbol-stored o o₁ o₂ i r x p e s = stored-append (x ∷ []) (spanWords p) o o₁ o₂ i (i + 1) r (stored-word o o₁ i x e) s
+
+-- ---- where there is room
+pub place-in-stored : (o : List ℕ) (i : ℕ) (p : Span) → Stored (spanWords p) o i (set (set o i (p .start)) (i + 1) (p .end)) (i + 2)
+place-in-stored o i p = place-stored o (set o i (p .start)) (set (set o i (p .start)) (i + 1) (p .end)) i p refl refl
+
+pub second-in : (o : List ℕ) (i x : ℕ) → i + 2 ≤ length o → i + 1 < length (set o i x)
+second-in o i x h = omega (arith, length-set o i x, h)
+
+pub place-room-in : (o : List ℕ) (i x : ℕ) → i + 3 ≤ length o → i + 1 + 2 ≤ length (set o i x)
+place-room-in o i x h = omega (arith, length-set o i x, h)
+
+pub symbol-in-stored : (o o₂ : List ℕ) (i r x : ℕ) (p : Span) → Stored (spanWords p) (set o i x) (i + 1) o₂ r → Stored (x ∷ spanWords p) o i o₂ r
+symbol-in-stored o o₂ i r x p s = symbol-stored o (set o i x) o₂ i r x p refl s
+
+pub size-behind : (o o₂ ws : List ℕ) (i j r x : ℕ) → Stored ws (set o i x) j o₂ r → length o₂ ≡ length o
+size-behind o o₂ ws i j r x s = stored-length ws (set o i x) o₂ j r s ∙ length-set o i x
+
+pub size-before : (o o₁ o₂ vs ws : List ℕ) (i j k x : ℕ) → Stored vs o i o₁ j → Stored ws o₁ j o₂ k → length (set o₂ k x) ≡ length o
+size-before o o₁ o₂ vs ws i j k x s t = length-set o₂ k x ∙ stored-length ws o₁ o₂ j k t ∙ stored-length vs o o₁ i j s
 
 -- what is left to store behind what is there gives the target, and ends where it was to end
 pub record Writing (target : List ℕ) (end : ℕ) (o : List ℕ) (i : ℕ) (left : List ℕ) : Type 0 where

@@ -115,8 +115,8 @@ pub fn own_place(work: &[u32], count: usize, line: usize) -> Span
     Span::NONE
 }
 
-// One tape.
-fn tape(blank: u32, r: Token, w: Token, d: Token, out: &mut [u32], at: usize) -> usize
+// One tape, as far as there is room.
+fn tape_part(blank: u32, r: Token, w: Token, d: Token, out: &mut [u32], at: usize) -> usize
     requires { ⌜ at + 7 < 2 ^ 64 ⌝ }
     ensures { λ x. ⌜ Stored (tapeWords blank r w d) (now (out .entry)) at (now (out .exit)) x ⌝ }
 {
@@ -124,6 +124,28 @@ fn tape(blank: u32, r: Token, w: Token, d: Token, out: &mut [u32], at: usize) ->
     let j = put::symbol(out, i, written(blank, r, w), entry::place_of(w));
     put::word(out, j, move_of(d));
     j + 1
+}
+
+// One tape where there is room for it.
+fn tape_in(blank: u32, r: Token, w: Token, d: Token, out: &mut [u32], at: usize) -> usize
+    requires { ⌜ at + 7 ≤ length (now out) ⌝ }
+    ensures { λ x. ⌜ Stored (tapeWords blank r w d) (now (out .entry)) at (now (out .exit)) x ⌝ }
+{
+    let i = put::symbol_in(out, at, resolve(blank, r), entry::place_of(r));
+    let j = put::symbol_in(out, i, written(blank, r, w), entry::place_of(w));
+    out[j] = move_of(d);
+    j + 1
+}
+
+// One tape.
+fn tape(blank: u32, r: Token, w: Token, d: Token, out: &mut [u32], at: usize) -> usize
+    requires { ⌜ at + 7 < 2 ^ 64 ⌝ }
+    ensures { λ x. ⌜ Stored (tapeWords blank r w d) (now (out .entry)) at (now (out .exit)) x ⌝ }
+{
+    if out.len() < at + 7 {
+        return tape_part(blank, r, w, d, out, at);
+    }
+    tape_in(blank, r, w, d, out, at)
 }
 
 // The tape t of a choice: the symbols read stand at the indices from b on.
@@ -189,8 +211,16 @@ fn places(work: &[u32], count: usize, r: Rule, c: Span, out: &mut [u32], at: usi
     put::place(out, k, c)
 }
 
-// A rule up to its tapes; k comments lead it.
-fn head(work: &[u32], count: usize, r: Rule, c: Span, k: usize, out: &mut [u32], at: usize) -> usize
+// A rule up to its tapes, as far as there is room.
+fn head_part(
+    work: &[u32],
+    count: usize,
+    r: Rule,
+    c: Span,
+    k: usize,
+    out: &mut [u32],
+    at: usize,
+) -> usize
     requires { ⌜ (4 * count ≤ length (now work)) × (r .line < count) × (11 + 7 * r .tapes + 2 * k < 2 ^ 32) × (at + 11 < 2 ^ 64) ⌝ }
     ensures { λ x. ⌜ Stored (headWords (rows count (now (work .entry))) r c (r .tapes) k) (now (out .entry)) at (now (out .exit)) x ⌝ }
 {
@@ -200,6 +230,58 @@ fn head(work: &[u32], count: usize, r: Rule, c: Span, k: usize, out: &mut [u32],
     put::word(out, i, r.tapes as u32);
     put::word(out, i + 1, k as u32);
     i + 2
+}
+
+// The place of the token at the index i, where there is room for it.
+fn place_at_in(work: &[u32], count: usize, i: usize, out: &mut [u32], at: usize) -> usize
+    requires { ⌜ (4 * count ≤ length (now work)) × (at + 2 ≤ length (now out)) ⌝ }
+    ensures { λ r. ⌜ Stored (spanWords (placeOf (peek (rows count (now (work .entry))) i))) (now (out .entry)) at (now (out .exit)) r ⌝ }
+{
+    let t = entry::token_at(work, count, i);
+    put::place_in(out, at, entry::place_of(t))
+}
+
+// The places of from, to, line and comment, where there is room for them.
+fn places_in(work: &[u32], count: usize, r: Rule, c: Span, out: &mut [u32], at: usize) -> usize
+    requires { ⌜ (4 * count ≤ length (now work)) × (r .line < count) × (at + 8 ≤ length (now out)) ⌝ }
+    ensures { λ x. ⌜ Stored (placesWords (rows count (now (work .entry))) r c) (now (out .entry)) at (now (out .exit)) x ⌝ }
+{
+    let i = place_at_in(work, count, r.line + 2, out, at);
+    let j = place_at_in(work, count, r.to, out, i);
+    let k = place_at_in(work, count, r.line, out, j);
+    put::place_in(out, k, c)
+}
+
+// A rule up to its tapes, where there is room for it.
+fn head_in(
+    work: &[u32],
+    count: usize,
+    r: Rule,
+    c: Span,
+    k: usize,
+    out: &mut [u32],
+    at: usize,
+) -> usize
+    requires { ⌜ (4 * count ≤ length (now work)) × (r .line < count) × (11 + 7 * r .tapes + 2 * k < 2 ^ 32) × (at + 11 < 2 ^ 64) × (at + 11 ≤ length (now out)) ⌝ }
+    ensures { λ x. ⌜ Stored (headWords (rows count (now (work .entry))) r c (r .tapes) k) (now (out .entry)) at (now (out .exit)) x ⌝ }
+{
+    let size = 11 + 7 * r.tapes + 2 * k;
+    put::word_in(out, at, size as u32);
+    let i = places_in(work, count, r, c, out, at + 1);
+    put::word_in(out, i, r.tapes as u32);
+    put::word_in(out, i + 1, k as u32);
+    i + 2
+}
+
+// A rule up to its tapes; k comments lead it.
+fn head(work: &[u32], count: usize, r: Rule, c: Span, k: usize, out: &mut [u32], at: usize) -> usize
+    requires { ⌜ (4 * count ≤ length (now work)) × (r .line < count) × (11 + 7 * r .tapes + 2 * k < 2 ^ 32) × (at + 11 < 2 ^ 64) ⌝ }
+    ensures { λ x. ⌜ Stored (headWords (rows count (now (work .entry))) r c (r .tapes) k) (now (out .entry)) at (now (out .exit)) x ⌝ }
+{
+    if out.len() < at + 11 {
+        return head_part(work, count, r, c, k, out, at);
+    }
+    head_in(work, count, r, c, k, out, at)
 }
 
 // The rule of a choice, with its own comment c, led by the comments from the index `lead` to its line.

@@ -1,10 +1,10 @@
--- `infer::codes::note` meets its contract: one store behind the codes.
+-- `infer::codes::note` meets its contract: a right guess is a code that is there; without one, all codes are looked through.
 use borrow.Author.Needs.{needs}
-use Rattle.infer.proofs.CodeLaws.{room-new, note-there, note-new}
+use Rattle.infer.proofs.CodeLaws.{note-seen}
 use Rattle.infer.proofs.codes.note.Statement.{statement}
 use Rattle.infer.proofs.codes.note.Tie as tie
 
-ruleset laws = (needs, room-new, note-there, note-new)
+ruleset laws = (needs, note-seen)
 
 pub note-spec : {M : Type 1} → statement M
 note-spec =
@@ -14,8 +14,17 @@ note-spec =
     (λ c. search laws)
     (λ c. search laws)
     (λ c. search laws)
+    (λ c κs. search laws)
     (λ c. search laws)
     (λ c. search laws)
     (λ c. search laws)
+    (λ c. search laws)
+    (λ c. search laws)
+    (λ c. search laws)
+    (λ c κs. search laws)
+    (λ c κs. search laws)
+    (λ c. search laws)
+    (λ c. search laws)
+    (λ c κs. search laws)
     (λ c. search laws)
     (λ c. search laws))

@@ -1,13 +1,13 @@
--- `sheet::rules::head` meets its contract: eleven words, one behind the other.
+-- `sheet::rules::head_part` meets its contract: eleven words, one behind the other.
 use borrow.Author.Needs.{needs}
 use Rattle.sheet.proofs.RuleLaws.{behind-places, behind-head, head-stored}
-use Rattle.sheet.proofs.rules.head.Statement.{statement}
-use Rattle.sheet.proofs.rules.head.Tie as tie
+use Rattle.sheet.proofs.rules.head_part.Statement.{statement}
+use Rattle.sheet.proofs.rules.head_part.Tie as tie
 
 ruleset laws = (needs, behind-places, behind-head)
 
-pub head-spec : {M : Type 1} → statement M
-head-spec =
+pub head-part-spec : {M : Type 1} → statement M
+head-part-spec =
     tie.close
     (tie.spec
     (λ c. search laws)
