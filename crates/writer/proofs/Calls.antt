@@ -37,39 +37,41 @@ form-leaves : (form output : List ℕ) (x : ReadOutcome) → leavesWork (writeFo
 unfolding writeForm
 form-leaves form output x = byTest (ltb (length output) (length form) || ltb maxBytes (length form)) (λ e. rw (e, writeForm)) (λ e. rw (e, writeForm))
 
+-- an answer a of reading with the sheet s, handed on
+module _ (t : List ℕ) (a : Answer) (s output : List ℕ) where
+  -- a machine
+  pub machine-written : (h : Head) → a ≡ Machine h → (r : WriteAnswer) (output′ : List ℕ) → Formed (formOf t) r output output′ → (l : List ℕ) → writeIn r l s output′ ≡ writeWith (R.readIn a l s) (formOf t) output
+  unfolding writeWith
+  machine-written h e r output′ f l = f (R.readIn (Machine h) l s) ∙ ap (λ x. writeWith (R.readIn x l s) (formOf t) output) (sym e)
+
+  -- diagnostics
+  pub diagnostics-handed : (n : ℕ) → a ≡ Diagnostics n → (l : List ℕ) → writeIn (W.Diagnostics n) l s output ≡ writeWith (R.readIn a l s) (formOf t) output
+  unfolding writeWith
+  diagnostics-handed n e l = ap (λ x. writeWith (R.readIn x l s) (formOf t) output) (sym e)
+
+  -- a refusal
+  pub refusal-handed : (r : Refusal) → a ≡ Refused r → (l : List ℕ) → writeIn (W.Refused r) l s output ≡ writeWith (R.readIn a l s) (formOf t) output
+  unfolding writeWith
+  refusal-handed r e l = ap (λ x. writeWith (R.readIn x l s) (formOf t) output) (sym e)
+
 -- the reading call answered a and left the log l and the sheet s
 module _ (t : List ℕ) (work : ℕ) (log sheet : List ℕ) (a : Answer) (l s : List ℕ) (read : R.readIn a l s ≡ readOutcome t work log sheet) where
-  outcome : (output : List ℕ) → writeWith (R.readIn a l s) (formOf t) output ≡ writeOutcome t work log sheet output
-  unfolding writeOutcome
-  outcome output = ap (λ r. writeWith r (formOf t) output) read
-
-  -- a machine
   pub machine-was-read : (h : Head) → a ≡ Machine h → ReadAs t (headIn h) s
   machine-was-read h e = subst (λ x. ReadAs t x s) (head-same h) (machine-read t work log sheet (H.headIn h) l s (ap (λ x. R.readIn x l s) (sym e) ∙ read))
 
-  pub machine-written : (h : Head) → a ≡ Machine h → (r : WriteAnswer) (output output′ : List ℕ) → Formed (formOf t) r output output′ → writeIn r l s output′ ≡ writeOutcome t work log sheet output
-  unfolding writeWith
-  machine-written h e r output output′ f = f (R.readIn (Machine h) l s) ∙ (ap (λ x. writeWith (R.readIn x l s) (formOf t) output) (sym e) ∙ outcome output)
-
-  -- diagnostics
-  pub diagnostics-handed : (n : ℕ) (output : List ℕ) → a ≡ Diagnostics n → writeIn (W.Diagnostics n) l s output ≡ writeOutcome t work log sheet output
-  unfolding writeWith
-  diagnostics-handed n output e = ap (λ x. writeWith (R.readIn x l s) (formOf t) output) (sym e) ∙ outcome output
-
-  -- a refusal
-  pub refusal-handed : (r : Refusal) (output : List ℕ) → a ≡ Refused r → writeIn (W.Refused r) l s output ≡ writeOutcome t work log sheet output
-  unfolding writeWith
-  refusal-handed r output e = ap (λ x. writeWith (R.readIn x l s) (formOf t) output) (sym e) ∙ outcome output
+  pub answer-written : (r : WriteAnswer) (output output′ : List ℕ) → ((k : List ℕ) → writeIn r k s output′ ≡ writeWith (R.readIn a k s) (formOf t) output) → writeIn r l s output′ ≡ writeOutcome t work log sheet output
+  unfolding writeOutcome
+  answer-written r output output′ f = f l ∙ ap (λ x. writeWith x (formOf t) output) read
 
 -- ---- work
 
-pub form-frees : (form output output′ : List ℕ) (r : WriteAnswer) (w w′ : List ℕ) → Formed form r output output′ → leavesWork (writeReplyIn r) ≡ true → w′ ≡ w
-form-frees form output output′ r w w′ f e =
+pub form-frees : (form output output′ : List ℕ) (r : WriteAnswer) (a : Answer) (h : Head) → a ≡ Machine h → Formed form r output output′ → leavesWork (writeReplyIn r) ≡ true → R.leavesWork a ≡ true
+form-frees form output output′ r a h is f e =
     let x : ReadOutcome = record { reply = O.diagnosed 0; log = []; sheet = [] } in
     absurd (false≢true (sym (form-leaves form output x) ∙ (ap (λ (o : WriteOutcome). leavesWork (o .reply)) (sym (f x)) ∙ e)))
 
-pub refusal-leaves : (a : Answer) (r : Refusal) (w w′ : List ℕ) → a ≡ Refused r → (R.leavesWork a ≡ true → w′ ≡ w) → leavesWork (writeReplyIn (W.Refused r)) ≡ true → w′ ≡ w
-refusal-leaves a r w w′ e h k = h (ap R.leavesWork e ∙ k)
+pub refusal-leaves : (a : Answer) (r : Refusal) → a ≡ Refused r → leavesWork (writeReplyIn (W.Refused r)) ≡ true → R.leavesWork a ≡ true
+refusal-leaves a r e k = ap R.leavesWork e ∙ k
 
 -- ---- the exported call
 

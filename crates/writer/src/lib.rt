@@ -1,9 +1,14 @@
 // Writing the plain form of a description: a text is read, and the form of its machine is put at the front of a lent output.
 ghost use mathlib.Core.Bool.{true};
 ghost use mathlib.Core.Path.{_≡_};
+ghost use mathlib.Core.List.{List};
+ghost use Prim.Native.Nat.{ℕ};
 ghost use lib.ListN.{length};
-ghost use Rattle.language.specs.Outcome.{ReadOutcome, formOf, writeForm, writeOutcome};
+ghost use Rattle.language.specs.Outcome.{ReadOutcome, formOf, writeForm, writeWith, writeOutcome};
 ghost use Rattle.machine.specs.Head.{headIn};
+ghost use Rattle.machine.specs.declared.Head.{Head};
+ghost use Rattle.reader.specs.declared.Answer.the-variants.{Machine};
+ghost use Rattle.reader.specs.Answer.{readIn, leavesWork as readLeaves};
 ghost use Rattle.reader.specs.Reading.{leavesWorkNumber};
 ghost use Rattle.formed.specs.Read.{ReadAs};
 ghost use Rattle.writer.specs.Answer.{writeReplyIn, writeIn, leavesWork};
@@ -43,6 +48,18 @@ fn write_form(head: Head, text: &[u8], sheet: &[u32], output: &mut [u8]) -> Writ
     WriteAnswer::Written(m)
 }
 
+// The answer of a reading call handed on, but for a machine: its form is written. The log, which stays as reading left it, plays no part.
+pub fn write_answer(a: Answer, text: &[u8], sheet: &[u32], output: &mut [u8]) -> WriteAnswer
+    requires { ⌜ ((h : Head) → a ≡ Machine h → ReadAs (now text) (headIn h) (now sheet)) ⌝ }
+    ensures { λ r. ⌜ ((l : List ℕ) → writeIn r l (now (sheet .entry)) (now (output .exit)) ≡ writeWith (readIn a l (now (sheet .entry))) (formOf (now (text .entry))) (now (output .entry))) × (leavesWork (writeReplyIn r) ≡ true → readLeaves a ≡ true) ⌝ }
+{
+    match a {
+        Answer::Machine(head) => write_form(head, text, sheet, output),
+        Answer::Diagnostics(n) => WriteAnswer::Diagnostics(n),
+        Answer::Refused(r) => WriteAnswer::Refused(r),
+    }
+}
+
 // Writes the plain form of a text: answers its length; or the number of diagnostics, which the log holds; or a refusal.
 pub fn write(
     text: &[u8],
@@ -54,11 +71,7 @@ pub fn write(
     ensures { λ r. ⌜ (writeIn r (now (log .exit)) (now (sheet .exit)) (now (output .exit)) ≡ writeOutcome (now (text .entry)) (length (now (work .entry))) (now (log .entry)) (now (sheet .entry)) (now (output .entry))) × (leavesWork (writeReplyIn r) ≡ true → now (work .exit) ≡ now (work .entry)) ⌝ }
 {
     let a = reader::read(text, work, log, sheet);
-    match a {
-        Answer::Machine(head) => write_form(head, text, sheet, output),
-        Answer::Diagnostics(n) => WriteAnswer::Diagnostics(n),
-        Answer::Refused(r) => WriteAnswer::Refused(r),
-    }
+    write_answer(a, text, sheet, output)
 }
 
 // The same for callers in other languages: the answer in 36 words, and its number.
