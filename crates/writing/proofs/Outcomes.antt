@@ -32,7 +32,7 @@ module _ (t : List ℕ) (work : ℕ) (log : List Diagnostic) (sheet : List ℕ) 
   o = readOutcome t work (flat log) sheet
 
   -- the same answer and sheet, and the log's words
-  on-words : R.readIn a (o .log) s ≡ o
+  pub on-words : R.readIn a (o .log) s ≡ o
   unfolding readRecords
   on-words = ap₂ (λ r x. record { reply = r; log = o .log; sheet = x }) (ap (λ (q : Q.RecordsOutcome). q .reply) read) (ap (λ (q : Q.RecordsOutcome). q .sheet) read)
 
