@@ -36,7 +36,8 @@ use Rattle.writer.proofs.WriteAnswer.Laws as WA′
 use Rattle.writer.proofs.words.give as giv
 use Rattle.reading.specs.Never.{Never}
 use Rattle.writing.specs.Records.{writeIn, writeRecords}
-use Rattle.writing.proofs.Called.{slice-val, write-typed}
+use Rattle.reading.proofs.Called.{slice-val}
+use Rattle.writing.proofs.Called.{write-typed}
 use Rattle.writing.proofs.write as wrt
 
 -- ---- `write`

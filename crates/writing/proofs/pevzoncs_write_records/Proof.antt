@@ -40,7 +40,7 @@ use Rattle.writer.proofs.words.give.Met as giv-met
 use Rattle.reading.specs.Never.{Never}
 use Rattle.writing.specs.Records.{writeRecords}
 use Rattle.writing.proofs.Outcomes.{given-back}
-use Rattle.writing.proofs.Called.{slice-val}
+use Rattle.reading.proofs.Called.{slice-val}
 use Rattle.writing.proofs.Handed.{WroteFact, Calling, Called, call-gives, call-back, GivenFact, Giving, Gave, give-gives, give-back}
 use Rattle.writing.proofs.write as wrt
 use Rattle.writing.proofs.write.Symbol as wrt-def
@@ -146,8 +146,19 @@ module _ {M : Type 1} (𝓤 : URA M) (H : Heap 𝓤) (A : Atoms 𝓤) (W : Given
 
   meets : Meets 𝓤 H A xpt.signature (WpFn 𝓤 H (𝓣 .C) (𝓣 .Λ) code.function) (xpt.spec 𝓤 H A mem run)
   meets =
-      walk-meets 𝓤 H A xpt.ended stayed W (goes-dropped 𝓤 H A W 6 (shrSliceOf (0 ∷ []) tt (plain (λ _. u8))) yes (λ κs x f. refl), (goes-gave-slice 𝓤 H A W 6 1 tt (plain (λ _. u32)), (goes-gave-slice 𝓤 H A W 6 2 tt (plain (λ _. D)), (goes-gave-slice 𝓤 H A W 6 3 tt (plain (λ _. u32)),
-      (goes-gave-slice 𝓤 H A W 6 4 tt (plain (λ _. u8)), (goes-gave-slice 𝓤 H A W 6 5 tt (plain (λ _. u32)), tt)))))) (xpt.clauses 𝓤 H A mem run)
+      walk-meets 𝓤 H A xpt.ended stayed W (
+        goes-dropped 𝓤 H A W 6 (shrSliceOf (0 ∷ []) tt (plain (λ _. u8))) yes (λ κs x f. refl),
+        (
+          goes-gave-slice 𝓤 H A W 6 1 tt (plain (λ _. u32)),
+          (
+            goes-gave-slice 𝓤 H A W 6 2 tt (plain (λ _. D)),
+            (
+              goes-gave-slice 𝓤 H A W 6 3 tt (plain (λ _. u32)),
+              (goes-gave-slice 𝓤 H A W 6 4 tt (plain (λ _. u8)), (goes-gave-slice 𝓤 H A W 6 5 tt (plain (λ _. u32)), tt)),
+            ),
+          ),
+        ),
+      ) (xpt.clauses 𝓤 H A mem run)
       (WpFn 𝓤 H (𝓣 .C) (𝓣 .Λ) code.function) (WpFn-mono 𝓤 H (W .laws) 𝓣 code.function) walks
 
 pub pevzoncs-write-records-spec : {M : Type 1} → stated.statement M

@@ -51,8 +51,9 @@ use Rattle.reading.proofs.read as red
 use Rattle.reading.proofs.read.Symbol as red-def
 use Rattle.reading.proofs.read.Met as red-met
 use Rattle.writing.proofs.Outcomes.{was-read, written}
-use Rattle.writing.proofs.Shared.{slice, shares-slice}
-use Rattle.writing.proofs.Called.{slice-val, ReadFact, Reading, Read, read-gives, read-back, WrittenFact, Writing, Written, write-gives, write-back}
+use Rattle.reading.proofs.Shared.{slice, shares-slice}
+use Rattle.reading.proofs.Called.{slice-val, ReadFact, Reading, Read, read-gives, read-back}
+use Rattle.writing.proofs.Called.{WrittenFact, Writing, Written, write-gives, write-back}
 use Rattle.writing.proofs.write.Key.{name as key}
 use Rattle.writing.proofs.write as wrt
 use Rattle.writing.proofs.write.Statement as stated
@@ -199,7 +200,7 @@ module _ {M : Type 1} (𝓤 : URA M) (H : Heap 𝓤) (A : Atoms 𝓤) (W : Given
         -- [the answer; the tokens; the last lists; the text; what is kept; the output's token; the output; the locals]: the sheet is back, and shared
         move ! (4 ∷ 7 ∷ 9 ∷ []) $ slice-back ! tt u32 (sheet .now) s b o (λ _. shares-slice ! tt u32 s b o (subst (Room u32) (sym ns) room₃) (λ γ.
         land ! (from ! (stop !)) (init ! 32 refl typed) $ move ! (3 ∷ 4 ∷ 5 ∷ 6 ∷ 2 ∷ 10 ∷ 9 ∷ 0 ∷ 11 ∷ 7 ∷ 8 ∷ 1 ∷ []) $
-        writes c w l s read nw nl ns 𝓣 met′ γ v l₀ l₁ l₂ l₃ l₄ l₅ l₆ l₇ l₈ l₉ l₁₀ l₁₁ l₁₂ l₁₃ l₁₄ l₁₅ l₁₆)))))))))))))))))))))) 
+        writes c w l s read nw nl ns 𝓣 met′ γ v l₀ l₁ l₂ l₃ l₄ l₅ l₆ l₇ l₈ l₉ l₁₀ l₁₁ l₁₂ l₁₃ l₁₄ l₁₅ l₁₆))))))))))))))))))))))
 
 module _ {M : Type 1} (𝓤 : URA M) (H : Heap 𝓤) (A : Atoms 𝓤) (W : Given 𝓤 H A) (mem : Memory → SProp 𝓤) (run : Routine → Fun 𝓤) (𝓣 : Tables 𝓤 H)
     (met : Meets 𝓤 H A red.signature (𝓣 .C red-def.name) (red.spec 𝓤 H A mem run)) (met′ : Meets 𝓤 H A ans.signature (𝓣 .C ans-def.name) (ans.spec 𝓤 H A mem run)) where

@@ -1,0 +1,3 @@
+pub mod Words
+pub mod Local
+pub mod Called
