@@ -1,4 +1,3 @@
 pub mod Outcomes
-pub mod Called
-pub mod Handed
+pub mod Values
 pub mod Claim
