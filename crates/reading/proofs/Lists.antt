@@ -3,7 +3,9 @@ use mathlib.Core.Path.{_≡_, refl, sym, ap, subst, _∙_}
 use Prim.Native.Nat.{ℕ, zero, suc, _-_, _≤_, _<_}
 use native.Mathlib.Omega.{arith}
 use native.Mathlib.Nat.{le-of-suc-le-suc, not-suc-le-zero}
+use mathlib.Core.Bool.{Bool, true, false, not}
 use mathlib.Core.List.{List, [], _∷_, _++_}
+use lib.Dec.{T}
 use lib.ListN.{length, take, drop, replicate}
 use lib.Seq.{take-at}
 use Rattle.diag.specs.Sort.{insertAll}
@@ -39,3 +41,16 @@ pub nothing-reported : (ds : List Diagnostic) (c n : ℕ) → c ≤ 0 → replic
 unfolding insertAll
 nothing-reported ds zero n p = let none : n - 0 ≡ n = omega arith in ap (λ (k : ℕ). replicate k unused) (sym none)
 nothing-reported ds (suc c) n p = absurd (not-suc-le-zero p)
+
+-- the outcome of a test that is known
+module _ {X : Type 0} (x y : X) where
+  pub chosen : (b : Bool) → T b → elim b [ true ↦ x | false ↦ y ] ≡ x
+  chosen true p = refl
+  chosen false p = absurd p
+
+  pub rejected : (b : Bool) → T (not b) → elim b [ true ↦ x | false ↦ y ] ≡ y
+  rejected true p = absurd p
+  rejected false p = refl
+
+pub not-both : {X : Type 0} (b : Bool) → T b → b ≡ false → X
+not-both b p e = absurd (subst T e p)
