@@ -1,0 +1,6 @@
+pub mod Taken
+pub mod NameLaws
+pub mod LineSteps
+pub mod Steps
+pub mod FinalSteps
+pub mod Going
