@@ -4,3 +4,5 @@ pub mod LineSteps
 pub mod Steps
 pub mod FinalSteps
 pub mod Going
+pub mod RepeatLaws
+pub mod Beginnings

@@ -11,31 +11,15 @@ Inv-loop text work₀ q₀ work q = Going text work₀ q₀ work q
 abbrev μ-loop : tie.MeasureT-loop
 μ-loop text work₀ q₀ work q = left q
 
--- src/lib.rt:87:5
-loop-holds : tie.Need-loop-holds Inv-loop μ-loop
-loop-holds c = going-start _ _ _ (c .before .before .pre .0) (c .before .before .pre .1)
-
--- src/lib.rt:88:13
-step-requires : tie.Need-step-requires Inv-loop μ-loop
-step-requires c κs = (c .before .loop .inv .stands, c .before .loop .inv .some)
-
--- src/lib.rt:92:13
-same-length : tie.Need-same-length Inv-loop μ-loop
-same-length c = search needs
-
--- src/lib.rt:92:13
-returns : tie.Need-returns Inv-loop μ-loop
-returns c = let g = c .before .before .before .before .before .before .before .loop .inv in let e = c .before .before .before .before .before .step .ensures in (found-next _ _ _ _ _ g _ _ e (c .before .if1 .taken), found-stands _ _ _ _ _ g _ _ e, found-size _ _ _ _ _ g _ _ e)
-
--- src/lib.rt:87:5
-loop-less : tie.Need-loop-less Inv-loop μ-loop
-loop-less c = going-less _ _ _ _ _ (c .before .before .before .before .before .before .loop .inv) _ _ (c .before .before .before .before .step .ensures)
-
--- src/lib.rt:87:5
-loop-again : tie.Need-loop-again Inv-loop μ-loop
-loop-again c = going-on _ _ _ _ _ (c .before .before .before .before .before .before .loop .inv) _ _ (c .before .before .before .before .step .ensures) (c .if1 .left)
-
 pub next-spec : {M : Type 1} → statement M
 next-spec =
     tie.close
-    (tie.spec Inv-loop μ-loop loop-holds step-requires same-length returns loop-less loop-again)
+    (tie.spec
+    Inv-loop
+    μ-loop
+    (λ c. going-start _ _ _ (c .before .before .pre .0) (c .before .before .pre .1))
+    (λ c κs. (c .before .loop .inv .stands, c .before .loop .inv .some))
+    (λ c. search needs)
+    (λ c. let g = c .before .before .before .before .before .before .before .loop .inv in let e = c .before .before .before .before .before .step .ensures in (found-next _ _ _ _ _ g _ _ e (c .before .if1 .taken), found-stands _ _ _ _ _ g _ _ e, found-size _ _ _ _ _ g _ _ e))
+    (λ c. going-less _ _ _ _ _ (c .before .before .before .before .before .before .loop .inv) _ _ (c .before .before .before .before .step .ensures))
+    (λ c. going-on _ _ _ _ _ (c .before .before .before .before .before .before .loop .inv) _ _ (c .before .before .before .before .step .ensures) (c .if1 .left)))
