@@ -1,17 +1,16 @@
 -- What the log is behind its clearing, and behind the diagnostics and their sort.
 use mathlib.Core.Path.{_≡_, refl, sym, ap, subst, _∙_}
-use Prim.Native.Nat.{ℕ, zero, suc, _-_, _≤_, _<_}
+use Prim.Native.Nat.{ℕ, zero, suc, _-_}
 use native.Mathlib.Omega.{arith}
-use native.Mathlib.Nat.{le-of-suc-le-suc, not-suc-le-zero}
 use mathlib.Core.Bool.{Bool, true, false, not}
 use mathlib.Core.List.{List, [], _∷_, _++_}
 use lib.Dec.{T}
 use lib.ListN.{length, take, drop, replicate}
 use lib.Seq.{take-at}
-use Rattle.diag.specs.Sort.{insertAll}
 use Rattle.diag.specs.Log.{sort}
 use Rattle.diag.specs.declared.Diagnostic.{Diagnostic}
 use Rattle.records.specs.Unused.{unused}
+use Rattle.opening.proofs.Stages.{take-all}
 
 module _ {X : Type 0} where
   drop-replicate : (c n : ℕ) (x : X) → drop c (replicate n x) ≡ replicate (n - c) x
@@ -23,10 +22,6 @@ module _ {X : Type 0} where
   drop-at [] ys = refl
   drop-at (x ∷ xs) ys = drop-at xs ys
 
-  take-all : (xs : List X) → take (length xs) xs ≡ xs
-  take-all [] = refl
-  take-all (x ∷ xs) = ap (λ (l : List X). x ∷ l) (take-all xs)
-
 module _ (ds : List Diagnostic) (c n : ℕ) (all : c ≡ length ds) (zs zs′ : List Diagnostic) (cleared : zs ≡ replicate n unused) (gathered : zs′ ≡ ds ++ drop c zs) where
   pub behind-sort : sort (take c zs′) ++ drop c zs′ ≡ sort (take c ds) ++ replicate (n - c) unused
   behind-sort =
@@ -35,12 +30,6 @@ module _ (ds : List Diagnostic) (c n : ℕ) (all : c ≡ length ds) (zs zs′ : 
       let front : take c zs′ ≡ take c ds = ap (take c) is ∙ take-at ds (replicate (n - c) unused) c (sym all) ∙ sym (ap (λ (k : ℕ). take k ds) all ∙ take-all ds) in
       let tail : drop c zs′ ≡ replicate (n - c) unused = ap (drop c) is ∙ ap (λ (k : ℕ). drop k (ds ++ replicate (n - c) unused)) all ∙ drop-at ds (replicate (n - c) unused) in
       ap (λ (l : List Diagnostic). sort l ++ drop c zs′) front ∙ ap (λ (l : List Diagnostic). sort (take c ds) ++ l) tail
-
--- nothing to report
-pub nothing-reported : (ds : List Diagnostic) (c n : ℕ) → c ≤ 0 → replicate n unused ≡ sort (take c ds) ++ replicate (n - c) unused
-unfolding insertAll
-nothing-reported ds zero n p = let none : n - 0 ≡ n = omega arith in ap (λ (k : ℕ). replicate k unused) (sym none)
-nothing-reported ds (suc c) n p = absurd (not-suc-le-zero p)
 
 -- the outcome of a test that is known
 module _ {X : Type 0} (x y : X) where

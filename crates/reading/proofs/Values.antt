@@ -92,6 +92,9 @@ opened-search o is-o = LL.owed O.the-type O′.the-laws o _ is-o .1 .0
 pub opened-errors : (o : Opened) → IsOpened o → o .errors < 2 ^ 64
 opened-errors o is-o = LL.owed O.the-type O′.the-laws o _ is-o .1 .1 .0 .1
 
+pub answer-is : (a : Answer) (v : Val) → Is Aᵀ a (v ∷ []) → v ≡ answerVal a
+answer-is a v is-v = ap only (EL.tells Ans.the-type Ans′.the-laws a (v ∷ []) is-v)
+
 pub opened-is : (o : Opened) (v : Val) → Is Oᵀ o (v ∷ []) → v ≡ openedVal o
 opened-is o v is-v = ap only (LL.tells O.the-type O′.the-laws o (v ∷ []) is-v)
 

@@ -4,7 +4,7 @@ use mathlib.Core.List.{List}
 use Rattle.diag.specs.declared.Diagnostic.{Diagnostic}
 use Rattle.language.specs.Outcome.{replyNumber}
 use Rattle.reader.specs.Reading.{answerRow}
-use Rattle.opening.specs.Records.{RecordsOutcome}
+use Rattle.enter.specs.Records.{RecordsOutcome}
 
 -- its number, the row that is lent for the answer, the log and the sheet
 pub record Given : Type 0 where

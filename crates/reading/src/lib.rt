@@ -4,11 +4,14 @@ ghost use mathlib.Core.Bool.{true};
 ghost use Prim.Native.Nat.{_≤_};
 ghost use lib.ListN.{length};
 ghost use Rattle.reader.specs.Answer.{leavesWork};
-ghost use Rattle.opening.specs.Records.{readIn, readRecords};
+ghost use Rattle.reader.specs.Reading.{leavesWorkNumber};
+ghost use Rattle.enter.specs.Records.{readIn, readRecords};
 ghost use Rattle.opening.specs.Opens.{Reports, reported};
+ghost use Rattle.reading.specs.Given.{given, givenBy};
 use diag::Diagnostic;
 use diagnostics::Search;
 use reader::Answer;
+use reader::words;
 
 // The log of an admitted text: its first `errors` diagnostics, sorted, and unused records behind them.
 fn report(text: &[u8], work: &mut [u32], log: &mut [Diagnostic], search: Search, errors: usize)
@@ -31,4 +34,19 @@ pub fn read(text: &[u8], work: &mut [u32], log: &mut [Diagnostic], sheet: &mut [
         report(text, work, log, o.search, o.errors);
     }
     o.answer
+}
+
+// The same for callers in other languages: the answer in 36 words, and its number.
+#[no_mangle]
+pub extern "C" fn pevzoncs_read_records(
+    text: &[u8],
+    work: &mut [u32],
+    log: &mut [Diagnostic],
+    sheet: &mut [u32],
+    answer: &mut [u32],
+) -> u32
+    ensures { λ n. ⌜ (given n (now (answer .exit)) (now (log .exit)) (now (sheet .exit)) ≡ givenBy (readRecords (now (text .entry)) (length (now (work .entry))) (now (log .entry)) (now (sheet .entry))) (now (answer .entry))) × (leavesWorkNumber n ≡ true → now (work .exit) ≡ now (work .entry)) ⌝ }
+{
+    let a = read(text, work, log, sheet);
+    words::give(a, answer)
 }

@@ -45,7 +45,7 @@ use Rattle.records.proofs.Taken.{retakes}
 use Rattle.diagnostics.specs.declared.Search.{Search}
 use Rattle.reader.specs.Answer.{leavesWork}
 use Rattle.opening.specs.declared.Opened.{Opened}
-use Rattle.opening.specs.Records.{readIn, readRecords}
+use Rattle.enter.specs.Records.{readIn, readRecords}
 use Rattle.opening.specs.Opens.{Reports, reported, logBy, Opens}
 use Rattle.reading.proofs.Values.{textTy, wordsTy, logTy, wordRef, recordRef, Sᵀ, searchVal, owns-search, Aᵀ, answerVal, answerTy, answer-typed, owns-answer, Oᵀ, openedVal, openedTy, IsOpened, opened-answer, opened-search, opened-errors, opened-is, opened-typed}
 use Rattle.reading.proofs.Lists.{chosen, rejected, not-both}

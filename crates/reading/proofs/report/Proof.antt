@@ -57,7 +57,8 @@ use Rattle.records.proofs.sort.Symbol as srt-def
 use Rattle.records.proofs.sort.Met as srt-met
 use Rattle.opening.specs.Opens.{Reports, reported}
 use Rattle.reading.proofs.Values.{textTy, wordsTy, logTy, wordRef, recordRef, Sᵀ, searchVal, searchTy, IsSearch, search-typed, owns-search}
-use Rattle.reading.proofs.Lists.{behind-sort, nothing-reported}
+use Rattle.opening.proofs.Stages.{nothing-reported}
+use Rattle.reading.proofs.Lists.{behind-sort}
 use Rattle.reading.proofs.report.Key.{name as key}
 use Rattle.reading.proofs.report as report
 use Rattle.reading.proofs.report.Statement as stated
@@ -195,8 +196,16 @@ module _ {M : Type 1} (𝓤 : URA M) (H : Heap 𝓤) (A : Atoms 𝓤) (W : Given
 
   meets : Meets 𝓤 H A report.signature (WpFn 𝓤 H (𝓣 .C) (𝓣 .Λ) code.function) (report.spec 𝓤 H A mem run)
   meets =
-      walk-meets 𝓤 H A report.ended stayed W (goes-none-slice 𝓤 H A W 3 (0 ∷ []) tt (plain (λ _. u8)) yes, (goes-slice 𝓤 H A W 3 1 tt (plain (λ _. u32)), (goes-slice 𝓤 H A W 3 2 tt (plain (λ _. D)),
-      (goes-none 𝓤 H A W 3 (λ _. Sᵀ) yes (λ κs x f. refl), (goes-none 𝓤 H A W 3 (λ _. usize) yes (λ κs x f. refl), tt))))) (report.clauses 𝓤 H A mem run)
+      walk-meets 𝓤 H A report.ended stayed W (
+        goes-none-slice 𝓤 H A W 3 (0 ∷ []) tt (plain (λ _. u8)) yes,
+        (
+          goes-slice 𝓤 H A W 3 1 tt (plain (λ _. u32)),
+          (
+            goes-slice 𝓤 H A W 3 2 tt (plain (λ _. D)),
+            (goes-none 𝓤 H A W 3 (λ _. Sᵀ) yes (λ κs x f. refl), (goes-none 𝓤 H A W 3 (λ _. usize) yes (λ κs x f. refl), tt)),
+          ),
+        ),
+      ) (report.clauses 𝓤 H A mem run)
       (WpFn 𝓤 H (𝓣 .C) (𝓣 .Λ) code.function) (WpFn-mono 𝓤 H (W .laws) 𝓣 code.function) walks
 
 pub report-spec : {M : Type 1} → stated.statement M
