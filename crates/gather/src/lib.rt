@@ -1,7 +1,7 @@
 // The diagnostics of an assembled text in the log, in the order in which they are found.
 ghost use mathlib.Core.Path.{_≡_};
 ghost use mathlib.Core.List.{_++_};
-ghost use Prim.Native.Nat.{_≤_};
+ghost use Prim.Native.Nat.{_+_, _≤_};
 ghost use lib.ListN.{length, drop};
 ghost use Rattle.diagnostics.specs.Pending.{pending};
 ghost use Rattle.diagnostics.specs.Stands.{Stands};
