@@ -1,6 +1,6 @@
 -- What opening a text gives at each of its ends.
 use mathlib.Core.Path.{_≡_, refl, sym, ap, subst, _∙_}
-use mathlib.Core.Bool.{Bool, true, false, false≢true}
+use mathlib.Core.Bool.{true, false≢true}
 use mathlib.Core.List.{List, [], _∷_, _++_}
 use mathlib.Core.Option.{none, some}
 use Prim.Native.Nat.{ℕ, zero, suc, _-_, _*_, _≤_, _<_}
@@ -23,12 +23,12 @@ use Rattle.reader.specs.declared.admission.Admission.{Admission}
 use Rattle.reader.specs.declared.admission.Admission.the-variants.{Admitted, Refused as NotAdmitted}
 use Rattle.reader.specs.Answer as R
 use Rattle.reader.proofs.Calls.{machine-work}
-use Rattle.enter.specs.Records.{readIn, readRecords}
+use Rattle.enter.specs.Records.{readIn}
 use Rattle.enter.specs.Begun.{Begun}
 use Rattle.enter.proofs.Begins.{none-found}
 use Rattle.enter.proofs.Outcomes.{not-admitted, machine-read, too-many, all-kept}
 use Rattle.opening.specs.declared.Opened.{Opened}
-use Rattle.opening.specs.Opens.{refusedBy, reported, Reports, Opens}
+use Rattle.opening.specs.Opens.{refusedBy, reported, Opens}
 
 -- nothing is reported
 pub nothing-reported : (ds : List Diagnostic) (c n : ℕ) → c ≤ 0 → replicate n unused ≡ sort (take c ds) ++ replicate (n - c) unused
@@ -40,6 +40,9 @@ pub take-all : {X : Type 0} (xs : List X) → take (length xs) xs ≡ xs
 take-all [] = refl
 take-all {X = X} (x ∷ xs) = ap (λ (l : List X). x ∷ l) (take-all xs)
 
+pub none-counted : (k : ℕ) → k < 1 → k ≡ 0
+none-counted k p = omega (arith, p)
+
 -- an answer of an admitted text
 abbrev opened : Answer → Search → ℕ → Opened
 opened x s c = record { answer = x; search = s; errors = c; admitted = true }
@@ -50,7 +53,7 @@ module _ (t w : List ℕ) (n : ℕ) (sheet : List ℕ) where
     pub opens-refused : (r : Refusal) → a ≡ NotAdmitted r → (o : Opened) → o ≡ refusedBy r → Opens t w n sheet w sheet o
     opens-refused r g o is = subst (λ (x : Opened). Opens t w n sheet w sheet x) (sym is) (record {
       answers = λ log same. not-admitted t (length w) log sheet (refusedBy r .answer) (R.refusalIn r) (sym e ∙ ap R.admissionIn g) refl;
-      reports = λ some. absurd (not-suc-le-zero some);
+      reports = λ found. absurd (not-suc-le-zero found);
       leaves = λ _. (refl, refl);
     })
 
@@ -62,12 +65,11 @@ module _ (t w : List ℕ) (n : ℕ) (sheet : List ℕ) where
     pub opens-machine : s .errors < 1 → (x : Answer) (w₂ sheet₂ : List ℕ) → ((k : ℕ) → R.readIn x (zeros k) sheet₂ ≡ readMachine (linesOf t) k (length sheet₁)) → Opens t w n sheet w₂ sheet₂ (opened x s 0)
     opens-machine few x w₂ sheet₂ m =
         let long : length sheet₁ ≡ length sheet = ap length z ∙ length-replicate (length sheet) 0 in
-        let none-counted : s .errors ≡ 0 = omega (arith, few) in
         record {
           answers = λ log same.
               ap (λ (l : List Diagnostic). readIn x l sheet₂) (sym (nothing-reported (pending t w₂ s) 0 (length log) (omega arith)))
-              ∙ machine-read t (length w) log sheet a (none-found t w₁ s b none-counted) x sheet₂ (λ k. m k ∙ ap (readMachine (linesOf t) k) long);
-          reports = λ some. absurd (not-suc-le-zero some);
+              ∙ machine-read t (length w) log sheet a (none-found t w₁ s b (none-counted (s .errors) few)) x sheet₂ (λ k. m k ∙ ap (readMachine (linesOf t) k) long);
+          reports = λ found. absurd (not-suc-le-zero found);
           leaves = λ h. absurd (false≢true (sym (machine-work x (linesOf t) sheet₂ (length sheet₁) m) ∙ h));
         }
 
@@ -76,10 +78,10 @@ module _ (t w : List ℕ) (n : ℕ) (sheet : List ℕ) where
 
     -- row 5
     pub opens-too-many : 1 ≤ c → n < c → (x : Answer) → R.replyIn x ≡ refused (logTooShort c) → Opens t w n sheet w₁ sheet₁ (opened x s 0)
-    opens-too-many some many x q = record {
+    opens-too-many found many x q = record {
       answers = λ log same.
           ap (λ (l : List Diagnostic). readIn x l sheet₁) (sym (nothing-reported (pending t w₁ s) 0 (length log) (omega arith)))
-          ∙ ap (readIn x (replicate (length log) unused)) z ∙ too-many t (length w) log sheet a c (b .errors) (omega (arith, some)) (omega (arith, many, same)) x q;
+          ∙ ap (readIn x (replicate (length log) unused)) z ∙ too-many t (length w) log sheet a c (b .errors) (omega (arith, found)) (omega (arith, many, same)) x q;
       reports = λ none-left. absurd (not-suc-le-zero none-left);
       leaves = λ h. absurd (false≢true (sym (ap R.untouched q) ∙ h));
     }
@@ -87,14 +89,14 @@ module _ (t w : List ℕ) (n : ℕ) (sheet : List ℕ) where
     -- diagnostics that the log holds
     pub opens-diagnosed : 1 ≤ c → c ≤ n → (x : Answer) → R.replyIn x ≡ diagnosed c → Opens t w n sheet w₁ sheet₁ (opened x s c)
     unfolding recordsOf
-    opens-diagnosed some fits x q =
+    opens-diagnosed found fits x q =
         let ds : List Diagnostic = recordsOf (diagnosticsOf (linesOf t)) in
         let counted : c ≡ length ds = b .errors ∙ sym (length-map (diagnosticsOf (linesOf t)) recordOf) in
         let whole : take c (pending t w₁ s) ≡ ds = ap (take c) (b .whole) ∙ ap (λ (k : ℕ). take k ds) counted ∙ take-all ds in
         record {
           answers = λ log same.
               ap (λ (l : List Diagnostic). readIn x (sort l ++ replicate (length log - c) unused) sheet₁) whole
-              ∙ ap (readIn x (sort ds ++ replicate (length log - c) unused)) z ∙ all-kept t (length w) log sheet a c (b .errors) (omega (arith, some)) (omega (arith, fits, same)) x q;
+              ∙ ap (readIn x (sort ds ++ replicate (length log - c) unused)) z ∙ all-kept t (length w) log sheet a c (b .errors) (omega (arith, found)) (omega (arith, fits, same)) x q;
           reports = λ _. record { stands = b .stands; all = counted ∙ sym (ap length (b .whole)); fits = fits; room = b .room };
           leaves = λ h. absurd (false≢true (sym (ap R.untouched q) ∙ h));
         }
