@@ -44,15 +44,15 @@ duplicate-of l l′ p q d e t o o′ ep ed eo eq ee el = el ∙ ap (appended l) 
 
 -- ---- one line
 module _ (t : Token) where
-  declares-low : t .kind < 16 → declares t ≡ false
+  pub declares-low : t .kind < 16 → declares t ≡ false
   unfolding declares
   declares-low h = rw (lt-leb 16 (t .kind) h)
 
-  declares-high : (k : ℕ) → 16 ≤ t .kind → k ≡ t .kind - 16 → 11 ≤ k → declares t ≡ false
+  pub declares-high : (k : ℕ) → 16 ≤ t .kind → k ≡ t .kind - 16 → 11 ≤ k → declares t ≡ false
   unfolding declares
   declares-high k h e g = rw (le-leb 16 (t .kind) h, le-ltb (t .kind) 27 (omega arith))
 
-  declares-name : (k : ℕ) → 16 ≤ t .kind → k ≡ t .kind - 16 → k < 11 → declares t ≡ true
+  pub declares-name : (k : ℕ) → 16 ≤ t .kind → k ≡ t .kind - 16 → k < 11 → declares t ≡ true
   unfolding declares
   declares-name k h e g = rw (le-leb 16 (t .kind) h, lt-ltb (t .kind) 27 (omega arith))
 

@@ -115,15 +115,15 @@ module _ (ts : List Token) (i : ℕ) (low : i < length ts) where
   here : drop i ts ≡ peek ts i ∷ drop (suc i) ts
   here = drop-cons ts i ended low
 
-  names-stop : peek ts i .kind ≡ 13 → namesFrom i (drop i ts) ≡ []
+  pub names-stop : peek ts i .kind ≡ 13 → namesFrom i (drop i ts) ≡ []
   unfolding namesFrom
   names-stop k = ap (namesFrom i) here ∙ rw (eq-eqb (peek ts i .kind) 13 k, namesFrom)
 
-  names-on : (peek ts i .kind ≡ 13 → ⊥) → namesFrom i (drop i ts) ≡ nameAt i (peek ts i) ++ namesFrom (suc i) (drop (suc i) ts)
+  pub names-on : (peek ts i .kind ≡ 13 → ⊥) → namesFrom i (drop i ts) ≡ nameAt i (peek ts i) ++ namesFrom (suc i) (drop (suc i) ts)
   unfolding namesFrom
   names-on k = ap (namesFrom i) here ∙ rw (ne-eqb (peek ts i .kind) 13 k, namesFrom)
 
-names-end : (ts : List Token) (i : ℕ) → length ts ≤ i → namesFrom i (drop i ts) ≡ []
+pub names-end : (ts : List Token) (i : ℕ) → length ts ≤ i → namesFrom i (drop i ts) ≡ []
 unfolding namesFrom
 names-end ts i h = ap (namesFrom i) (drop-of-length-le ts {i = i} h)
 
@@ -199,11 +199,11 @@ one-final text ts d qs before i = one (listed text ts i before) (listed text ts 
     one none (some k) = at-most-one d [] [] (omega arith) (omega arith)
     one none none = at-most-one d (error 3 (placeOf (peek ts i)) ∷ []) [] (omega arith) (omega arith)
 
-at-most-final : (text : List ℕ) (ts : List Token) (d : Bool) (qs before : List ℕ) (i : ℕ) → length (finalErrorAt text ts d qs before i) ≤ 1
+pub at-most-final : (text : List ℕ) (ts : List Token) (d : Bool) (qs before : List ℕ) (i : ℕ) → length (finalErrorAt text ts d qs before i) ≤ 1
 unfolding finalErrorAt
 at-most-final text ts d qs before i = at-most-one (isState (peek ts i)) (finalError text ts d qs before i) [] (one-final text ts d qs before i) (omega arith)
 
-errors-on : (text : List ℕ) (ts : List Token) (d : Bool) (qs before fs : List ℕ) (i : ℕ)
+pub errors-on : (text : List ℕ) (ts : List Token) (d : Bool) (qs before fs : List ℕ) (i : ℕ)
     → finalErrors text ts d qs before (nameAt i (peek ts i) ++ fs) ≡ finalErrorAt text ts d qs before i ++ finalErrors text ts d qs (before ++ nameAt i (peek ts i)) fs
 unfolding finalErrors finalErrorAt nameAt
 errors-on text ts d qs before fs i = go (isState (peek ts i))

@@ -218,7 +218,7 @@ module _ (v : Verdict) (cut : Bool) (p : Span) (l : Log) where
     unfolding ruleError appendAll
     rule-many e h q r = rw (e, h) (r ∙ ap (appended l) q)
 
-one-rule : (v : Verdict) (cut : Bool) (p : Span) → length (ruleError v cut p) ≤ 1
+pub one-rule : (v : Verdict) (cut : Bool) (p : Span) → length (ruleError v cut p) ≤ 1
 unfolding ruleError
 one-rule Other cut p = omega arith
 one-rule WrongArity cut p = omega arith
@@ -226,7 +226,7 @@ one-rule TooMany cut p = at-most-one cut [] (error 9 p ∷ []) (omega arith) (om
 one-rule (Expands n) cut p = omega arith
 
 -- no more than the limit
-verdict-within : (n m : ℕ) (e : Entry) → verdict n e ≡ Expands m → m ≤ 262144
+pub verdict-within : (n m : ℕ) (e : Entry) → verdict n e ≡ Expands m → m ≤ 262144
 unfolding verdict
 verdict-within n m e h = go (eqb (e .first .kind) 27) (sameArity (peek (e .rest) 0)) (leb (n + combinations (readPart e)) 262144) refl h
   where
@@ -239,7 +239,7 @@ verdict-within n m e h = go (eqb (e .first .kind) 27) (sameArity (peek (e .rest)
     go true false z f h = let z : _≡_ {A = ℕ} 0 1 = cc in absurd (omega arith)
     go false y z f h = let z : _≡_ {A = ℕ} 0 1 = cc in absurd (omega arith)
 
-after-within : (s : Tally) (v : Verdict) → s .rules ≤ 262144 → ((m : ℕ) → v ≡ Expands m → m ≤ 262144) → after s v .rules ≤ 262144
+pub after-within : (s : Tally) (v : Verdict) → s .rules ≤ 262144 → ((m : ℕ) → v ≡ Expands m → m ≤ 262144) → after s v .rules ≤ 262144
 unfolding after
 after-within s Other h g = h
 after-within s WrongArity h g = h

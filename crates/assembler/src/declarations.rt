@@ -21,7 +21,7 @@ const TOO_LARGE: u32 = 9;
 const DUPLICATE_DECLARATION: u32 = 11;
 
 // Tapes above 255: at the value.
-fn tapes_error(work: &[u32], count: usize, at: usize, log: &mut [u32], errors: usize) -> usize
+pub fn tapes_error(work: &[u32], count: usize, at: usize, log: &mut [u32], errors: usize) -> usize
     requires { ⌜ (4 * count ≤ length (now work)) × (at < count) × (errors + 1 < 2 ^ 64) ⌝ }
     ensures { λ r. ⌜ logged (now (log .exit)) r ≡ appendAll (logged (now (log .entry)) errors) (tapesError (entryAt (rows count (now (work .entry))) at)) ⌝ }
 {

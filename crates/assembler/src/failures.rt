@@ -12,7 +12,7 @@ use diag::Diagnostic;
 use tokens::Token;
 
 // One line's.
-fn line_error(t: Token, log: &mut [u32], errors: usize) -> usize
+pub fn line_error(t: Token, log: &mut [u32], errors: usize) -> usize
     requires { ⌜ errors + 1 < 2 ^ 64 ⌝ }
     ensures { λ r. ⌜ logged (now (log .exit)) r ≡ appendAll (logged (now (log .entry)) errors) (lineError t) ⌝ }
 {

@@ -39,7 +39,7 @@ fn mark_at(work: &[u32], a: usize, b: usize, at: usize) -> u32
 }
 
 // Takes all marks away.
-fn clear_marks(text: &[u8], work: &mut [u32], count: usize, a: usize, b: usize)
+pub fn clear_marks(text: &[u8], work: &mut [u32], count: usize, a: usize, b: usize)
     requires { ⌜ Laid count a b (now work) × Interned (now text) (rows count (now work)) a (now work) ⌝ }
     ensures { λ _. ⌜ Kept b (now (work .entry)) (now (work .exit)) × Marks (now (text .entry)) (rows count (now (work .entry))) a b (now (work .exit)) [] [] ⌝ }
 {
@@ -58,7 +58,7 @@ fn mark_state(text: &[u8], work: &mut [u32], count: usize, a: usize, b: usize, a
 }
 
 // Marks the names of the set in the line at an index as Q's.
-fn mark_states(text: &[u8], work: &mut [u32], count: usize, a: usize, b: usize, q: usize)
+pub fn mark_states(text: &[u8], work: &mut [u32], count: usize, a: usize, b: usize, q: usize)
     requires { ⌜ Laid count a b (now work) × Interned (now text) (rows count (now work)) a (now work) × Marks (now text) (rows count (now work)) a b (now work) [] [] × (q < 2 ^ 32) ⌝ }
     ensures { λ _. ⌜ Kept b (now (work .entry)) (now (work .exit)) × Marks (now (text .entry)) (rows count (now (work .entry))) a b (now (work .exit)) (namesOf (rows count (now (work .entry))) q) [] ⌝ }
 {
@@ -117,7 +117,7 @@ fn final_name(
 }
 
 // The token at an index, as one of F's line.
-fn final_at(
+pub fn final_at(
     text: &[u8],
     work: &mut [u32],
     count: usize,

@@ -118,7 +118,7 @@ fn same_arity(p: Token) -> bool
 }
 
 // What becomes of the line at an index when n rules came before it.
-fn verdict_at(work: &[u32], count: usize, at: usize, n: usize) -> Verdict
+pub fn verdict_at(work: &[u32], count: usize, at: usize, n: usize) -> Verdict
     requires { ⌜ (4 * count ≤ length (now work)) × (count < 2 ^ 32) × (at < count) × (n ≤ 262144) ⌝ }
     ensures { λ r. ⌜ r ≡ verdict n (entryAt (rows count (now (work .entry))) at) ⌝ }
 {
@@ -138,7 +138,7 @@ fn verdict_at(work: &[u32], count: usize, at: usize, n: usize) -> Verdict
 }
 
 // The rules so far with one line more.
-fn after(s: Tally, v: Verdict) -> Tally
+pub fn after(s: Tally, v: Verdict) -> Tally
     ensures { λ r. ⌜ r ≡ after s v ⌝ }
 {
     match v {
@@ -156,7 +156,7 @@ fn after(s: Tally, v: Verdict) -> Tally
 }
 
 // One line's diagnostic, if what becomes of it has one.
-fn rule_error(v: Verdict, cut: bool, place: Span, log: &mut [u32], errors: usize) -> usize
+pub fn rule_error(v: Verdict, cut: bool, place: Span, log: &mut [u32], errors: usize) -> usize
     requires { ⌜ errors + 1 < 2 ^ 64 ⌝ }
     ensures { λ r. ⌜ logged (now (log .exit)) r ≡ appendAll (logged (now (log .entry)) errors) (ruleError v cut place) ⌝ }
 {

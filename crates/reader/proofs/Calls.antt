@@ -114,7 +114,7 @@ module _ (t w : List ℕ) (a : refusalOf t (length w) ≡ none) where
 
       -- the sort has room in work
       pub report-room : 5 * r .errors ≤ length w₂
-      report-room = omega (arith, o .errors, diagnostics-few t (short t (length w) a), o .entered .size, size, room t (length w) a)
+      report-room = omega (arith, o .errors, diagnostics-few t, o .entered .size, size, room t (length w) a)
 
       -- an answer that counts diagnostics
       module _ (some-errors : 0 < r .errors) (x : Answer) (log₃ sheet : List ℕ) (s : sheet ≡ replicate (length S) 0) (q : replyIn x ≡ reportReply (length log₂) (r .errors))

@@ -69,5 +69,8 @@ one-more i = add-suc i zero ∙ ap suc (add-zero i)
 pub true-lt : (i n : ℕ) → ltb i n ≡ true → i < n
 true-lt i n e = ltb→lt i n (subst T (sym e) tt)
 
+pub false-le : (i n : ℕ) → ltb i n ≡ false → n ≤ i
+false-le i n e = nltb→le i n (subst (λ (t : Bool). T (not t)) (sym e) tt)
+
 pub at-end : (i n : ℕ) → i ≤ n → ltb i n ≡ false → i ≡ n
-at-end i n p e = let r : n ≤ i = nltb→le i n (subst (λ (t : Bool). T (not t)) (sym e) tt) in omega (arith, p, r)
+at-end i n p e = let r : n ≤ i = false-le i n e in omega (arith, p, r)

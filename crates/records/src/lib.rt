@@ -3,7 +3,7 @@ ghost use mathlib.Core.Path.{_≡_};
 ghost use mathlib.Core.List.{_++_};
 ghost use Prim.Native.Nat.{_+_, _*_, _<_, _≤_, _^_};
 ghost use lib.ListN.{length, set, replicate, getD, take, drop};
-ghost use Rattle.diag.specs.Log.{records, flat};
+ghost use Rattle.diag.specs.Log.{records, flat, sort};
 ghost use Rattle.records.specs.Unused.{unused};
 use diag::Diagnostic;
 use diag::Span;
@@ -64,4 +64,14 @@ pub fn spill(log: &[Diagnostic], words: &mut [u32], count: usize)
     while i < count {
         i = diag::append(words, i, log[i]);
     }
+}
+
+// Sorts the first `count` records by where they start, equal starts in their order. They are sorted as words, in a row with room for twice as many.
+pub fn sort(log: &mut [Diagnostic], count: usize, words: &mut [u32])
+    requires { ⌜ (count ≤ length (now log)) × (10 * count ≤ length (now words)) ⌝ }
+    ensures { λ _. ⌜ now (log .exit) ≡ sort (take count (now (log .entry))) ++ drop count (now (log .entry)) ⌝ }
+{
+    spill(log, words, count);
+    sorted::sort(words, count);
+    take(log, words, count);
 }

@@ -1,0 +1,4 @@
+pub mod Cursor
+pub mod Repeats
+pub mod Pending
+pub mod Stands
