@@ -1,11 +1,13 @@
 -- What is printed for an answer, whole.
-use mathlib.Core.Path.{_≡_, sym, _∙_}
+use mathlib.Core.Option.{Option, none, some}
+use mathlib.Core.Path.{_≡_, refl, sym, ap, _∙_}
 use Prim.Native.Nat.{ℕ, _<_, _≤_, min}
 use native.Mathlib.Omega.{arith}
 use mathlib.Core.List.{List, []}
-use lib.ListN.{length, take, length-take}
+use lib.ListN.{length, take, replicate, length-take, length-replicate}
 use borrow.Author.Tests.{lt-ltb, le-ltb}
-use Rattle.language.specs.Outcome.{ReadOutcome, readOutcome, replyNumber, replyValue}
+use Rattle.language.specs.Outcome as L
+use Rattle.language.specs.Outcome.{ReadOutcome, readOutcome, refusalOf, replyNumber, replyValue}
 use Rattle.language.specs.Plain.{Piece, _⨾_}
 use Rattle.machine.specs.declared.Head.{Head}
 use Rattle.machine.specs.Head.{spanIn, countsIn}
@@ -42,15 +44,27 @@ module _ (a : Answer) (text log sheet : List ℕ) (o r : Output) (fits : r .at <
       let q′ : v ≡ replyValue (replyIn (Refused x)) = rw e at q in
       rw (e, ← p′, ← q′) (whole (refusedLine n v) o r fits w)
 
+-- what the log held at entry is not printed
+same-listing : (text : List ℕ) (work : ℕ) (log log′ sheet : List ℕ) → length log ≡ length log′ → listing text (readOutcome text work log sheet) ≡ listing text (readOutcome text work log′ sheet)
+unfolding readOutcome listing lines
+same-listing text work log log′ sheet e = go (refusalOf text work) refl
+  where
+    go : (o : Option L.Refusal) → refusalOf text work ≡ o → listing text (readOutcome text work log sheet) ≡ listing text (readOutcome text work log′ sheet)
+    go (some r) q = rw (readOutcome, q)
+    go none q = rw (readOutcome, q, e)
+
 -- a text of more bytes than are taken, and any other
 module _ (text : List ℕ) (work : ℕ) (log sheet : List ℕ) (o r : Output) where
   pub too-long : r .at < 18446744073709551616 → 2048 < length text → Puts (refusedLine 1 0) o r → r ≡ appended o (listed text work log sheet)
   unfolding listed
   too-long fits h w = rw (listed, lt-ltb 2048 (length text) h) (whole _ o r fits w)
 
-  pub text-listed : (outcome : ReadOutcome) → length text ≤ 2048 → outcome ≡ readOutcome text work log sheet → r ≡ appended o (listing text outcome) → r ≡ appended o (listed text work log sheet)
+  pub text-listed : (outcome : ReadOutcome) → length text ≤ 2048 → length log ≡ 5120 → outcome ≡ readOutcome text work (replicate 5120 0) sheet → r ≡ appended o (listing text outcome) → r ≡ appended o (listed text work log sheet)
   unfolding listed
-  text-listed outcome h e w = rw (listed, le-ltb 2048 (length text) h, ← e) w
+  text-listed outcome h n e w =
+      let z : ℕ = 0 in
+      let same : listing text outcome ≡ listing text (readOutcome text work log sheet) = ap (listing text) e ∙ same-listing text work (replicate 5120 z) log sheet (length-replicate 5120 z ∙ sym n) in
+      rw (listed, le-ltb 2048 (length text) h) (w ∙ ap (appended o) same)
 
 -- the front of a row, cut to its length
 pub front-length : (m n : ℕ) (l : List ℕ) → m ≡ min n (length l) → m ≡ length (take m l)

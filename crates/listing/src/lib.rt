@@ -5,6 +5,7 @@ use reader::words::answer_value;
 ghost use mathlib.Core.Path.{_≡_};
 ghost use lib.ListN.{length};
 ghost use Rattle.reader.specs.Answer.{readIn};
+ghost use Rattle.reading.specs.Never.{Never};
 ghost use Rattle.emit.specs.Output.{output, appended};
 ghost use Rattle.list_lines.specs.Listing.{listing, listed};
 
@@ -26,7 +27,7 @@ pub fn list(a: Answer, text: &[u8], log: &[u32], sheet: &[u32], out: &mut [u8]) 
     }
 }
 
-// Reads a text and lists the answer; a text above 2,048 bytes is refused.
+// Reads a text and lists the answer; a text above 2,048 bytes is refused. The diagnostics of 1,024 records are copied to the log's words.
 pub fn list_text(
     text: &[u8],
     work: &mut [u32],
@@ -34,12 +35,13 @@ pub fn list_text(
     sheet: &mut [u32],
     out: &mut [u8],
 ) -> usize
+    requires { ⌜ Never × (length (now log) ≡ 5120) ⌝ }
     ensures { λ r. ⌜ output (now (out .exit)) r ≡ appended (output (now (out .entry)) 0) (listed (now (text .entry)) (length (now (work .entry))) (now (log .entry)) (now (sheet .entry))) ⌝ }
 {
     if MAX_INPUT < text.len() {
         return list_lines::refused(out, 0, 1, 0);
     }
-    let a = reader::read(text, work, log, sheet);
+    let a = worded::read(text, work, log, sheet);
     list(a, text, log, sheet, out)
 }
 
@@ -50,7 +52,7 @@ fn work() -> [u32; 12294]
     [0; 12294]
 }
 
-// A log of 1,024 records.
+// The words of 1,024 records.
 fn log() -> [u32; 5120]
     ensures { λ r. ⌜ 5120 ≡ length r ⌝ }
 {

@@ -1,0 +1,90 @@
+// A text that is opened: it is refused, or entered and its machine written or its diagnostics counted. So all of the answer is known, and only the log
+// is still to be written.
+ghost use mathlib.Core.Path.{_≡_};
+ghost use mathlib.Core.Option.{none};
+ghost use lib.ListN.{length};
+ghost use Rattle.language.specs.Outcome.{refusalOf};
+ghost use Rattle.opening.specs.Opens.{refusedBy, Opens};
+use diagnostics::Search;
+use reader::Answer;
+use reader::Refusal;
+use reader::admission;
+use reader::admission::Admission;
+
+// The answer; the search for diagnostics, at its beginning; how many of them the log takes: none where it has too few records; and whether the text was
+// admitted.
+pub struct Opened {
+    pub answer: Answer,
+    pub search: Search,
+    pub errors: usize,
+    pub admitted: bool,
+}
+
+// A text that is refused: there is nothing to search.
+fn refused(r: Refusal) -> Opened
+    ensures { λ o. ⌜ o ≡ refusedBy r ⌝ }
+{
+    let first = [0; 11];
+    let search = Search {
+        count: 0,
+        first,
+        errors: 0,
+        rules: 0,
+        pass: 0,
+        at: 0,
+        tally: 0,
+        cut: false,
+    };
+    let answer = Answer::Refused(r);
+    Opened {
+        answer,
+        search,
+        errors: 0,
+        admitted: false,
+    }
+}
+
+// Opens a text that is not refused.
+fn admitted(text: &[u8], work: &mut [u32], records: usize, sheet: &mut [u32]) -> Opened
+    requires { ⌜ refusalOf (now text) (length (now work)) ≡ none ⌝ }
+    ensures { λ o. ⌜ Opens (now (text .entry)) (now (work .entry)) records (now (sheet .entry)) (now (work .exit)) (now (sheet .exit)) o ⌝ }
+{
+    let search = enter::enter(text, work, sheet);
+    let found = search.errors;
+    if found < 1 {
+        let answer = enter::machine(text, work, search, sheet);
+        return Opened {
+            answer,
+            search,
+            errors: 0,
+            admitted: true,
+        };
+    }
+    if records < found {
+        let answer = enter::refused(found);
+        return Opened {
+            answer,
+            search,
+            errors: 0,
+            admitted: true,
+        };
+    }
+    let answer = enter::diagnosed(found);
+    Opened {
+        answer,
+        search,
+        errors: found,
+        admitted: true,
+    }
+}
+
+// Opens a text for a log of so many records.
+pub fn open(text: &[u8], work: &mut [u32], records: usize, sheet: &mut [u32]) -> Opened
+    ensures { λ o. ⌜ Opens (now (text .entry)) (now (work .entry)) records (now (sheet .entry)) (now (work .exit)) (now (sheet .exit)) o ⌝ }
+{
+    let a = admission::refusal(text, work.len());
+    match a {
+        Admission::Refused(r) => refused(r),
+        Admission::Admitted => admitted(text, work, records, sheet),
+    }
+}

@@ -1,0 +1,3 @@
+pub mod Records
+pub mod Given
+pub mod Claim
