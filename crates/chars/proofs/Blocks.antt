@@ -40,12 +40,12 @@ module _ (t : List ℕ) (i : ℕ) (h : i < length t) (l : getD t i 0 < 0x80) whe
       outside-on t i (Char (getD t i 0) (i + 1)) (char-at-ascii t i (getD t i 0) h refl l) v p (getD t i 0) (i + 1) refl true (admitted-ascii (getD t i 0) l) refl
 
 -- ---- several
-pub many : (t : List ℕ) (P : ℕ → Type 0) → ((i : ℕ) → i < length t → getD t i 0 < 0x80 → P i → P (i + 1))
-    → (k i : ℕ) → i + k ≤ length t → ((j : ℕ) → j < k → getD t (i + j) 0 < 0x80) → P i → P (i + k)
-many t P step zero i h f p = subst P (sym (add-zero i)) p
-many t P step (suc k) i h f p =
+pub many : (t : List ℕ) (P Q : ℕ → Type 0) → ((i : ℕ) → i < length t → Q (getD t i 0) → P i → P (i + 1))
+    → (k i : ℕ) → i + k ≤ length t → ((j : ℕ) → j < k → Q (getD t (i + j) 0)) → P i → P (i + k)
+many t P Q step zero i h f p = subst P (sym (add-zero i)) p
+many t P Q step (suc k) i h f p =
     let e : i + k + 1 ≡ i + suc k = omega arith in
-    subst P e (step (i + k) (omega arith) (f k (omega arith)) (many t P step k i (omega arith) (λ (j : ℕ) (g : j < k). f j (omega arith)) p))
+    subst P e (step (i + k) (omega arith) (f k (omega arith)) (many t P Q step k i (omega arith) (λ (j : ℕ) (g : j < k). f j (omega arith)) p))
 
 or-left : (a b : ℕ) → a ≤ bitOr a b
 or-left a b = omega (arith, or-add-and a b, and-le-r a b)
@@ -100,11 +100,11 @@ eight-ascii t i x e l =
 module _ (t : List ℕ) (i x : ℕ) (h : 8 ≤ length t - i) (e : x ≡ ors t i) (l : x < 0x80) where
   pub block-valid : (v : ℕ) → i + sizes (decode (drop i t)) ≡ v → i + 8 + sizes (decode (drop (i + 8) t)) ≡ v
   block-valid v =
-      many t (λ (j : ℕ). j + sizes (decode (drop j t)) ≡ v) (λ j g k p. ascii-valid t j g k v p) 8 i (omega arith) (eight-ascii t i x e l)
+      many t (λ (j : ℕ). j + sizes (decode (drop j t)) ≡ v) (λ (c : ℕ). c < 0x80) (λ j g k p. ascii-valid t j g k v p) 8 i (omega arith) (eight-ascii t i x e l)
 
   pub block-outside : (v : Outside) → outsideFrom i (decode (drop i t)) ≡ v → outsideFrom (i + 8) (decode (drop (i + 8) t)) ≡ v
   block-outside v =
-      many t (λ (j : ℕ). outsideFrom j (decode (drop j t)) ≡ v) (λ j g k p. ascii-outside t j g k v p) 8 i (omega arith) (eight-ascii t i x e l)
+      many t (λ (j : ℕ). outsideFrom j (decode (drop j t)) ≡ v) (λ (c : ℕ). c < 0x80) (λ j g k p. ascii-outside t j g k v p) 8 i (omega arith) (eight-ascii t i x e l)
 
 -- the loop of `ascii_end`
 module _ (t : List ℕ) (i x : ℕ) (h : i < length t) (e : x ≡ getD t i 0) (l : x < 0x80) where
