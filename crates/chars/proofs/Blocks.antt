@@ -17,7 +17,7 @@ use Rattle.chars.specs.declared.Decoded.the-variants.{Char, Invalid, End
 use Rattle.chars.specs.declared.Outside.{Outside}
 use Rattle.chars.specs.declared.Outside.the-variants.{At, Nowhere}
 use Rattle.chars.proofs.Front.{char-at-ascii}
-use Rattle.chars.proofs.Laws.{char-decode, char-falls, decode-end}
+use Rattle.chars.proofs.Laws.{char-decode, decode-end}
 use Rattle.chars.proofs.Scans.{valid-on, valid-invalid, valid-end, outside-on, outside-here, outside-invalid, outside-end}
 use Rattle.chars.proofs.Encoding.{size-range}
 use Rattle.chars.proofs.Theorems.{valid-le}
@@ -40,12 +40,12 @@ module _ (t : List ℕ) (i : ℕ) (h : i < length t) (l : getD t i 0 < 0x80) whe
       outside-on t i (Char (getD t i 0) (i + 1)) (char-at-ascii t i (getD t i 0) h refl l) v p (getD t i 0) (i + 1) refl true (admitted-ascii (getD t i 0) l) refl
 
 -- ---- several
-pub many : (t : List ℕ) (P : ℕ → Type 0) → ((i : ℕ) → i < length t → getD t i 0 < 0x80 → P i → P (i + 1))
-    → (k i : ℕ) → i + k ≤ length t → ((j : ℕ) → j < k → getD t (i + j) 0 < 0x80) → P i → P (i + k)
-many t P step zero i h f p = subst P (sym (add-zero i)) p
-many t P step (suc k) i h f p =
+pub many : (t : List ℕ) (P Q : ℕ → Type 0) → ((i : ℕ) → i < length t → Q (getD t i 0) → P i → P (i + 1))
+    → (k i : ℕ) → i + k ≤ length t → ((j : ℕ) → j < k → Q (getD t (i + j) 0)) → P i → P (i + k)
+many t P Q step zero i h f p = subst P (sym (add-zero i)) p
+many t P Q step (suc k) i h f p =
     let e : i + k + 1 ≡ i + suc k = omega arith in
-    subst P e (step (i + k) (omega arith) (f k (omega arith)) (many t P step k i (omega arith) (λ (j : ℕ) (g : j < k). f j (omega arith)) p))
+    subst P e (step (i + k) (omega arith) (f k (omega arith)) (many t P Q step k i (omega arith) (λ (j : ℕ) (g : j < k). f j (omega arith)) p))
 
 or-left : (a b : ℕ) → a ≤ bitOr a b
 or-left a b = omega (arith, or-add-and a b, and-le-r a b)
@@ -100,11 +100,11 @@ eight-ascii t i x e l =
 module _ (t : List ℕ) (i x : ℕ) (h : 8 ≤ length t - i) (e : x ≡ ors t i) (l : x < 0x80) where
   pub block-valid : (v : ℕ) → i + sizes (decode (drop i t)) ≡ v → i + 8 + sizes (decode (drop (i + 8) t)) ≡ v
   block-valid v =
-      many t (λ (j : ℕ). j + sizes (decode (drop j t)) ≡ v) (λ j g k p. ascii-valid t j g k v p) 8 i (omega arith) (eight-ascii t i x e l)
+      many t (λ (j : ℕ). j + sizes (decode (drop j t)) ≡ v) (λ (c : ℕ). c < 0x80) (λ j g k p. ascii-valid t j g k v p) 8 i (omega arith) (eight-ascii t i x e l)
 
   pub block-outside : (v : Outside) → outsideFrom i (decode (drop i t)) ≡ v → outsideFrom (i + 8) (decode (drop (i + 8) t)) ≡ v
   block-outside v =
-      many t (λ (j : ℕ). outsideFrom j (decode (drop j t)) ≡ v) (λ j g k p. ascii-outside t j g k v p) 8 i (omega arith) (eight-ascii t i x e l)
+      many t (λ (j : ℕ). outsideFrom j (decode (drop j t)) ≡ v) (λ (c : ℕ). c < 0x80) (λ j g k p. ascii-outside t j g k v p) 8 i (omega arith) (eight-ascii t i x e l)
 
 -- the loop of `ascii_end`
 module _ (t : List ℕ) (i x : ℕ) (h : i < length t) (e : x ≡ getD t i 0) (l : x < 0x80) where
@@ -114,49 +114,36 @@ module _ (t : List ℕ) (i x : ℕ) (h : i < length t) (e : x ≡ getD t i 0) (l
   pub byte-outside : (v : Outside) → outsideFrom i (decode (drop i t)) ≡ v → outsideFrom (i + 1) (decode (drop (i + 1) t)) ≡ v
   byte-outside v p = ascii-outside t i h (omega arith) v p
 
-pub high-at : (t : List ℕ) (i x : ℕ) → x ≡ getD t i 0 → 0x80 ≤ x → i < length t → 0x80 ≤ getD t i 0
-high-at t i x e l h = omega arith
-
-pub high-end : (t : List ℕ) (i : ℕ) → length t ≤ i → i < length t → 0x80 ≤ getD t i 0
-high-end t i g h = absurd (omega arith)
-
-pub high-first : (t : List ℕ) (i a x : ℕ) → (i < length t → 0x80 ≤ getD t i 0) → i < length t → a ≡ getD t i 0 → 0x80 ≤ a
-high-first t i a x f h e = let g = f h in omega arith
-
--- ---- the loop of `plain_up_to`: i is where the ASCII bytes from `at` on end
-module _ (t : List ℕ) (at i : ℕ) (a : i + sizes (decode (drop i t)) ≡ at + sizes (decode (drop at t))) (b : outsideFrom i (decode (drop i t)) ≡ outsideFrom at (decode (drop at t)))
-    (p : at + sizes (decode (drop at t)) ≡ validUpTo t) (q : outsideFrom at (decode (drop at t)) ≡ firstOutside t) where
-  plain-none : Nowhere ≡ firstOutside t → i ≡ validUpTo t → i ≡ plainUpTo t
+-- ---- the loop of `plain_up_to`
+module _ (t : List ℕ) (at : ℕ) (p : at + sizes (decode (drop at t)) ≡ validUpTo t) (q : outsideFrom at (decode (drop at t)) ≡ firstOutside t) where
+  plain-none : Nowhere ≡ firstOutside t → at ≡ validUpTo t → at ≡ plainUpTo t
   unfolding plainUpTo
   plain-none m n = n ∙ ap (λ (o : Outside). orElse o (validUpTo t)) m
 
-  pub plain-end : length t ≤ i → i ≡ plainUpTo t
+  pub plain-end : length t ≤ at → at ≡ plainUpTo t
   unfolding sizes outsideFrom
   plain-end h =
-      let d = decode-end t i h in
-      plain-none (sym (ap (outsideFrom i) d) ∙ b ∙ q) (omega (arith, ap sizes d))
+      let d = decode-end t at h in
+      plain-none (sym (ap (outsideFrom at) d) ∙ q) (omega (arith, ap sizes d))
 
-  module _ (r : Decoded) (s : r ≡ decodedAt i (front (drop i t))) where
-    pub plain-invalid : r ≡ Invalid → i ≡ plainUpTo t
-    plain-invalid e = plain-none (outside-invalid t i r s (firstOutside t) (b ∙ q) e) (valid-invalid t i r s (validUpTo t) (a ∙ p) e)
+  module _ (r : Decoded) (s : r ≡ decodedAt at (front (drop at t))) where
+    pub plain-invalid : r ≡ Invalid → at ≡ plainUpTo t
+    plain-invalid e = plain-none (outside-invalid t at r s (firstOutside t) q e) (valid-invalid t at r s (validUpTo t) p e)
 
-    pub plain-stop : r ≡ End → i ≡ plainUpTo t
-    plain-stop e = plain-none (outside-end t i r s (firstOutside t) (b ∙ q) e) (valid-end t i r s (validUpTo t) (a ∙ p) e)
+    pub plain-stop : r ≡ End → at ≡ plainUpTo t
+    plain-stop e = plain-none (outside-end t at r s (firstOutside t) q e) (valid-end t at r s (validUpTo t) p e)
 
-    module _ (c n : ℕ) (e : r ≡ Char c n) where
-      pub plain-valid : n + sizes (decode (drop n t)) ≡ validUpTo t
-      plain-valid = valid-on t i r s (validUpTo t) (a ∙ p) c n e
+    pub plain-here : (c n : ℕ) (w : Bool) → r ≡ Char c n → w ≡ within admitted c → w ≡ false → at ≡ plainUpTo t
+    unfolding plainUpTo
+    plain-here c n w e g h = ap (λ (o : Outside). orElse o (validUpTo t)) (outside-here t at r s (firstOutside t) q c n e w g h)
 
-      module _ (w : Bool) (g : w ≡ within admitted c) where
-        pub plain-outside : w ≡ true → outsideFrom n (decode (drop n t)) ≡ firstOutside t
-        plain-outside h = outside-on t i r s (firstOutside t) (b ∙ q) c n e w g h
+  -- behind an ASCII byte and those that follow it
+  module _ (a i : ℕ) (h : at < length t) (e : a ≡ getD t at 0) (l : a < 0x80) where
+    pub run-valid : i + sizes (decode (drop i t)) ≡ at + 1 + sizes (decode (drop (at + 1) t)) → i + sizes (decode (drop i t)) ≡ validUpTo t
+    run-valid m = m ∙ byte-valid t at a h e l (validUpTo t) p
 
-        pub plain-here : w ≡ false → i ≡ plainUpTo t
-        unfolding plainUpTo
-        plain-here h = ap (λ (o : Outside). orElse o (validUpTo t)) (outside-here t i r s (firstOutside t) (b ∙ q) c n e w g h)
-
-    pub plain-falls : (c n : ℕ) → r ≡ Char c n → at ≤ i → length t - n < length t - at
-    plain-falls c n e h = omega (arith, char-falls t i r s c n e)
+    pub run-outside : outsideFrom i (decode (drop i t)) ≡ outsideFrom (at + 1) (decode (drop (at + 1) t)) → outsideFrom i (decode (drop i t)) ≡ firstOutside t
+    run-outside m = m ∙ byte-outside t at a h e l (firstOutside t) q
 
 -- ---- a text that is UTF-8 and within the set to its end
 outside-below : (o i : ℕ) (cs : List ℕ) → outsideFrom o cs ≡ At i → i < o + sizes cs

@@ -213,10 +213,10 @@ fn ascii_blocks(text: &[u8], at: usize) -> usize
     i
 }
 
-// The place of the first byte above ASCII from a place on, or the end.
+// The same, byte by byte to the first byte above ASCII or the end.
 fn ascii_end(text: &[u8], at: usize) -> usize
     requires { ⌜ at ≤ length (now text) ⌝ }
-    ensures { λ r. ⌜ (at ≤ r) × (r ≤ length (now (text .entry))) × (r + sizes (decode (drop r (now (text .entry)))) ≡ at + sizes (decode (drop at (now (text .entry))))) × (outsideFrom r (decode (drop r (now (text .entry)))) ≡ outsideFrom at (decode (drop at (now (text .entry))))) × (r < length (now (text .entry)) → 0x80 ≤ getD (now (text .entry)) r 0) ⌝ }
+    ensures { λ r. ⌜ (at ≤ r) × (r ≤ length (now (text .entry))) × (r + sizes (decode (drop r (now (text .entry)))) ≡ at + sizes (decode (drop at (now (text .entry))))) × (outsideFrom r (decode (drop r (now (text .entry)))) ≡ outsideFrom at (decode (drop at (now (text .entry))))) ⌝ }
 {
     let mut i = ascii_blocks(text, at);
     while i < text.len() {
@@ -234,21 +234,25 @@ pub fn plain_up_to(text: &[u8]) -> usize
 {
     let mut at = 0;
     loop {
-        let end = ascii_end(text, at);
-        if text.len() <= end {
-            return end;
+        if text.len() <= at {
+            return at;
         }
-        let d = long_at(text, end, wide(text[end]));
-        match d {
-            Decoded::Char(c, next) => {
-                if is_admitted(c) {
-                    at = next;
-                } else {
-                    return end;
+        let a = wide(text[at]);
+        if a < 0x80 {
+            at = ascii_end(text, at + 1);
+        } else {
+            let d = long_at(text, at, a);
+            match d {
+                Decoded::Char(c, next) => {
+                    if is_admitted(c) {
+                        at = next;
+                    } else {
+                        return at;
+                    }
                 }
+                Decoded::Invalid => return at,
+                Decoded::End => return at,
             }
-            Decoded::Invalid => return end,
-            Decoded::End => return end,
         }
     }
 }

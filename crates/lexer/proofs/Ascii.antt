@@ -102,6 +102,9 @@ module _ (c : ℕ) where
   blank-below hi b f u k e =
       each-of blank b (0x20 ∷ []) c (no-more c (0x20 ∷ []) [] f (no-none c)) hi 0 e zero-le (omega arith) ∙ blank-is c (omega (arith, leb-true hi 128 k))
 
+  pub blank-dark : 0x20 ≤ c → c < 0x80 → (c ≡ 0x20 → ⊥) → isWhitespace c ≡ false
+  blank-dark l u f = sym (blank-from 0x20 0x80 false f l u refl refl)
+
 -- ---- digits
 abbrev figure : ℕ → Bool
 figure c = leb 0x30 c && leb c 0x39

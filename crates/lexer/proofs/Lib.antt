@@ -3,6 +3,7 @@ pub mod Keywords
 pub mod Ascii
 pub mod Pieces
 pub mod Steps
+pub mod Parts
 pub mod Leads
 pub mod Writes
 pub mod Placed

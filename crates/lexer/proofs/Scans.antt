@@ -19,7 +19,7 @@ use Rattle.chars.proofs.Tests.{and-both}
 use Rattle.chars.proofs.Laws.{char-next, char-decode, invalid-decode, end-decode}
 use Rattle.lexer.specs.Tokens.{isLetter, isDigit, isSpace, isWordStart, isWordContinue, isAsciiDigit, isWhitespace, run, line, trimCons, trimEnd, escape, Inner, ends, breaks, escapes, stands, innerOf, Inside, closed, unclosed, put, pass, inside}
 use Rattle.lexer.specs.Words.{valueFrom, value}
-use Rattle.lexer.specs.Places.{lineAt, stringEnd}
+use Rattle.lexer.specs.Places.{lineAt, trimmedAt, stringEnd}
 use Rattle.lexer.specs.declared.Line.{Line}
 use Rattle.lexer.specs.declared.StringEnd.{StringEnd}
 use Rattle.lexer.specs.declared.StringEnd.the-variants.{Closed, Unclosed}
@@ -207,11 +207,6 @@ line-more c r f = rw (ne-eqb c 10 f, line)
 pub line-nil : line [] ≡ []
 unfolding line
 line-nil = refl
-
--- where a list at the place i ends without white space; `last` where it has nothing else
-abbrev trimmedAt : ℕ → ℕ → List ℕ → ℕ
-trimmedAt last i [] = last
-trimmedAt last i (c ∷ r) = i + sizes (c ∷ r)
 
 pub trimmed-same : (i : ℕ) (l : List ℕ) → trimmedAt i i l ≡ i + sizes l
 unfolding sizes

@@ -3,3 +3,4 @@ pub mod Tokens
 pub mod Words
 pub mod Places
 pub mod Quick
+pub mod Blocks

@@ -36,6 +36,11 @@ unfoldable pub lineAt : ℕ → List ℕ → Line
 unfolding sizes line trimEnd
 lineAt at cs = record { trimmed = at + sizes (trimEnd (line cs)); end = at + sizes (line cs) }
 
+-- where a line that goes on with the characters cs at the place i ends without white space; `last` where nothing but white space follows
+abbrev pub trimmedAt : ℕ → ℕ → List ℕ → ℕ
+trimmedAt last i [] = last
+trimmedAt last i (c ∷ r) = i + sizes (c ∷ r)
+
 -- a string's end, from its text at a place; `true`: a backslash stands before
 unfoldable pub stringEnd : Bool → ℕ → List ℕ → StringEnd
 unfolding sizes inside

@@ -9,6 +9,7 @@ ghost use Rattle.lexer.specs.Tokens.{tokens};
 ghost use Rattle.lexer.specs.Words.{flat, onto, tokenized};
 ghost use Rattle.lexer.specs.Quick.{leads};
 
+mod block;
 pub mod kind;
 mod lex;
 pub mod names;

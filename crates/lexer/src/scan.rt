@@ -10,6 +10,7 @@ ghost use Rattle.lexer.specs.Words.{value};
 ghost use Rattle.lexer.specs.Places.{rest, startsWith, lineAt, stringEnd};
 use crate::Line;
 use crate::StringEnd;
+use crate::block;
 use chars::Class;
 use chars::Decoded;
 
@@ -174,8 +175,9 @@ pub(crate) fn number_value(text: &[u8], at: usize) -> u32
 pub(crate) fn line_end(text: &[u8], at: usize) -> Line
     ensures { λ r. ⌜ r ≡ lineAt at (rest (now (text .entry)) at) ⌝ }
 {
-    let mut i = at;
-    let mut trimmed = at;
+    let l = block::line_part(text, at);
+    let mut i = l.end;
+    let mut trimmed = l.trimmed;
     loop {
         let s = chars::char_at(text, i);
         match s {
@@ -207,7 +209,7 @@ pub(crate) fn line_end(text: &[u8], at: usize) -> Line
 pub(crate) fn string_end(text: &[u8], at: usize) -> StringEnd
     ensures { λ r. ⌜ r ≡ stringEnd false at (rest (now (text .entry)) at) ⌝ }
 {
-    let mut i = at;
+    let mut i = block::string_part(text, at);
     let mut escaped = false;
     loop {
         let s = chars::char_at(text, i);

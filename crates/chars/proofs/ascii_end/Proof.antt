@@ -1,10 +1,10 @@
--- `chars::ascii_end` meets its contract: behind an ASCII byte the definitions say what they say before it, and the scan stops at the first byte above.
+-- `chars::ascii_end` meets its contract: behind an ASCII byte the definitions say what they say before it.
 use Prim.Native.Nat.{_+_, _-_, _≤_}
 use mathlib.Core.Path.{_≡_}
 use lib.ListN.{length, drop}
 use Rattle.chars.specs.Utf8.{sizes, decode}
 use Rattle.chars.specs.Class.{outsideFrom}
-use Rattle.chars.proofs.Blocks.{byte-valid, byte-outside, high-at, high-end}
+use Rattle.chars.proofs.Blocks.{byte-valid, byte-outside}
 use borrow.Author.Needs.{needs}
 use Rattle.chars.proofs.ascii_end.Statement.{statement}
 use Rattle.chars.proofs.ascii_end.Tie as tie
@@ -15,7 +15,7 @@ Inv-loop text at i₀ i = (at ≤ i) × (i ≤ length text) × (i + sizes (decod
 abbrev μ-loop : tie.MeasureT-loop
 μ-loop text at i₀ i = length text - i
 
-ruleset laws = (needs, byte-valid, byte-outside, high-at, high-end)
+ruleset laws = (needs, byte-valid, byte-outside)
 
 pub ascii-end-spec : {M : Type 1} → statement M
 ascii-end-spec =

@@ -1,4 +1,4 @@
--- `lexer::scan::string_end` meets its contract: the invariant: the string from here ends where the string from `at` ends. Assumes nothing.
+-- `lexer::scan::string_end` meets its contract: the invariant: the string from here ends where the string from `at` ends.
 use Prim.Native.Nat.{_-_}
 use mathlib.Core.Bool.{false}
 use mathlib.Core.Path.{_≡_}
@@ -25,6 +25,7 @@ string-end-spec =
     (tie.spec
     Inv-loop
     μ-loop
+    (λ c κs. search laws)
     (λ c. search laws)
     (λ c κs. search laws)
     (λ c. search laws)
