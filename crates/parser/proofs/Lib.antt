@@ -13,3 +13,4 @@ pub mod ItemLines
 pub mod Lines
 pub mod Lexed
 pub mod Examples
+pub mod Pairs

@@ -1,8 +1,11 @@
 -- What the parser asks of one token. Its kind and value are the words of lexer/specs/Words.antt.
-use Prim.Native.Nat.{ℕ, _+_}
+use Prim.Native.Nat.{ℕ, _+_, _-_, _*_, _≤_, _<_}
+use mathlib.Core.Path.{_≡_}
 use mathlib.Core.Bool.{Bool, true, false, cond, not}
 use mathlib.Core.List.{List, [], _∷_}
 use lib.Dec.{eqb, ltb, leb}
+use lib.ListN.{length}
+use Rattle.parser.specs.Row.{peek}
 use Rattle.tokens.specs.declared.Token.{Token}
 use Rattle.lexer.specs.declared.Span.{Span}
 use Rattle.parser.specs.declared.ItemKind.{ItemKind}
@@ -35,6 +38,16 @@ isSymbol t =
     (cond (eqb (t .kind) 1) (eqb (t .start + 1) (t .end))
     (cond (eqb (t .kind) 2) true
     (cond (eqb (t .kind) 11) (not (eqb (t .value) 0x3B)) false)))
+
+-- a symbol and a comma from an index on
+unfoldable pub isPair : List Token → ℕ → Bool
+unfolding isSymbol
+isPair ts i = cond (isSymbol (peek ts i)) (eqb (peek ts (i + 1) .kind) 8) false
+
+-- such pairs, m of them
+pub record Pairs (ts : List Token) (at m : ℕ) : Type 0 where
+  pub inside : 2 * m ≤ length ts - at
+  pub pairs : (j : ℕ) → j < m → isPair ts (at + 2 * j) ≡ true
 
 -- what is written: `*` or a symbol
 unfoldable pub isWrite : Token → Bool

@@ -1,8 +1,9 @@
 // The elements of an item: one token, and lists of them.
 ghost use mathlib.Core.Path.{_≡_};
-ghost use Prim.Native.Nat.{_<_};
+ghost use Prim.Native.Nat.{_+_, _*_, _/_, _<_, _^_};
 ghost use Rattle.parser.specs.Row.{tokensIn, peek};
-ghost use Rattle.parser.specs.Views.{isKind, isChoice, isState, isSymbol, isWrite};
+ghost use lib.ListN.{length};
+ghost use Rattle.parser.specs.Views.{isKind, isChoice, isState, isSymbol, isPair, Pairs, isWrite};
 ghost use Rattle.parser.specs.Lines.{codeOf, unexpected, one, direction, separator, entries, set, tuple, readEntry, output};
 use crate::Parsed;
 use crate::row::token_at;
@@ -136,12 +137,46 @@ pub(crate) fn state_entries(work: &[u32], at: usize) -> Parsed
     }
 }
 
+// Whether a symbol and a comma stand at an index.
+fn pair(work: &[u32], at: usize) -> bool
+    requires { ⌜ at + 1 < length (now work) / 4 ⌝ }
+    ensures { λ r. ⌜ r ≡ isPair (tokensIn (now (work .entry))) at ⌝ }
+{
+    if view::is_symbol(token_at(work, at)) {
+        let t = token_at(work, at + 1);
+        return t.kind == kind::COMMA;
+    }
+    false
+}
+
+// How many symbols with a comma behind them stand from an index on; a list goes on behind them.
+fn pairs(work: &[u32], at: usize) -> usize
+    ensures { λ r. ⌜ Pairs (tokensIn (now (work .entry))) at r × (at + 2 * r < 2 ^ 64) ⌝ }
+{
+    let n = work.len() / 4;
+    if n < at {
+        return 0;
+    }
+    let mut i = at;
+    let mut m = 0;
+    while 1 < n - i {
+        if pair(work, i) {
+            i += 2;
+            m += 1;
+        } else {
+            return m;
+        }
+    }
+    m
+}
+
 // Symbols parted by commas, up to `}`.
 pub(crate) fn symbol_entries(work: &[u32], at: usize) -> Parsed
     ensures { λ r. ⌜ r ≡ entries (one isSymbol) 7 (tokensIn (now (work .entry))) at 0 ⌝ }
 {
-    let mut i = at;
-    let mut n = 0;
+    let m = pairs(work, at);
+    let mut i = at + 2 * m;
+    let mut n = m;
     loop {
         let p = symbol(work, i);
         let Parsed::Done(j, _) = p else {

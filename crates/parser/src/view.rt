@@ -41,13 +41,13 @@ pub fn is_state(t: Token) -> bool
 pub fn is_symbol(t: Token) -> bool
     ensures { λ r. ⌜ r ≡ isSymbol t ⌝ }
 {
-    if t.kind == kind::WORD {
-        return t.value < 0x11_0000;
-    }
-    if t.kind == kind::NUMBER {
-        return t.start as u64 + 1 == t.end as u64;
-    }
-    if t.kind == kind::QUOTED {
+    if t.kind < kind::STR {
+        if t.kind == kind::WORD {
+            return t.value < 0x11_0000;
+        }
+        if t.kind == kind::NUMBER {
+            return t.start as u64 + 1 == t.end as u64;
+        }
         return true;
     }
     if t.kind == kind::OTHER {
