@@ -2,3 +2,4 @@ pub mod AnswerWords
 pub mod Forms
 pub mod Calls
 pub mod Claim
+pub mod Inhabited
