@@ -5,7 +5,6 @@ use reader::words::answer_value;
 ghost use mathlib.Core.Path.{_≡_};
 ghost use lib.ListN.{length};
 ghost use Rattle.reader.specs.Answer.{readIn};
-ghost use Rattle.reading.specs.Never.{Never};
 ghost use Rattle.emit.specs.Output.{output, appended};
 ghost use Rattle.list_lines.specs.Listing.{listing, listed};
 
@@ -35,7 +34,7 @@ pub fn list_text(
     sheet: &mut [u32],
     out: &mut [u8],
 ) -> usize
-    requires { ⌜ Never × (length (now log) ≡ 5120) ⌝ }
+    requires { ⌜ length (now log) ≡ 5120 ⌝ }
     ensures { λ r. ⌜ output (now (out .exit)) r ≡ appended (output (now (out .entry)) 0) (listed (now (text .entry)) (length (now (work .entry))) (now (log .entry)) (now (sheet .entry))) ⌝ }
 {
     if MAX_INPUT < text.len() {

@@ -1,3 +1,4 @@
 pub mod Values
 pub mod Lists
 pub mod Exported
+pub mod HandedOn

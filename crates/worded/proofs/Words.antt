@@ -22,8 +22,8 @@ use Rattle.language.proofs.Every.{byTest}
 use borrow.Author.Tests.{ltb-false}
 use Rattle.reader.specs.declared.Answer.{Answer}
 use Rattle.reader.specs.Answer.{readIn}
-use Rattle.opening.specs.Records as Q
-use Rattle.opening.specs.Records.{readRecords}
+use Rattle.enter.specs.Records as Q
+use Rattle.enter.specs.Records.{readRecords}
 
 -- unused records are zeros
 flat-unused : (n : ℕ) → flat (replicate n unused) ≡ replicate (5 * n) 0

@@ -4,7 +4,6 @@ ghost use lib.ListN.{length, replicate};
 ghost use Rattle.language.specs.Outcome.{readOutcome};
 ghost use Rattle.records.specs.Unused.{unused};
 ghost use Rattle.reader.specs.Answer.{readIn};
-ghost use Rattle.reading.specs.Never.{Never};
 use diag::Diagnostic;
 use diag::Span;
 use reader::Answer;
@@ -27,7 +26,7 @@ fn log() -> [Diagnostic; 1024]
 
 // Reads a text as `reader::read` does with a log of 5,120 zeros: the log's records are copied to `words`.
 pub fn read(text: &[u8], work: &mut [u32], words: &mut [u32], sheet: &mut [u32]) -> Answer
-    requires { ⌜ Never × (length (now words) ≡ 5120) ⌝ }
+    requires { ⌜ length (now words) ≡ 5120 ⌝ }
     ensures { λ r. ⌜ readIn r (now (words .exit)) (now (sheet .exit)) ≡ readOutcome (now (text .entry)) (length (now (work .entry))) (replicate 5120 0) (now (sheet .entry)) ⌝ }
 {
     let mut log = log();

@@ -14,8 +14,8 @@ use Rattle.reader.specs.declared.Answer.{Answer}
 use Rattle.reader.specs.declared.Answer.the-variants.{Machine}
 use Rattle.reader.specs.Answer as R
 use Rattle.reader.specs.Reading.{leavesWorkNumber}
-use Rattle.opening.specs.Records as Q
-use Rattle.opening.specs.Records.{readRecords}
+use Rattle.enter.specs.Records as Q
+use Rattle.enter.specs.Records.{readRecords}
 use Rattle.formed.specs.Read.{ReadAs}
 use Rattle.writer.specs.declared.WriteAnswer.{WriteAnswer}
 use Rattle.writer.specs.Answer as W

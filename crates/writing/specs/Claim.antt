@@ -13,7 +13,7 @@ use Rattle.language.specs.Outcome.{workNeeded, wordsNeeded, formOf, machine, di
 use Rattle.language.specs.Claim.{Writable, BothAgree}
 use Rattle.reader.specs.declared.Answer.{Answer}
 use Rattle.reader.specs.Answer.{replyIn}
-use Rattle.opening.specs.Records.{readIn, readRecords}
+use Rattle.enter.specs.Records.{readIn, readRecords}
 use Rattle.writer.specs.declared.WriteAnswer.{WriteAnswer}
 use Rattle.writer.specs.Answer.{writeReplyIn}
 use Rattle.writing.specs.Records.{writeIn, writeRecords}

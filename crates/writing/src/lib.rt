@@ -6,7 +6,6 @@ ghost use Rattle.writer.specs.Answer.{writeReplyIn, leavesWork};
 ghost use Rattle.reader.specs.Reading.{leavesWorkNumber};
 ghost use Rattle.writing.specs.Records.{writeIn, writeRecords};
 ghost use Rattle.writing.specs.Given.{given, givenBy};
-ghost use Rattle.reading.specs.Never.{Never};
 use diag::Diagnostic;
 use writer::WriteAnswer;
 
@@ -18,7 +17,6 @@ pub fn write(
     sheet: &mut [u32],
     output: &mut [u8],
 ) -> WriteAnswer
-    requires { ⌜ Never ⌝ }
     ensures { λ r. ⌜ (writeIn r (now (log .exit)) (now (sheet .exit)) (now (output .exit)) ≡ writeRecords (now (text .entry)) (length (now (work .entry))) (now (log .entry)) (now (sheet .entry)) (now (output .entry))) × (leavesWork (writeReplyIn r) ≡ true → now (work .exit) ≡ now (work .entry)) ⌝ }
 {
     let a = reading::read(text, work, log, sheet);
@@ -26,8 +24,8 @@ pub fn write(
 }
 
 // The same for callers in other languages: the answer in 36 words, and its number.
-//NOMANGLE
-pub fn pevzoncs_write_records(
+#[no_mangle]
+pub extern "C" fn pevzoncs_write_records(
     text: &[u8],
     work: &mut [u32],
     log: &mut [Diagnostic],
@@ -35,7 +33,6 @@ pub fn pevzoncs_write_records(
     output: &mut [u8],
     answer: &mut [u32],
 ) -> u32
-    requires { ⌜ Never ⌝ }
     ensures { λ n. ⌜ (given n (now (answer .exit)) (now (log .exit)) (now (sheet .exit)) (now (output .exit)) ≡ givenBy (writeRecords (now (text .entry)) (length (now (work .entry))) (now (log .entry)) (now (sheet .entry)) (now (output .entry))) (now (answer .entry))) × (leavesWorkNumber n ≡ true → now (work .exit) ≡ now (work .entry)) ⌝ }
 {
     let a = write(text, work, log, sheet, output);

@@ -51,8 +51,7 @@ use Rattle.reader.specs.declared.Answer.{Answer}
 use Rattle.reader.specs.Answer as R
 use Rattle.reader.proofs.Answer as RA
 use Rattle.reader.proofs.Answer.Laws as RA′
-use Rattle.opening.specs.Records.{readIn, readRecords}
-use Rattle.reading.specs.Never.{Never}
+use Rattle.enter.specs.Records.{readIn, readRecords}
 use Rattle.reading.proofs.HandedOn.{told, shares-on}
 use Rattle.reading.proofs.read as red
 use Rattle.reading.proofs.read.Symbol as red-def
@@ -71,7 +70,7 @@ abbrev stayed : Stays (rd.ended .signature .params) (rd.ended .kept)
 stayed = (stay-dropped (shrSliceOf (0 ∷ []) tt (plain (λ _. u8))) yes, (gave-slice (1 ∷ []) tt (plain (λ _. u32)), (gave-slice (2 ∷ []) tt (plain (λ _. u32)), (gave-slice (3 ∷ []) tt (plain (λ _. u32)), tt))))
 
 module _ {M : Type 1} (𝓤 : URA M) (H : Heap 𝓤) (A : Atoms 𝓤) (W : Given 𝓤 H A) (mem : Memory → SProp 𝓤) (run : Routine → Fun 𝓤) (κ₀ κ₁ κ₂ κ₃ : Lft) (q₀ q₁ q₂ q₃ : Share)
-    (text work words sheet : RefT (List ℕ)) (never : Never) (long : length (words .now) ≡ 5120) where
+    (text work words sheet : RefT (List ℕ)) (long : length (words .now) ≡ 5120) where
   abbrev tv : Val
   tv = sliceVal (text .ptr) (length (text .now))
 
@@ -151,7 +150,7 @@ module _ {M : Type 1} (𝓤 : URA M) (H : Heap 𝓤) (A : Atoms 𝓤) (W : Given
         packs ! (seen u8 κ₀ q₀ text tv ∷ lent u32 κ₁ q₁ work wv ∷ lent D (β ∷ []) fullShare (named-as (array l₅ γ xs) δ) (sliceVal (l₅, 0) 1024) ∷ lent u32 κ₃ q₃ sheet sv ∷ []) $
         asks ! (fmOf 𝓤 H (W .laws) 𝓣) red.ended (red.clauses 𝓤 H A mem run) met′
         (((κ₀, (κ₁, ((β ∷ []), (κ₃, tt)))), (q₀, (q₁, (fullShare, (q₃, tt)))), tt, (text, (work, (named-as (array l₅ γ xs) δ, (sheet, tt)))), (tv ∷ [], (wv ∷ [], ((sliceVal (l₅, 0) 1024) ∷ [], (sv ∷ [], tt))))), tt)
-        (factI 𝓤 _ (emp 𝓤) never)
+        (id⊢ 𝓤 (emp 𝓤))
         (and-then ! (load ! (from ! (stop !)) (look ! 37 refl)) (and-then ! (load ! (from ! (stop !)) (look ! 22 refl)) (and-then ! (load ! (from ! (stop !)) (look ! 18 refl)) (and-then ! (load ! (from ! (stop !)) (look ! 14 refl)) (no-more !)))))
         (λ v c ws. heard ! (Read xs c (ws .1 .0) (ws .1 .1 .0) (ws .1 .1 .1 .0)) (λ read. peeks ! RA.the-row (Is RA.the-row) (shows 𝓤 H A RA.the-row) c (v ∷ []) (λ is-c. move ! (1 ∷ []) $ told ! (endsOf (seen u8 κ₀ q₀ text tv ∷ lent u32 κ₁ q₁ work wv ∷ lent D (β ∷ []) fullShare (named-as (array l₅ γ xs) δ) (sliceVal (l₅, 0) 1024) ∷ lent u32 κ₃ q₃ sheet sv ∷ []) ws) (λ ends. move ! (0 ∷ 2 ∷ []) $
         hands-back ! (seen u8 κ₀ q₀ text tv ∷ lent u32 κ₁ q₁ work wv ∷ lent D (β ∷ []) fullShare (named-as (array l₅ γ xs) δ) (sliceVal (l₅, 0) 1024) ∷ lent u32 κ₃ q₃ sheet sv ∷ []) ws $
@@ -182,8 +181,8 @@ module _ {M : Type 1} (𝓤 : URA M) (H : Heap 𝓤) (A : Atoms 𝓤) (W : Given
   walks : Walks 𝓤 H A rd.ended stayed (WpFn 𝓤 H (𝓣 .C) (𝓣 .Λ) code.function) (rd.clauses 𝓤 H A mem run)
   walks = walked 𝓤 H A rd.ended stayed (rd.clauses 𝓤 H A mem run) (WpFn 𝓤 H (𝓣 .C) (𝓣 .Λ) code.function)
       (λ κs. (slice-vals, (slice-vals, (slice-vals, (slice-vals, tt))))) (λ κs. (shr-slice-tells (named 0) (κs .0) u8, (mut-slice-tells (named 1) (κs .1 .0) u32, (mut-slice-tells (named 2) (κs .1 .1 .0) u32, (mut-slice-tells (named 3) (κs .1 .1 .1 .0) u32, tt)))))
-      (λ κs qs bounds a g are. needs 𝓤 (Never × (length (a .1 .1 .0 .now) ≡ 5120)) _ (λ held.
-      walk 𝓤 H A W mem run (κs .0) (κs .1 .0) (κs .1 .1 .0) (κs .1 .1 .1 .0) (qs .0) (qs .1 .0) (qs .1 .1 .0) (qs .1 .1 .1 .0) (a .0) (a .1 .0) (a .1 .1 .0) (a .1 .1 .1 .0) (held .0) (held .1) 𝓣 met met′ met″
+      (λ κs qs bounds a g are. needs 𝓤 (length (a .1 .1 .0 .now) ≡ 5120) _ (λ long.
+      walk 𝓤 H A W mem run (κs .0) (κs .1 .0) (κs .1 .1 .0) (κs .1 .1 .1 .0) (qs .0) (qs .1 .0) (qs .1 .1 .0) (qs .1 .1 .1 .0) (a .0) (a .1 .0) (a .1 .1 .0) (a .1 .1 .1 .0) long 𝓣 met met′ met″
       (are .0 .0 .1) (are .1 .0 .0 .1) (are .1 .1 .0 .0 .1) (are .1 .1 .1 .0 .0 .1)))
 
   meets : Meets 𝓤 H A rd.signature (WpFn 𝓤 H (𝓣 .C) (𝓣 .Λ) code.function) (rd.spec 𝓤 H A mem run)

@@ -28,7 +28,7 @@ use denote.Steps.{nothing, heard, peeks, only}
 use denote.Triple.Entry.{onEntry}
 use denote.Triple.Spec.{Meets, tripleOf}
 use denote.Triple.Table.{entered, cited}
-use denote.Triple.Walked.{says, needs, Stays, stay-dropped, gave-slice, walkOf, goes-dropped, goes-gave-slice, Walks, ends-at, walked, walk-meets}
+use denote.Triple.Walked.{says, Stays, stay-dropped, gave-slice, walkOf, goes-dropped, goes-gave-slice, Walks, ends-at, walked, walk-meets}
 use denote.Exit.{yes}
 use denote.Signature.{plain, shrSliceOf}
 use Rattle.diag.specs.declared.Diagnostic.{Diagnostic}
@@ -44,7 +44,6 @@ use Rattle.writer.proofs.Calls.{number-keeps}
 use Rattle.writer.proofs.words.give as giv
 use Rattle.writer.proofs.words.give.Symbol as giv-def
 use Rattle.writer.proofs.words.give.Met as giv-met
-use Rattle.reading.specs.Never.{Never}
 use Rattle.reading.proofs.HandedOn.{told}
 use Rattle.writing.specs.Records.{writeIn, writeRecords}
 use Rattle.writing.proofs.Outcomes.{given-back}
@@ -61,7 +60,7 @@ abbrev stayed : Stays (xpt.ended .signature .params) (xpt.ended .kept)
 stayed = (stay-dropped (shrSliceOf (0 ∷ []) tt (plain (λ _. u8))) yes, (gave-slice (1 ∷ []) tt (plain (λ _. u32)), (gave-slice (2 ∷ []) tt (plain (λ _. D)), (gave-slice (3 ∷ []) tt (plain (λ _. u32)), (gave-slice (4 ∷ []) tt (plain (λ _. u8)), (gave-slice (5 ∷ []) tt (plain (λ _. u32)), tt))))))
 
 module _ {M : Type 1} (𝓤 : URA M) (H : Heap 𝓤) (A : Atoms 𝓤) (W : Given 𝓤 H A) (mem : Memory → SProp 𝓤) (run : Routine → Fun 𝓤) (κ₀ κ₁ κ₂ κ₃ κ₄ κ₅ : Lft) (q₀ q₁ q₂ q₃ q₄ q₅ : Share)
-    (text work : RefT (List ℕ)) (log : RefT (List Diagnostic)) (sheet output answer : RefT (List ℕ)) (never : Never) where
+    (text work : RefT (List ℕ)) (log : RefT (List Diagnostic)) (sheet output answer : RefT (List ℕ)) where
   abbrev tv : Val
   tv = sliceVal (text .ptr) (length (text .now))
 
@@ -137,7 +136,7 @@ module _ {M : Type 1} (𝓤 : URA M) (H : Heap 𝓤) (A : Atoms 𝓤) (W : Given
         packs ! (seen u8 κ₀ q₀ text tv ∷ lent u32 κ₁ q₁ work wv ∷ lent D κ₂ q₂ log lv ∷ lent u32 κ₃ q₃ sheet sv ∷ lent u8 κ₄ q₄ output ov ∷ []) $
         asks ! (fmOf 𝓤 H (W .laws) 𝓣) wrt.ended (wrt.clauses 𝓤 H A mem run) met
         (((κ₀, (κ₁, (κ₂, (κ₃, (κ₄, tt))))), (q₀, (q₁, (q₂, (q₃, (q₄, tt))))), tt, (text, (work, (log, (sheet, (output, tt))))), (tv ∷ [], (wv ∷ [], (lv ∷ [], (sv ∷ [], (ov ∷ [], tt)))))), tt)
-        (factI 𝓤 _ (emp 𝓤) never)
+        (id⊢ 𝓤 (emp 𝓤))
         (and-then ! (load ! (from ! (stop !)) (look ! 34 refl)) (and-then ! (load ! (from ! (stop !)) (look ! 18 refl)) (and-then ! (load ! (from ! (stop !)) (look ! 14 refl)) (and-then ! (load ! (from ! (stop !)) (look ! 10 refl)) (and-then ! (load ! (from ! (stop !)) (look ! 6 refl)) (no-more !))))))
         (λ v c ws. heard ! (Wrote c (ws .1 .0) (ws .1 .1 .0) (ws .1 .1 .1 .0) (ws .1 .1 .1 .1 .0)) (λ wrote. peeks ! Wᵀ (Is Wᵀ) (shows 𝓤 H A Wᵀ) c (v ∷ []) (λ is. move ! (1 ∷ []) $ told ! (endsOf (seen u8 κ₀ q₀ text tv ∷ lent u32 κ₁ q₁ work wv ∷ lent D κ₂ q₂ log lv ∷ lent u32 κ₃ q₃ sheet sv ∷ lent u8 κ₄ q₄ output ov ∷ []) ws) (λ ends. move ! (0 ∷ 2 ∷ []) $
         hands-back ! (seen u8 κ₀ q₀ text tv ∷ lent u32 κ₁ q₁ work wv ∷ lent D κ₂ q₂ log lv ∷ lent u32 κ₃ q₃ sheet sv ∷ lent u8 κ₄ q₄ output ov ∷ []) ws $
@@ -160,9 +159,9 @@ module _ {M : Type 1} (𝓤 : URA M) (H : Heap 𝓤) (A : Atoms 𝓤) (W : Given
   walks : Walks 𝓤 H A xpt.ended stayed (WpFn 𝓤 H (𝓣 .C) (𝓣 .Λ) code.function) (xpt.clauses 𝓤 H A mem run)
   walks = walked 𝓤 H A xpt.ended stayed (xpt.clauses 𝓤 H A mem run) (WpFn 𝓤 H (𝓣 .C) (𝓣 .Λ) code.function)
       (λ κs. (slice-vals, (slice-vals, (slice-vals, (slice-vals, (slice-vals, (slice-vals, tt))))))) (λ κs. (shr-slice-tells (named 0) (κs .0) u8, (mut-slice-tells (named 1) (κs .1 .0) u32, (mut-slice-tells (named 2) (κs .1 .1 .0) D, (mut-slice-tells (named 3) (κs .1 .1 .1 .0) u32, (mut-slice-tells (named 4) (κs .1 .1 .1 .1 .0) u8, (mut-slice-tells (named 5) (κs .1 .1 .1 .1 .1 .0) u32, tt)))))))
-      (λ κs qs bounds a g are. needs 𝓤 Never _ (λ never.
+      (λ κs qs bounds a g are. via 𝓤 _ (fst∗ 𝓤 _ (emp 𝓤)) (
       walk 𝓤 H A W mem run (κs .0) (κs .1 .0) (κs .1 .1 .0) (κs .1 .1 .1 .0) (κs .1 .1 .1 .1 .0) (κs .1 .1 .1 .1 .1 .0) (qs .0) (qs .1 .0) (qs .1 .1 .0) (qs .1 .1 .1 .0) (qs .1 .1 .1 .1 .0) (qs .1 .1 .1 .1 .1 .0)
-      (a .0) (a .1 .0) (a .1 .1 .0) (a .1 .1 .1 .0) (a .1 .1 .1 .1 .0) (a .1 .1 .1 .1 .1 .0) never 𝓣 met met′
+      (a .0) (a .1 .0) (a .1 .1 .0) (a .1 .1 .1 .0) (a .1 .1 .1 .1 .0) (a .1 .1 .1 .1 .1 .0) 𝓣 met met′
       (are .0 .0 .1) (are .1 .0 .0 .1) (are .1 .1 .0 .0 .1) (are .1 .1 .1 .0 .0 .1) (are .1 .1 .1 .1 .0 .0 .1) (are .1 .1 .1 .1 .1 .0 .0 .1)))
 
   meets : Meets 𝓤 H A xpt.signature (WpFn 𝓤 H (𝓣 .C) (𝓣 .Λ) code.function) (xpt.spec 𝓤 H A mem run)

@@ -28,7 +28,7 @@ use denote.Steps.{nothing, heard, peeks}
 use denote.Triple.Entry.{onEntry}
 use denote.Triple.Spec.{Meets, tripleOf}
 use denote.Triple.Table.{entered, cited}
-use denote.Triple.Walked.{says, needs, Stays, stay-dropped, gave-slice, walkOf, goes-dropped, goes-gave-slice, Walks, ends-at, walked, walk-meets}
+use denote.Triple.Walked.{says, Stays, stay-dropped, gave-slice, walkOf, goes-dropped, goes-gave-slice, Walks, ends-at, walked, walk-meets}
 use denote.Exit.{yes}
 use denote.Signature.{plain, shrSliceOf}
 use Rattle.diag.specs.declared.Diagnostic.{Diagnostic}
@@ -40,13 +40,12 @@ use Rattle.records.proofs.Taken.{retakes}
 use Rattle.records.proofs.Packed.{lent, seen, held, endsOf, Packed, packs, unpacks, hands-back}
 use Rattle.reader.specs.declared.Answer.{Answer}
 use Rattle.reader.specs.Answer as R
-use Rattle.opening.specs.Records.{readIn, readRecords}
+use Rattle.enter.specs.Records.{readIn, readRecords}
 use Rattle.writer.specs.declared.WriteAnswer.{WriteAnswer}
 use Rattle.writer.specs.Answer as W′
 use Rattle.writer.proofs.write_answer as ans
 use Rattle.writer.proofs.write_answer.Symbol as ans-def
 use Rattle.writer.proofs.write_answer.Met as ans-met
-use Rattle.reading.specs.Never.{Never}
 use Rattle.reading.proofs.HandedOn.{told, shares-on}
 use Rattle.reading.proofs.read as red
 use Rattle.reading.proofs.read.Symbol as red-def
@@ -62,7 +61,7 @@ abbrev stayed : Stays (wrt.ended .signature .params) (wrt.ended .kept)
 stayed = (stay-dropped (shrSliceOf (0 ∷ []) tt (plain (λ _. u8))) yes, (gave-slice (1 ∷ []) tt (plain (λ _. u32)), (gave-slice (2 ∷ []) tt (plain (λ _. D)), (gave-slice (3 ∷ []) tt (plain (λ _. u32)), (gave-slice (4 ∷ []) tt (plain (λ _. u8)), tt)))))
 
 module _ {M : Type 1} (𝓤 : URA M) (H : Heap 𝓤) (A : Atoms 𝓤) (W : Given 𝓤 H A) (mem : Memory → SProp 𝓤) (run : Routine → Fun 𝓤) (κ₀ κ₁ κ₂ κ₃ κ₄ : Lft) (q₀ q₁ q₂ q₃ q₄ : Share)
-    (text work : RefT (List ℕ)) (log : RefT (List Diagnostic)) (sheet output : RefT (List ℕ)) (never : Never) where
+    (text work : RefT (List ℕ)) (log : RefT (List Diagnostic)) (sheet output : RefT (List ℕ)) where
   abbrev tv : Val
   tv = sliceVal (text .ptr) (length (text .now))
 
@@ -134,7 +133,7 @@ module _ {M : Type 1} (𝓤 : URA M) (H : Heap 𝓤) (A : Atoms 𝓤) (W : Given
         packs ! (seen u8 κ₀ q₀ text tv ∷ lent u32 κ₁ q₁ work wv ∷ lent D κ₂ q₂ log lv ∷ lent u32 (α ∷ []) fullShare (named-as sheet γ) sv ∷ []) $
         asks ! (fmOf 𝓤 H (W .laws) 𝓣) red.ended (red.clauses 𝓤 H A mem run) met
         (((κ₀, (κ₁, (κ₂, ((α ∷ []), tt)))), (q₀, (q₁, (q₂, (fullShare, tt)))), tt, (text, (work, (log, (named-as sheet γ, tt)))), (tv ∷ [], (wv ∷ [], (lv ∷ [], (sv ∷ [], tt))))), tt)
-        (factI 𝓤 _ (emp 𝓤) never)
+        (id⊢ 𝓤 (emp 𝓤))
         (and-then ! (load ! (from ! (stop !)) (look ! 34 refl)) (and-then ! (load ! (from ! (stop !)) (look ! 20 refl)) (and-then ! (load ! (from ! (stop !)) (look ! 16 refl)) (and-then ! (load ! (from ! (stop !)) (look ! 12 refl)) (no-more !)))))
         (λ v c ws. heard ! (Read c (ws .1 .0) (ws .1 .1 .0) (ws .1 .1 .1 .0)) (λ read. peeks ! Aᵀ (Is Aᵀ) (shows 𝓤 H A Aᵀ) c (v ∷ []) (λ is. move ! (1 ∷ []) $ told ! (endsOf (seen u8 κ₀ q₀ text tv ∷ lent u32 κ₁ q₁ work wv ∷ lent D κ₂ q₂ log lv ∷ lent u32 (α ∷ []) fullShare (named-as sheet γ) sv ∷ []) ws) (λ ends. move ! (0 ∷ 2 ∷ []) $
         hands-back ! (seen u8 κ₀ q₀ text tv ∷ lent u32 κ₁ q₁ work wv ∷ lent D κ₂ q₂ log lv ∷ lent u32 (α ∷ []) fullShare (named-as sheet γ) sv ∷ []) ws $
@@ -161,9 +160,9 @@ module _ {M : Type 1} (𝓤 : URA M) (H : Heap 𝓤) (A : Atoms 𝓤) (W : Given
   walks : Walks 𝓤 H A wrt.ended stayed (WpFn 𝓤 H (𝓣 .C) (𝓣 .Λ) code.function) (wrt.clauses 𝓤 H A mem run)
   walks = walked 𝓤 H A wrt.ended stayed (wrt.clauses 𝓤 H A mem run) (WpFn 𝓤 H (𝓣 .C) (𝓣 .Λ) code.function)
       (λ κs. (slice-vals, (slice-vals, (slice-vals, (slice-vals, (slice-vals, tt)))))) (λ κs. (shr-slice-tells (named 0) (κs .0) u8, (mut-slice-tells (named 1) (κs .1 .0) u32, (mut-slice-tells (named 2) (κs .1 .1 .0) D, (mut-slice-tells (named 3) (κs .1 .1 .1 .0) u32, (mut-slice-tells (named 4) (κs .1 .1 .1 .1 .0) u8, tt))))))
-      (λ κs qs bounds a g are. needs 𝓤 Never _ (λ never.
+      (λ κs qs bounds a g are. via 𝓤 _ (fst∗ 𝓤 _ (emp 𝓤)) (
       walk 𝓤 H A W mem run (κs .0) (κs .1 .0) (κs .1 .1 .0) (κs .1 .1 .1 .0) (κs .1 .1 .1 .1 .0) (qs .0) (qs .1 .0) (qs .1 .1 .0) (qs .1 .1 .1 .0) (qs .1 .1 .1 .1 .0)
-      (a .0) (a .1 .0) (a .1 .1 .0) (a .1 .1 .1 .0) (a .1 .1 .1 .1 .0) never 𝓣 met met′ (are .0 .0 .1) (are .1 .0 .0 .1) (are .1 .1 .0 .0 .1) (are .1 .1 .1 .0 .0 .1) (are .1 .1 .1 .1 .0 .0 .1)))
+      (a .0) (a .1 .0) (a .1 .1 .0) (a .1 .1 .1 .0) (a .1 .1 .1 .1 .0) 𝓣 met met′ (are .0 .0 .1) (are .1 .0 .0 .1) (are .1 .1 .0 .0 .1) (are .1 .1 .1 .0 .0 .1) (are .1 .1 .1 .1 .0 .0 .1)))
 
   meets : Meets 𝓤 H A wrt.signature (WpFn 𝓤 H (𝓣 .C) (𝓣 .Λ) code.function) (wrt.spec 𝓤 H A mem run)
   meets =
