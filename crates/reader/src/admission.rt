@@ -25,6 +25,9 @@ pub fn refusal(text: &[u8], work: usize) -> Admission
     if work < 6 * n + 6 {
         return Admission::Refused(Refusal::WorkTooShort);
     }
+    if chars::plain_up_to(text) == n {
+        return Admission::Admitted;
+    }
     let valid = chars::valid_up_to(text);
     if valid < n {
         return Admission::Refused(Refusal::InvalidUtf8(valid));

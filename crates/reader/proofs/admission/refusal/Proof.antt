@@ -1,5 +1,5 @@
--- `reader::admission::refusal` meets its contract: its tests are those of the definition, in their order.
-use Rattle.reader.proofs.Admissions.{too-long, work-too-short, not-utf8, outside, all-inside}
+-- `reader::admission::refusal` meets its contract: a text that is plain to its end is admitted; else its tests are those of the definition, in their order.
+use Rattle.reader.proofs.Admissions.{too-long, work-too-short, all-plain, not-utf8, outside, all-inside}
 use borrow.Author.Needs.{needs}
 use Rattle.reader.proofs.admission.refusal.Statement.{statement}
 use Rattle.reader.proofs.admission.refusal.Tie as tie
@@ -12,6 +12,8 @@ refusal-spec =
     (λ c. search needs)
     (λ c. search needs)
     (λ c. search (needs, work-too-short))
+    (λ c κs. search needs)
+    (λ c. search (needs, all-plain))
     (λ c κs. search needs)
     (λ c. search (needs, not-utf8))
     (λ c κs. search needs)
