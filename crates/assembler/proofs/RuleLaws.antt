@@ -64,6 +64,20 @@ module _ (s : Sets) (t : Token) where
       unfolding counted
       counted-other h = rw (ne-eqb (t .kind) 6 a, ne-eqb (t .kind) 7 b, ← symbol, h)
 
+  pub counted-comma : t .kind ≡ 8 → s ≡ counted s t
+  unfolding counted isSymbol
+  counted-comma h =
+      rw (ne-eqb (t .kind) 6 (λ e. omega arith), ne-eqb (t .kind) 7 (λ e. omega arith), ne-eqb (t .kind) 0 (λ e. omega arith), ne-eqb (t .kind) 1 (λ e. omega arith), ne-eqb (t .kind) 2 (λ e. omega arith), ne-eqb (t .kind) 11 (λ e. omega arith))
+
+  no-brace : (k : ℕ) → 5 < k → k < 8 → isSymbol t ≡ true → t .kind ≡ k → ⊥
+  unfolding isSymbol
+  no-brace k l h e q =
+      let z : false ≡ true = rw (ne-eqb (t .kind) 0 (λ e. omega arith), ne-eqb (t .kind) 1 (λ e. omega arith), ne-eqb (t .kind) 2 (λ e. omega arith), ne-eqb (t .kind) 11 (λ e. omega arith)) at e in
+      let o : _≡_ {A = ℕ} 0 1 = cc in omega arith
+
+  pub counted-symbol : (x : Bool) → x ≡ isSymbol t → x ≡ true → record { product = s .product; size = s .size + 1 } ≡ counted s t
+  counted-symbol x symbol h = counted-member (no-brace 6 (omega arith) (omega arith) (sym symbol ∙ h)) (no-brace 7 (omega arith) (omega arith) (sym symbol ∙ h)) x symbol h
+
   counted-low : s .product ≤ 262145 → counted s t .product ≤ 262145
   unfolding counted
   counted-low h = go (eqb (t .kind) 6) (eqb (t .kind) 7) (isSymbol t)

@@ -59,24 +59,8 @@ fn counted(s: Sets, t: Token) -> Sets
     requires { ⌜ (s .product ≤ 262145) × (s .size < 2 ^ 32) ⌝ }
     ensures { λ r. ⌜ r ≡ counted s t ⌝ }
 {
-    if t.kind == kind::L_BRACE {
-        return Sets {
-            product: s.product,
-            size: 0,
-        };
-    }
-    if t.kind == kind::R_BRACE {
-        let n = s.product * s.size;
-        if n <= MAX_TRANSITIONS {
-            return Sets {
-                product: n,
-                size: s.size,
-            };
-        }
-        return Sets {
-            product: MAX_TRANSITIONS + 1,
-            size: s.size,
-        };
+    if t.kind == kind::COMMA {
+        return s;
     }
     if view::is_symbol(t) {
         return Sets {
@@ -84,7 +68,26 @@ fn counted(s: Sets, t: Token) -> Sets
             size: s.size + 1,
         };
     }
-    s
+    if t.kind == kind::L_BRACE {
+        return Sets {
+            product: s.product,
+            size: 0,
+        };
+    }
+    if t.kind != kind::R_BRACE {
+        return s;
+    }
+    let n = s.product * s.size;
+    if n <= MAX_TRANSITIONS {
+        return Sets {
+            product: n,
+            size: s.size,
+        };
+    }
+    Sets {
+        product: MAX_TRANSITIONS + 1,
+        size: s.size,
+    }
 }
 
 // The product of the sizes of the sets from an index to before another, cut off above the limit.
