@@ -30,7 +30,7 @@ use Rattle.shown.proofs.BodyShown.{header-shown, trailing-shown, rules-shown, l
 use Rattle.infer.specs.States.{firstState}
 use Rattle.inferred.proofs.StatesInferred.{placeFrom, first-state}
 use Rattle.inferred.proofs.OfText.{states-count, symbols-count, places-count}
-use Rattle.infer.specs.Alphabets.{gammaCodes, sigmaWords, gammaWords}
+use Rattle.alphabet.specs.Alphabets.{gammaCodes, sigmaWords, gammaWords}
 use Rattle.machine.specs.declared.Span.{Span}
 use Rattle.machine.specs.declared.Counts.{Counts}
 use Rattle.machine.specs.Head.{spanOf, countsOf}

@@ -23,8 +23,8 @@ use Rattle.assembler.proofs.AssembledLaws.{length-entered}
 use Rattle.shown.proofs.Shows.{Mentions, Said, Shown}
 use Rattle.shown.proofs.TextShown.{text-shown, text-said, no-rule-errors}
 use Rattle.infer.specs.States.{Scratch, stateSection, finalSection}
-use Rattle.infer.specs.Symbols.{blankOf}
-use Rattle.infer.specs.Alphabets.{gammaCodes, sigmaWords, gammaWords}
+use Rattle.alphabet.specs.Symbols.{blankOf}
+use Rattle.alphabet.specs.Alphabets.{gammaCodes, sigmaWords, gammaWords}
 use Rattle.inferred.proofs.OfText.{scratch-of-text, states-of-text, finals-of-text, sigma-of-text, gamma-of-text, blank-of-text}
 use Rattle.answered.specs.Ready.{linesOf, Ready}
 

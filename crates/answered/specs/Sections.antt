@@ -6,7 +6,7 @@ use Rattle.tokens.specs.declared.Token.{Token}
 use Rattle.language.specs.Layout.{flat}
 use Rattle.sheet.specs.Comments.{textWords, header, trailing}
 use Rattle.infer.specs.States.{stateSection, finalSection}
-use Rattle.infer.specs.Alphabets.{gammaCodes, sigmaWords, gammaWords}
+use Rattle.alphabet.specs.Alphabets.{gammaCodes, sigmaWords, gammaWords}
 
 -- the words of each
 pub record Sections : Type 0 where

@@ -1,10 +1,4 @@
 pub mod Pages
 pub mod NameLaws
 pub mod SectionLaws
-pub mod CodeLaws
-pub mod GlyphLaws
-pub mod InputLaws
-pub mod AlphabetLaws
-pub mod CodesMean
-pub mod InputMean
 pub mod Widths

@@ -1,6 +1,2 @@
 pub mod Page
 pub mod States
-pub mod Codes
-pub mod Symbols
-pub mod Input
-pub mod Alphabets

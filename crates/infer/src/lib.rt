@@ -1,14 +1,10 @@
-// Inference (the source's spec.rs, `infer`): states and symbols from the tokens in a row of words whose lines have entries.
+// Inference of states (the source's spec.rs, `infer`) from the tokens in a row of words whose lines have entries.
 ghost use mathlib.Core.Path.{_≡_};
 ghost use Prim.Native.Nat.{_<_, _^_};
 
-pub mod codes;
 pub mod finals;
-pub mod glyphs;
-pub mod input;
 pub mod put;
 pub mod states;
-pub mod symbols;
 
 // A word as an index.
 pub(crate) fn index(x: u32) -> usize

@@ -28,11 +28,11 @@ use Rattle.assembler.specs.Entries.{Entry, entries}
 use Rattle.assembler.proofs.Means.{AllMean}
 use Rattle.sheet.specs.Comments.{spanWords}
 use Rattle.sheet.specs.Rules.{resolve}
-use Rattle.infer.specs.Symbols.{range, blankOf, symbols, lineRange, symbolsIn, isBlank, hasBlank, rulesSymbols, codesOf}
-use Rattle.infer.specs.Codes.{notedAll}
-use Rattle.infer.specs.Input.{inputOf}
-use Rattle.infer.specs.Alphabets.{listedWords, inferredWords, otherWords, lineCodes, candidates, gammaCodes, declaredGamma, gammaWords, inferredSigma, sigmaWords}
-use Rattle.infer.proofs.CodesMean.{codes-mean, less-mean}
+use Rattle.alphabet.specs.Symbols.{range, blankOf, symbols, lineRange, symbolsIn, isBlank, hasBlank, rulesSymbols, codesOf}
+use Rattle.alphabet.specs.Codes.{notedAll}
+use Rattle.alphabet.specs.Input.{inputOf}
+use Rattle.alphabet.specs.Alphabets.{listedWords, inferredWords, otherWords, lineCodes, candidates, gammaCodes, declaredGamma, gammaWords, inferredSigma, sigmaWords}
+use Rattle.alphabet.proofs.CodesMean.{codes-mean, less-mean}
 use Rattle.shown.proofs.Shows.{SymbolShows, SymbolsShow, no-symbols, no-symbol, one-symbol, Mentions}
 use Rattle.inferred.proofs.Firsts.{At, nowhere, there, firsts, sigma-at, gamma-at, blank-at}
 use Rattle.inferred.proofs.RuleLines.{RulesAt, rules-at}

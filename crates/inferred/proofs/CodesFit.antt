@@ -20,12 +20,12 @@ use Rattle.language.proofs.Every.{Every, or-left, or-right, or-else}
 use Rattle.assembler.specs.Entries.{Entry, entries}
 use Rattle.assembler.specs.Rows.{rows}
 use Rattle.sheet.specs.Rules.{resolve}
-use Rattle.infer.specs.declared.glyphs.Walk.{Walk}
-use Rattle.infer.specs.Codes.{noted, notedAll, held, Room}
-use Rattle.infer.specs.Symbols.{range, symbols, lineRange, symbolsIn, takes, walked, firsts, outside, others, further, ruleSymbols, rulesSymbols, codesOf}
-use Rattle.infer.specs.Input.{endsAt, escapeCode, escapeOf, spelledAs, escapesNext, spelled, inputOf}
-use Rattle.infer.proofs.CodesMean.{noted-there, noted-new}
-use Rattle.infer.specs.Alphabets.{lineCodes, candidates}
+use Rattle.alphabet.specs.declared.glyphs.Walk.{Walk}
+use Rattle.alphabet.specs.Codes.{noted, notedAll, held, Room}
+use Rattle.alphabet.specs.Symbols.{range, symbols, lineRange, symbolsIn, takes, walked, firsts, outside, others, further, ruleSymbols, rulesSymbols, codesOf}
+use Rattle.alphabet.specs.Input.{endsAt, escapeCode, escapeOf, spelledAs, escapesNext, spelled, inputOf}
+use Rattle.alphabet.proofs.CodesMean.{noted-there, noted-new}
+use Rattle.alphabet.specs.Alphabets.{lineCodes, candidates}
 
 -- ---- codes from a list, each once, are no more than the list is long
 -- a list without one entry x

@@ -30,8 +30,8 @@ use Rattle.language.specs.Assembly as A
 use Rattle.language.specs.Infer as I
 use Rattle.language.proofs.Every.{Every, Maybe}
 use Rattle.language.proofs.ParseHolds.{Any, any-maybe, Goods, GoodEnding, GoodItem, GoodLine, lines-good}
-use Rattle.infer.specs.Input.{spelled, inputOf}
-use Rattle.infer.proofs.InputMean.{valueOf, Ends, spell-mean}
+use Rattle.alphabet.specs.Input.{spelled, inputOf}
+use Rattle.alphabet.proofs.InputMean.{valueOf, Ends, spell-mean}
 use Rattle.shown.proofs.Shows.{TextShows}
 use Rattle.inferred.proofs.Firsts.{At, nowhere, there}
 

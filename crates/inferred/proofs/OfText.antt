@@ -26,9 +26,9 @@ use Rattle.assembler.proofs.Rows.{length-rows}
 use Rattle.assembler.proofs.Means.{AllMean}
 use Rattle.assembler.proofs.MarkLaws.{first-low}
 use Rattle.infer.specs.States.{Scratch, stateSection, finalSection}
-use Rattle.infer.specs.Codes.{Room}
-use Rattle.infer.specs.Symbols.{blankOf}
-use Rattle.infer.specs.Alphabets.{candidates, gammaCodes, gammaWords, sigmaWords}
+use Rattle.alphabet.specs.Codes.{Room}
+use Rattle.alphabet.specs.Symbols.{blankOf}
+use Rattle.alphabet.specs.Alphabets.{candidates, gammaCodes, gammaWords, sigmaWords}
 use Rattle.shown.proofs.Shows.{Mentions}
 use Rattle.inferred.proofs.NameMarks.{state-word}
 use Rattle.inferred.proofs.Firsts.{firsts, input-at}

@@ -24,9 +24,9 @@ use Rattle.language.proofs.FirstUse as U
 use Rattle.language.proofs.LineUses.{lineUses, linesUse}
 use Rattle.assembler.specs.Entries.{Entry}
 use Rattle.sheet.specs.Rules.{resolve}
-use Rattle.infer.specs.declared.glyphs.Walk.{Walk}
-use Rattle.infer.specs.Symbols.{range, symbols, takes, walked, firsts, others, further, outside, ruleSymbols, rulesSymbols, codesOf}
-use Rattle.infer.proofs.CodesMean.{fresh-there, fresh-new}
+use Rattle.alphabet.specs.declared.glyphs.Walk.{Walk}
+use Rattle.alphabet.specs.Symbols.{range, symbols, takes, walked, firsts, others, further, outside, ruleSymbols, rulesSymbols, codesOf}
+use Rattle.alphabet.proofs.CodesMean.{fresh-there, fresh-new}
 use Rattle.shown.proofs.Shows.{SymbolShows, SymbolsShow, WritesShow, no-writes, no-write, write-back, one-write, ReadsShow, no-reads, no-read, opens, closes, alone, member, MentionsShow}
 use Rattle.inferred.proofs.RuleLines.{RulesAt, no-rules, no-rule, one-rule}
 

@@ -13,13 +13,14 @@ use Rattle.sheet.specs.Comments.{textWords, header, trailing}
 use Rattle.sheet.proofs.Writes.{stored-append, stored-length}
 use Rattle.infer.specs.Page.{Kept}
 use Rattle.infer.specs.States.{Scratch, stateSection, finalSection}
-use Rattle.infer.specs.Codes.{noted, notedAll, held, Codes, Room}
-use Rattle.infer.specs.Alphabets.{candidates, gammaCodes, sigmaWords, gammaWords}
+use Rattle.alphabet.specs.Codes.{noted, notedAll, held, Codes, Room}
+use Rattle.alphabet.specs.Alphabets.{candidates, gammaCodes, sigmaWords, gammaWords}
 use Rattle.infer.proofs.Pages.{kept-rows}
 use Rattle.inferred.proofs.CodesFit.{codes-fit}
 use Rattle.answered.specs.Ready.{Ready}
 use Rattle.answered.specs.Sections.{Sections, sectionsOf, joined}
-use Rattle.infer.proofs.Widths.{states-width, finals-width, sigma-width, gamma-width}
+use Rattle.infer.proofs.Widths.{states-width, finals-width}
+use Rattle.alphabet.proofs.SymbolWidths.{sigma-width, gamma-width}
 use Rattle.answered.proofs.Ties.{few, row-size, scratch, ties}
 use Rattle.answered.proofs.Sheets as T
 use Rattle.reader.specs.Sheet.{endsOf, Written}

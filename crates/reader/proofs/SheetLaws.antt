@@ -21,14 +21,15 @@ use Rattle.sheet.specs.Comments.{header, trailing}
 use Rattle.sheet.specs.Rules.{rules, ruleLengths}
 use Rattle.sheet.proofs.Writes.{sets-append, stored-length}
 use Rattle.infer.specs.States.{firstState}
-use Rattle.infer.specs.Alphabets.{gammaCodes}
+use Rattle.alphabet.specs.Alphabets.{gammaCodes}
 use Rattle.machine.specs.declared.Counts.{Counts}
 use Rattle.machine.specs.declared.Head.{Head}
 use Rattle.head.specs.Meaning.{countsIn, headIn}
 use Rattle.head.specs.Heads.{blankAt, headAt}
 use Rattle.answered.specs.Ready.{linesOf, Ready}
 use Rattle.answered.specs.Sections.{Sections, sectionsOf, joined}
-use Rattle.infer.proofs.Widths.{states-width, finals-width, sigma-width, gamma-width}
+use Rattle.infer.proofs.Widths.{states-width, finals-width}
+use Rattle.alphabet.proofs.SymbolWidths.{sigma-width, gamma-width}
 use Rattle.answered.proofs.Ties.{few, row-size, ties}
 use Rattle.answered.proofs.Sheets as T
 use Rattle.reader.specs.declared.sections.Ends.{Ends}

@@ -5,10 +5,10 @@ ghost use Rattle.assembler.specs.Rows.{rows};
 ghost use Rattle.answered.specs.Ready.{Ready};
 ghost use Rattle.answered.specs.Sections.{sectionsOf};
 ghost use Rattle.reader.specs.Sheet.{Written};
+use alphabet::symbols;
 use assembler::entry;
 use infer::finals;
 use infer::states;
-use infer::symbols;
 use sheet::comments;
 
 // Where each of the sections ends.
@@ -40,13 +40,15 @@ pub fn sections(
     let g = symbols::gamma(work, count, 4 * size, n, first, blank, sheet, s);
     let f = finals::section(work, count, entry::wide(first[10]), sheet, g);
     let h = comments::header(work, count, sheet, f);
-    let t = comments::trailing(work, count, sheet, h);
+    let end = h.end;
+    let left = h.left;
+    let t = comments::trailing(work, count, left, sheet, end);
     Ends {
         states: q,
         sigma: s,
         gamma: g,
         finals: f,
-        header: h,
+        header: end,
         trailing: t,
     }
 }

@@ -136,10 +136,16 @@ fn header_of(work: &[u32], count: usize, p: Pending, t: Token, out: &mut [u32], 
     at
 }
 
+// Where the header comments end, and what is pending behind all lines.
+pub struct Headed {
+    pub end: usize,
+    pub left: Pending,
+}
+
 // The header comments of a row.
-pub fn header(work: &[u32], count: usize, out: &mut [u32], at: usize) -> usize
+pub fn header(work: &[u32], count: usize, out: &mut [u32], at: usize) -> Headed
     requires { ⌜ (4 * count ≤ length (now work)) × (at + length (flat textWords (header (rows count (now work)))) < 2 ^ 64) ⌝ }
-    ensures { λ r. ⌜ Stored (flat textWords (header (rows count (now (work .entry))))) (now (out .entry)) at (now (out .exit)) r ⌝ }
+    ensures { λ r. ⌜ (Stored (flat textWords (header (rows count (now (work .entry))))) (now (out .entry)) at (now (out .exit)) (r .end)) × (r .left ≡ passedAll nothing (entries (rows count (now (work .entry))))) ⌝ }
 {
     let mut p = NOTHING;
     let mut n = at;
@@ -151,32 +157,17 @@ pub fn header(work: &[u32], count: usize, out: &mut [u32], at: usize) -> usize
         i = entry::next_line(t, i);
     }
     if p.seen {
-        return n;
+        return Headed { end: n, left: p };
     }
-    comments(work, count, p.from, count, out, n)
+    let end = comments(work, count, p.from, count, out, n);
+    Headed { end, left: p }
 }
 
-// What is pending behind all lines.
-fn left_pending(work: &[u32], count: usize) -> Pending
-    requires { ⌜ 4 * count ≤ length (now work) ⌝ }
-    ensures { λ r. ⌜ r ≡ passedAll nothing (entries (rows count (now (work .entry)))) ⌝ }
-{
-    let mut p = NOTHING;
-    let mut i = 0;
-    while i < count {
-        let t = entry::token_at(work, count, i);
-        p = passed(p, t, i);
-        i = entry::next_line(t, i);
-    }
-    p
-}
-
-// The trailing comments of a row.
-pub fn trailing(work: &[u32], count: usize, out: &mut [u32], at: usize) -> usize
-    requires { ⌜ (4 * count ≤ length (now work)) × (at + length (flat textWords (trailing (rows count (now work)))) < 2 ^ 64) ⌝ }
+// The trailing comments of a row behind whose lines p is pending.
+pub fn trailing(work: &[u32], count: usize, p: Pending, out: &mut [u32], at: usize) -> usize
+    requires { ⌜ (4 * count ≤ length (now work)) × (at + length (flat textWords (trailing (rows count (now work)))) < 2 ^ 64) × (p ≡ passedAll nothing (entries (rows count (now work)))) ⌝ }
     ensures { λ r. ⌜ Stored (flat textWords (trailing (rows count (now (work .entry))))) (now (out .entry)) at (now (out .exit)) r ⌝ }
 {
-    let p = left_pending(work, count);
     if p.seen {
         return comments(work, count, p.from, count, out, at);
     }

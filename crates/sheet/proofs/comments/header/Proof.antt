@@ -1,18 +1,24 @@
--- `sheet::comments::header` meets its contract: the invariant: what the lines from here on put into the header, stored behind what is there, is all of it.
+-- `sheet::comments::header` meets its contract: the invariant: what the lines from here on put into the header, stored behind what is there, is all of it, and they leave pending what all lines do.
 use borrow.Author.Needs.{needs}
+use mathlib.Core.Path.{_≡_}
 use Prim.Native.Nat.{_-_}
+use Rattle.assembler.specs.Rows.{rows}
+use Rattle.assembler.specs.Entries.{entries}
+use Rattle.assembler.proofs.Rows.{entriesAt}
+use Rattle.sheet.specs.Comments.{nothing, passedAll}
 use Rattle.sheet.proofs.Writes.{writing-same}
-use Rattle.sheet.proofs.CommentLaws.{Heading, heading-start, heading-room, heading-on, heading-seen, heading-rest, heading-last, heading-length}
+use Rattle.sheet.proofs.CommentLaws.{Heading, heading-start, heading-room, heading-on, heading-seen, heading-rest, heading-last, heading-length, pending-start, pending-on, pending-end}
 use Rattle.sheet.proofs.comments.header.Statement.{statement}
 use Rattle.sheet.proofs.comments.header.Tie as tie
 
 abbrev Inv-loop : tie.InvT-loop
-Inv-loop work count out₀ at p₀ n₀ i₀ out p n i = Heading count work out₀ at out n p i
+Inv-loop work count out₀ at p₀ n₀ i₀ out p n i =
+    Heading count work out₀ at out n p i × (passedAll p (entriesAt (rows count work) i) ≡ passedAll nothing (entries (rows count work)))
 
 abbrev μ-loop : tie.MeasureT-loop
 μ-loop work count out₀ at p₀ n₀ i₀ out p n i = count - i
 
-ruleset laws = (needs, writing-same, heading-start, heading-room, heading-on, heading-seen, heading-rest, heading-last, heading-length)
+ruleset laws = (needs, writing-same, heading-start, heading-room, heading-on, heading-seen, heading-rest, heading-last, heading-length, pending-start, pending-on, pending-end)
 
 pub header-spec : {M : Type 1} → statement M
 header-spec =

@@ -11,7 +11,6 @@ trailing-spec =
     tie.close
     (tie.spec
     (λ c κs. search laws)
-    (λ c κs. search laws)
     (λ c. search laws)
     (λ c. search laws)
     (λ c. search laws))

@@ -1,0 +1,470 @@
+-- Laws of the characters that rules use.
+use mathlib.Core.Path.{_≡_, refl, sym, ap, subst, _∙_}
+use mathlib.Core.Bool.{Bool, true, false, cond}
+use mathlib.Core.List.{List, [], _∷_, _++_, map, append-nil, append-assoc}
+use Prim.Native.Nat.{ℕ, zero, suc, _+_, _-_, _*_, _≤_, _<_}
+use native.Mathlib.Omega.{arith}
+use native.Mathlib.Numerals.{add-one}
+use native.Mathlib.Decide.{decLt}
+use borrow.Author.Tests.{eq-eqb, ne-eqb}
+use lib.Dec.{eqb}
+use lib.ListN.{length, getD, take, drop, drop-of-length-le, List·getD-eq-default}
+use lib.Seq.{drop-cons, take-nil}
+use Rattle.tokens.specs.declared.Token.{Token}
+use Rattle.parser.specs.Views.{isSymbol}
+use Rattle.alphabet.specs.declared.glyphs.Walk.{Walk}
+use Rattle.parser.specs.Row.{peek, ended}
+use Rattle.language.proofs.Facts.{map-append}
+use Rattle.assembler.specs.Rows.{rows}
+use Rattle.assembler.specs.Entries.{Entry, entryAt, behind, entries}
+use Rattle.assembler.proofs.Rows.{length-rows, entriesAt, entries-step, entries-end}
+use Rattle.sheet.specs.Rules.{resolve}
+use Rattle.alphabet.specs.Codes.{noted, notedAll, held, Codes, Room}
+use Rattle.alphabet.specs.Symbols.{range, symbols, takes, walked, firsts, outside, others, further, ruleSymbols, rulesSymbols, codesOf}
+use Rattle.alphabet.proofs.CodeLaws.{Noting, noting-start, noting-room, noting-on, noting-end, noting-rows, noted-none}
+
+-- ---- a walk over read sets
+module _ (s : Walk) (t : Token) where
+  pub takes-skipped : s .skip ≡ true → false ≡ takes s t
+  unfolding takes
+  takes-skipped e = rw e
+
+  pub takes-symbol : (r : Bool) → s .skip ≡ false → r ≡ isSymbol t → r ≡ takes s t
+  unfolding takes
+  takes-symbol r e f = rw e f
+
+  pub walked-opened : t .kind ≡ 6 → record { inside = true; skip = false } ≡ walked s t
+  unfolding walked
+  walked-opened h = rw (eq-eqb (t .kind) 6 h)
+
+  pub walked-closed : (t .kind ≡ 6 → ⊥) → t .kind ≡ 7 → record { inside = false; skip = false } ≡ walked s t
+  unfolding walked
+  walked-closed g h = rw (ne-eqb (t .kind) 6 g, eq-eqb (t .kind) 7 h)
+
+  module _ (g : t .kind ≡ 6 → ⊥) (h : t .kind ≡ 7 → ⊥) (b : Bool) (test : b ≡ isSymbol t) where
+    pub walked-symbol : b ≡ true → record { inside = s .inside; skip = s .inside } ≡ walked s t
+    unfolding walked
+    walked-symbol e = rw (ne-eqb (t .kind) 6 g, ne-eqb (t .kind) 7 h, ← test, e)
+
+    pub walked-other : b ≡ false → s ≡ walked s t
+    unfolding walked
+    walked-other e = rw (ne-eqb (t .kind) 6 g, ne-eqb (t .kind) 7 h, ← test, e)
+
+-- ---- one token
+symbols-one : (t : Token) → isSymbol t ≡ true → symbols (t ∷ []) ≡ t ∷ []
+unfolding symbols
+symbols-one t e = rw (e, symbols)
+
+symbols-no : (t : Token) → isSymbol t ≡ false → symbols (t ∷ []) ≡ []
+unfolding symbols
+symbols-no t e = rw (e, symbols)
+
+pub met-seen : (seen : Bool) (t : Token) → seen ≡ true → true ≡ cond seen true (isSymbol t)
+met-seen seen t e = rw e
+
+pub met-now : (seen : Bool) (t : Token) (r : Bool) → seen ≡ false → r ≡ isSymbol t → r ≡ cond seen true (isSymbol t)
+met-now seen t r e f = rw e f
+
+module _ (b n blank : ℕ) (w : List ℕ) (t : Token) (ts : List Token) (is : ts ≡ t ∷ []) where
+  pub one-room : (c : ℕ) → c ≡ resolve blank t → Room b n w (codesOf blank ts) → Room b n w (c ∷ [])
+  one-room c e h = subst (λ (l : List ℕ). Room b n w l) (ap (codesOf blank) is ∙ ap (λ (c : ℕ). c ∷ []) (sym e)) h
+
+  pub one-noted : (c : ℕ) (w′ : List ℕ) (r : ℕ) → c ≡ resolve blank t → Codes b w (noted (held b n w) c) w′ r → Codes b w (notedAll (held b n w) (codesOf blank ts)) w′ r
+  unfolding notedAll
+  one-noted c w′ r e h = subst (λ (l : List ℕ). Codes b w (notedAll (held b n w) l) w′ r) (ap (λ (c : ℕ). c ∷ []) e ∙ sym (ap (codesOf blank) is)) h
+
+pub none-noted : (b n blank : ℕ) (w : List ℕ) (ts : List Token) → ts ≡ [] → Room b n w (codesOf blank ts) → Codes b w (notedAll (held b n w) (codesOf blank ts)) w n
+none-noted b n blank w ts e h = subst (λ (l : List Token). Codes b w (notedAll (held b n w) (codesOf blank l)) w n) (sym e) (noted-none b w n (h .low))
+
+pub is-symbol : (t : Token) (r : Bool) → r ≡ isSymbol t → r ≡ true → symbols (t ∷ []) ≡ t ∷ []
+is-symbol t r e f = symbols-one t (sym e ∙ f)
+
+pub no-symbol : (t : Token) (r : Bool) → r ≡ isSymbol t → r ≡ false → symbols (t ∷ []) ≡ []
+no-symbol t r e f = symbols-no t (sym e ∙ f)
+
+pub is-first : (s : Walk) (t : Token) (r : Bool) → r ≡ takes s t → r ≡ true → cond (takes s t) (t ∷ []) [] ≡ t ∷ []
+is-first s t r e f = rw (sym e ∙ f)
+
+pub no-first : (s : Walk) (t : Token) (r : Bool) → r ≡ takes s t → r ≡ false → cond (takes s t) (t ∷ []) [] ≡ []
+no-first s t r e f = rw (sym e ∙ f)
+
+-- ---- ranges of tokens
+pub range-none : (ts : List Token) (i j : ℕ) → j ≤ i → range ts i j ≡ []
+range-none ts i j h = let e : j - i ≡ 0 = omega arith in rw e
+
+pub range-past : (ts : List Token) (i j : ℕ) → length ts ≤ i → range ts i j ≡ []
+range-past ts i j h = rw (drop-of-length-le ts {i = i} h, take-nil {A = Token} (j - i))
+
+pub range-in : (ts : List Token) (i j : ℕ) → i < j → i < length ts → range ts i j ≡ peek ts i ∷ range ts (i + 1) j
+range-in ts i j h g =
+    let e : j - i ≡ suc (j - (i + 1)) = omega arith in
+    ap (take (j - i)) (drop-cons ts i ended g ∙ ap (λ (k : ℕ). peek ts i ∷ drop k ts) (sym (add-one i))) ∙ ap (λ (k : ℕ). take k (peek ts i ∷ drop (i + 1) ts)) e
+
+-- what is made of the tokens of a range, one by one; past the last there is a line feed, of which nothing is made
+module _ (f : List Token → List Token) (g : Token → List Token) (next : List Token → List Token) (nothing : f [] ≡ []) (none : next [] ≡ []) (feed : g ended ≡ []) (step : (t : Token) (ts : List Token) → f (t ∷ ts) ≡ g t ++ next ts) where
+  range-on : (ts : List Token) (i j : ℕ) → i < j → f (range ts i j) ≡ g (peek ts i) ++ next (range ts (i + 1) j)
+  range-on ts i j h = go (decLt i (length ts))
+    where
+      go : Dec (i < length ts) → f (range ts i j) ≡ g (peek ts i) ++ next (range ts (i + 1) j)
+      go (yes q) = ap f (range-in ts i j h q) ∙ step (peek ts i) (range ts (i + 1) j)
+      go (no q) =
+          let past : peek ts i ≡ ended = List·getD-eq-default ts ended {n = i} (omega arith) in
+          ap f (range-past ts i j (omega arith)) ∙ nothing
+          ∙ sym (ap (λ (t : Token). g t ++ next (range ts (i + 1) j)) past ∙ ap (λ (l : List Token). l ++ next (range ts (i + 1) j)) feed ∙ ap next (range-past ts (i + 1) j (omega arith)) ∙ none)
+
+pub symbols-on : (ts : List Token) (i j : ℕ) → i < j → symbols (range ts i j) ≡ symbols (peek ts i ∷ []) ++ symbols (range ts (i + 1) j)
+unfolding symbols
+symbols-on ts i j h = range-on symbols (λ t. symbols (t ∷ [])) symbols refl refl refl (λ t l. go (isSymbol t) t (symbols l)) ts i j h
+  where
+    go : (b : Bool) (t : Token) (l : List Token) → cond b (t ∷ []) [] ++ l ≡ (cond b (t ∷ []) [] ++ []) ++ l
+    go true t l = refl
+    go false t l = refl
+
+firsts-on : (s : Walk) (ts : List Token) (i j : ℕ) → i < j → firsts s (range ts i j) ≡ cond (takes s (peek ts i)) (peek ts i ∷ []) [] ++ firsts (walked s (peek ts i)) (range ts (i + 1) j)
+unfolding firsts takes walked
+firsts-on s ts i j h = go (decLt i (length ts))
+  where
+    none : (b : Bool) → cond (cond b false false) (ended ∷ []) [] ≡ []
+    none true = refl
+    none false = refl
+
+    go : Dec (i < length ts) → firsts s (range ts i j) ≡ cond (takes s (peek ts i)) (peek ts i ∷ []) [] ++ firsts (walked s (peek ts i)) (range ts (i + 1) j)
+    go (yes q) = ap (firsts s) (range-in ts i j h q)
+    go (no q) =
+        let past : peek ts i ≡ ended = List·getD-eq-default ts ended {n = i} (omega arith) in
+        ap (firsts s) (range-past ts i j (omega arith))
+        ∙ sym (ap (λ (t : Token). cond (takes s t) (t ∷ []) [] ++ firsts (walked s t) (range ts (i + 1) j)) past
+        ∙ ap (λ (l : List Token). cond (takes s ended) (ended ∷ []) [] ++ firsts (walked s ended) l) (range-past ts (i + 1) j (omega arith)) ∙ ap (λ (l : List Token). l ++ []) (none (s .skip)))
+
+codes-append : (blank : ℕ) (xs ys : List Token) → codesOf blank (xs ++ ys) ≡ codesOf blank xs ++ codesOf blank ys
+codes-append blank xs ys = map-append (resolve blank) xs ys
+
+-- ---- the walks have come to the index i
+module _ (b count blank : ℕ) (target w₀ w : List ℕ) (n i to : ℕ) (few : 4 * count ≤ b) where
+  module _ (g : Noting b target w₀ w n (codesOf blank (symbols (range (rows count w₀) i to)))) where
+    pub range-end : to ≤ i → Codes b w₀ target w n
+    unfolding symbols
+    range-end h = noting-end b target w₀ w n (subst (λ (l : List Token). Noting b target w₀ w n (codesOf blank (symbols l))) (range-none (rows count w₀) i to h) g)
+
+    module _ (t : Token) (low : i < to) (at : t ≡ peek (rows count w) i) where
+      at₀ : peek (rows count w₀) i ≡ t
+      at₀ = sym (at ∙ ap (λ (ts : List Token). peek ts i) (noting-rows b count target w₀ w n (codesOf blank (symbols (range (rows count w₀) i to))) g few))
+
+      split : Noting b target w₀ w n (codesOf blank (symbols (t ∷ [])) ++ codesOf blank (symbols (range (rows count w₀) (i + 1) to)))
+      split = subst (λ (l : List ℕ). Noting b target w₀ w n l)
+          (ap (codesOf blank) (symbols-on (rows count w₀) i to low ∙ ap (λ (t : Token). symbols (t ∷ []) ++ symbols (range (rows count w₀) (i + 1) to)) at₀)
+          ∙ codes-append blank (symbols (t ∷ [])) (symbols (range (rows count w₀) (i + 1) to))) g
+
+      pub range-room : Room b n w (codesOf blank (symbols (t ∷ [])))
+      range-room = noting-room b target w₀ w n (codesOf blank (symbols (t ∷ []))) (codesOf blank (symbols (range (rows count w₀) (i + 1) to))) split
+
+      pub range-next : (w′ : List ℕ) (n′ : ℕ) → Codes b w (notedAll (held b n w) (codesOf blank (symbols (t ∷ [])))) w′ n′ → Noting b target w₀ w′ n′ (codesOf blank (symbols (range (rows count w₀) (i + 1) to)))
+      range-next w′ n′ c = noting-on b target w₀ w n (codesOf blank (symbols (t ∷ []))) (codesOf blank (symbols (range (rows count w₀) (i + 1) to))) w′ n′ split c
+
+  module _ (s : Walk) where
+    module _ (g : Noting b target w₀ w n (codesOf blank (firsts s (range (rows count w₀) i to)))) where
+      pub first-end : to ≤ i → Codes b w₀ target w n
+      unfolding firsts
+      first-end h = noting-end b target w₀ w n (subst (λ (l : List Token). Noting b target w₀ w n (codesOf blank (firsts s l))) (range-none (rows count w₀) i to h) g)
+
+      module _ (t : Token) (low : i < to) (at : t ≡ peek (rows count w) i) where
+        first-at₀ : peek (rows count w₀) i ≡ t
+        first-at₀ = sym (at ∙ ap (λ (ts : List Token). peek ts i) (noting-rows b count target w₀ w n (codesOf blank (firsts s (range (rows count w₀) i to))) g few))
+
+        abbrev here : List Token
+        here = cond (takes s t) (t ∷ []) []
+
+        abbrev later : List Token
+        later = firsts (walked s t) (range (rows count w₀) (i + 1) to)
+
+        first-split : Noting b target w₀ w n (codesOf blank here ++ codesOf blank later)
+        first-split = subst (λ (l : List ℕ). Noting b target w₀ w n l)
+            (ap (codesOf blank) (firsts-on s (rows count w₀) i to low ∙ ap (λ (t : Token). cond (takes s t) (t ∷ []) [] ++ firsts (walked s t) (range (rows count w₀) (i + 1) to)) first-at₀)
+            ∙ codes-append blank here later) g
+
+        pub first-room : Room b n w (codesOf blank (cond (takes s t) (t ∷ []) []))
+        first-room = noting-room b target w₀ w n (codesOf blank here) (codesOf blank later) first-split
+
+        pub first-next : (w′ : List ℕ) (n′ : ℕ) (s′ : Walk) → Codes b w (notedAll (held b n w) (codesOf blank (cond (takes s t) (t ∷ []) []))) w′ n′ → s′ ≡ walked s t
+            → Noting b target w₀ w′ n′ (codesOf blank (firsts s′ (range (rows count w₀) (i + 1) to)))
+        first-next w′ n′ s′ c e = subst (λ (s : Walk). Noting b target w₀ w′ n′ (codesOf blank (firsts s (range (rows count w₀) (i + 1) to)))) (sym e)
+            (noting-on b target w₀ w n (codesOf blank here) (codesOf blank later) w′ n′ first-split c)
+
+-- ---- further members
+pub other-room : (b n blank : ℕ) (w : List ℕ) (seen : Bool) (l : List Token) → seen ≡ true → Room b n w (codesOf blank (cond seen l [])) → Room b n w (codesOf blank l)
+other-room b n blank w seen l e h = subst (λ (s : Bool). Room b n w (codesOf blank (cond s l []))) e h
+
+module _ (b n blank : ℕ) (w : List ℕ) (seen : Bool) (l : List Token) (w′ : List ℕ) (r : ℕ) where
+  pub other-noted : seen ≡ true → Codes b w (notedAll (held b n w) (codesOf blank l)) w′ r → Codes b w (notedAll (held b n w) (codesOf blank (cond seen l []))) w′ r
+  other-noted e c = rw e c
+
+pub other-none : (b n blank : ℕ) (w : List ℕ) (seen : Bool) (l : List Token) → seen ≡ false → Room b n w (codesOf blank (cond seen l [])) → Codes b w (notedAll (held b n w) (codesOf blank (cond seen l []))) w n
+other-none b n blank w seen l e h = none-noted b n blank w (cond seen l []) (rw e) h
+
+others-stop : (seen : Bool) (ts : List Token) (i j : ℕ) → i < j → peek ts i .kind ≡ 7 → others seen (range ts i j) ≡ []
+unfolding others
+others-stop seen ts i j h e = go (decLt i (length ts))
+  where
+    go : Dec (i < length ts) → others seen (range ts i j) ≡ []
+    go (yes q) = ap (others seen) (range-in ts i j h q) ∙ rw (eq-eqb (peek ts i .kind) 7 e, others)
+    go (no q) = ap (others seen) (range-past ts i j (omega arith))
+
+others-on : (seen : Bool) (ts : List Token) (i j : ℕ) → i < j → (peek ts i .kind ≡ 7 → ⊥)
+    → others seen (range ts i j) ≡ cond seen (symbols (peek ts i ∷ [])) [] ++ others (cond seen true (isSymbol (peek ts i))) (range ts (i + 1) j)
+unfolding others
+others-on seen ts i j h e = go (decLt i (length ts))
+  where
+    none : (b : Bool) → cond b (symbols (ended ∷ [])) [] ≡ []
+    none true = symbols-no ended refl
+    none false = refl
+
+    go : Dec (i < length ts) → others seen (range ts i j) ≡ cond seen (symbols (peek ts i ∷ [])) [] ++ others (cond seen true (isSymbol (peek ts i))) (range ts (i + 1) j)
+    go (yes q) = ap (others seen) (range-in ts i j h q) ∙ rw (ne-eqb (peek ts i .kind) 7 e, others)
+    go (no q) =
+        let past : peek ts i ≡ ended = List·getD-eq-default ts ended {n = i} (omega arith) in
+        ap (others seen) (range-past ts i j (omega arith))
+        ∙ sym (ap (λ (t : Token). cond seen (symbols (t ∷ [])) [] ++ others (cond seen true (isSymbol t)) (range ts (i + 1) j)) past
+        ∙ ap (λ (l : List Token). cond seen (symbols (ended ∷ [])) [] ++ others (cond seen true (isSymbol ended)) l) (range-past ts (i + 1) j (omega arith)) ∙ ap (λ (l : List Token). l ++ []) (none seen))
+
+module _ (b count blank : ℕ) (target w₀ w : List ℕ) (n i to : ℕ) (few : 4 * count ≤ b) (seen : Bool) (g : Noting b target w₀ w n (codesOf blank (others seen (range (rows count w₀) i to)))) where
+  pub others-end : to ≤ i → Codes b w₀ target w n
+  unfolding others
+  others-end h = noting-end b target w₀ w n (subst (λ (l : List Token). Noting b target w₀ w n (codesOf blank (others seen l))) (range-none (rows count w₀) i to h) g)
+
+  module _ (t : Token) (low : i < to) (at : t ≡ peek (rows count w) i) where
+    others-at : peek (rows count w₀) i ≡ t
+    others-at = sym (at ∙ ap (λ (ts : List Token). peek ts i) (noting-rows b count target w₀ w n (codesOf blank (others seen (range (rows count w₀) i to))) g few))
+
+    pub others-closed : t .kind ≡ 7 → Codes b w₀ target w n
+    others-closed e = noting-end b target w₀ w n (subst (λ (l : List Token). Noting b target w₀ w n (codesOf blank l)) (others-stop seen (rows count w₀) i to low (ap (λ (t : Token). t .kind) others-at ∙ e)) g)
+
+    module _ (goes : t .kind ≡ 7 → ⊥) where
+      abbrev this : List Token
+      this = cond seen (symbols (t ∷ [])) []
+
+      abbrev those : List Token
+      those = others (cond seen true (isSymbol t)) (range (rows count w₀) (i + 1) to)
+
+      others-split : Noting b target w₀ w n (codesOf blank this ++ codesOf blank those)
+      others-split = subst (λ (l : List ℕ). Noting b target w₀ w n l)
+          (ap (codesOf blank) (others-on seen (rows count w₀) i to low (λ e. goes (ap (λ (t : Token). t .kind) (sym others-at) ∙ e))
+          ∙ ap (λ (t : Token). cond seen (symbols (t ∷ [])) [] ++ others (cond seen true (isSymbol t)) (range (rows count w₀) (i + 1) to)) others-at)
+          ∙ codes-append blank this those) g
+
+      pub others-room : Room b n w (codesOf blank (cond seen (symbols (t ∷ [])) []))
+      others-room = noting-room b target w₀ w n (codesOf blank this) (codesOf blank those) others-split
+
+      pub others-next : (w′ : List ℕ) (n′ : ℕ) (seen′ : Bool) → Codes b w (notedAll (held b n w) (codesOf blank (cond seen (symbols (t ∷ [])) []))) w′ n′ → seen′ ≡ cond seen true (isSymbol t)
+          → Noting b target w₀ w′ n′ (codesOf blank (others seen′ (range (rows count w₀) (i + 1) to)))
+      others-next w′ n′ seen′ c e = subst (λ (s : Bool). Noting b target w₀ w′ n′ (codesOf blank (others s (range (rows count w₀) (i + 1) to)))) (sym e)
+          (noting-on b target w₀ w n (codesOf blank this) (codesOf blank those) w′ n′ others-split c)
+
+-- ---- the set that a token opens
+abbrev pub setBehind : List Token → Token → ℕ → ℕ → List Token
+setBehind ts t i to = cond (eqb (t .kind) 6) (others false (range ts i to)) []
+
+pub set-opens : (t : Token) → t .kind ≡ 6 → eqb (t .kind) 6 ≡ true
+set-opens t e = eq-eqb (t .kind) 6 e
+
+pub set-opens-not : (t : Token) → (t .kind ≡ 6 → ⊥) → eqb (t .kind) 6 ≡ false
+set-opens-not t e = ne-eqb (t .kind) 6 e
+
+-- the sets that the k tokens from an index on open, from the last to the first
+unfoldable pub back : List Token → ℕ → ℕ → ℕ → List Token
+back ts from to zero = []
+back ts from to (suc k) = setBehind ts (peek ts (from + k)) (from + k + 1) to ++ back ts from to k
+
+further-step : (ts : List Token) (i to : ℕ) → i < to → further (range ts i to) ≡ further (range ts (i + 1) to) ++ setBehind ts (peek ts i) (i + 1) to
+unfolding further
+further-step ts i to h = go (decLt i (length ts))
+  where
+    go : Dec (i < length ts) → further (range ts i to) ≡ further (range ts (i + 1) to) ++ setBehind ts (peek ts i) (i + 1) to
+    go (yes q) = ap further (range-in ts i to h q)
+    go (no q) =
+        let past : peek ts i ≡ ended = List·getD-eq-default ts ended {n = i} (omega arith) in
+        ap further (range-past ts i to (omega arith))
+        ∙ sym (ap (λ (t : Token). further (range ts (i + 1) to) ++ setBehind ts t (i + 1) to) past ∙ ap (λ (l : List Token). further l ++ []) (range-past ts (i + 1) to (omega arith)))
+
+further-back : (ts : List Token) (from to k : ℕ) → from + k ≤ to → further (range ts from to) ≡ further (range ts (from + k) to) ++ back ts from to k
+unfolding back
+further-back ts from to zero h = let e : from ≡ from + 0 = omega arith in ap (λ (i : ℕ). further (range ts i to)) e ∙ sym (append-nil (further (range ts (from + 0) to)))
+further-back ts from to (suc k) h =
+    let e : from + k + 1 ≡ from + suc k = omega arith in
+    let s : List Token = setBehind ts (peek ts (from + k)) (from + k + 1) to in
+    further-back ts from to k (omega arith)
+    ∙ ap (λ (l : List Token). l ++ back ts from to k) (further-step ts (from + k) to (omega arith) ∙ ap (λ (i : ℕ). further (range ts i to) ++ s) e)
+    ∙ append-assoc (further (range ts (from + suc k) to)) s (back ts from to k)
+
+further-all : (ts : List Token) (from to : ℕ) → further (range ts from to) ≡ back ts from to (to - from)
+unfolding further back
+further-all ts from to = go (decLt to from)
+  where
+    go : Dec (to < from) → further (range ts from to) ≡ back ts from to (to - from)
+    go (yes q) = let e : to - from ≡ 0 = omega arith in ap further (range-none ts from to (omega arith)) ∙ ap (back ts from to) (sym e)
+    go (no q) =
+        let e : from + (to - from) ≡ to = omega arith in
+        further-back ts from to (to - from) (omega arith) ∙ ap (λ (i : ℕ). further (range ts i to) ++ back ts from to (to - from)) e
+        ∙ ap (λ (l : List Token). further l ++ back ts from to (to - from)) (range-none ts to to (omega arith))
+
+-- the walk back has come to the index i
+pub record Turning (b count blank : ℕ) (target w₀ w : List ℕ) (n from to i : ℕ) : Type 0 where
+  pub noting : Noting b target w₀ w n (codesOf blank (back (rows count w₀) from to (i - from)))
+  pub low : i ≤ to
+
+pub turning-start : (b count blank : ℕ) (w : List ℕ) (n from to : ℕ) → Room b n w (codesOf blank (further (range (rows count w) from to)))
+    → Turning b count blank (notedAll (held b n w) (codesOf blank (further (range (rows count w) from to)))) w w n from to to
+turning-start b count blank w n from to h = record {
+  noting = subst (λ (l : List Token). Noting b (notedAll (held b n w) (codesOf blank (further (range (rows count w) from to)))) w w n (codesOf blank l)) (further-all (rows count w) from to)
+      (noting-start b w n (codesOf blank (further (range (rows count w) from to))) h);
+  low = omega arith;
+}
+
+module _ (b count blank : ℕ) (target w₀ w : List ℕ) (n from to i : ℕ) (few : 4 * count ≤ b) (g : Turning b count blank target w₀ w n from to i) where
+  pub turning-end : i ≤ from → Codes b w₀ target w n
+  unfolding back
+  turning-end h = let e : i - from ≡ 0 = omega arith in noting-end b target w₀ w n (subst (λ (k : ℕ). Noting b target w₀ w n (codesOf blank (back (rows count w₀) from to k))) e (g .noting))
+
+  module _ (t : Token) (high : from < i) (at : t ≡ peek (rows count w) (i - 1)) where
+    abbrev left : List Token
+    left = back (rows count w₀) from to (i - 1 - from)
+
+    same-rows : rows count w ≡ rows count w₀
+    same-rows = noting-rows b count target w₀ w n (codesOf blank (back (rows count w₀) from to (i - from))) (g .noting) few
+
+    turning-split : Noting b target w₀ w n (codesOf blank (setBehind (rows count w) t (i - 1 + 1) to) ++ codesOf blank left)
+    unfolding back
+    turning-split =
+        let e : i - from ≡ suc (i - 1 - from) = omega arith in
+        let f : from + (i - 1 - from) ≡ i - 1 = omega arith in
+        let ts : List Token = rows count w₀ in
+        subst (λ (l : List ℕ). Noting b target w₀ w n l)
+        (ap (λ (k : ℕ). codesOf blank (back ts from to k)) e ∙ codes-append blank (setBehind ts (peek ts (from + (i - 1 - from))) (from + (i - 1 - from) + 1) to) left
+        ∙ ap (λ (k : ℕ). codesOf blank (setBehind ts (peek ts k) (k + 1) to) ++ codesOf blank left) f
+        ∙ ap (λ (us : List Token). codesOf blank (setBehind us (peek us (i - 1)) (i - 1 + 1) to) ++ codesOf blank left) (sym same-rows)
+        ∙ ap (λ (t : Token). codesOf blank (setBehind (rows count w) t (i - 1 + 1) to) ++ codesOf blank left) (sym at)) (g .noting)
+
+    pub turning-room : Room b n w (codesOf blank (cond (eqb (t .kind) 6) (others false (range (rows count w) (i - 1 + 1) to)) []))
+    turning-room = noting-room b target w₀ w n (codesOf blank (setBehind (rows count w) t (i - 1 + 1) to)) (codesOf blank left) turning-split
+
+    pub turning-next : (w′ : List ℕ) (n′ : ℕ) → Codes b w (notedAll (held b n w) (codesOf blank (cond (eqb (t .kind) 6) (others false (range (rows count w) (i - 1 + 1) to)) []))) w′ n′
+        → Turning b count blank target w₀ w′ n′ from to (i - 1)
+    turning-next w′ n′ c = record {
+      noting = noting-on b target w₀ w n (codesOf blank (setBehind (rows count w) t (i - 1 + 1) to)) (codesOf blank left) w′ n′ turning-split c;
+      low = omega (arith, g .low);
+    }
+
+-- ---- a rule: three parts, one on top of the other
+module _ (b count blank : ℕ) (w : List ℕ) (n e : ℕ) (few : 4 * count ≤ b) (t : Token) (at : t ≡ peek (rows count w) e)
+    (room : Room b n w (codesOf blank (ruleSymbols (rows count w) (entryAt (rows count w) e)))) where
+  rule-kind : entryAt (rows count w) e .first .kind ≡ t .kind
+  rule-kind = ap (λ (t : Token). t .kind) (sym at)
+
+  pub rule-none : (t .kind ≡ 27 → ⊥) → Codes b w (notedAll (held b n w) (codesOf blank (ruleSymbols (rows count w) (entryAt (rows count w) e)))) w n
+  unfolding ruleSymbols
+  rule-none h = none-noted b n blank w (ruleSymbols (rows count w) (entryAt (rows count w) e)) (rw (rule-kind, ne-eqb (t .kind) 27 h)) room
+
+  module _ (is : t .kind ≡ 27) (q : Token) (comma : q ≡ peek (rows count w) (e + 3)) where
+    abbrev reads : List Token
+    reads = range (rows count w) (e + 4) (q .start)
+
+    abbrev writes : List Token
+    writes = range (rows count w) (q .end) (q .value)
+
+    abbrev goal : List ℕ
+    goal = notedAll (held b n w) (codesOf blank (ruleSymbols (rows count w) (entryAt (rows count w) e)))
+
+    rule-is : codesOf blank (ruleSymbols (rows count w) (entryAt (rows count w) e)) ≡ codesOf blank (firsts outside reads) ++ (codesOf blank (symbols writes) ++ codesOf blank (further reads))
+    unfolding ruleSymbols
+    rule-is =
+        rw (rule-kind, eq-eqb (t .kind) 27 is, ← comma)
+        (codes-append blank (firsts outside reads) (symbols writes ++ further reads) ∙ ap (λ (l : List ℕ). codesOf blank (firsts outside reads) ++ l) (codes-append blank (symbols writes) (further reads)))
+
+    at-first : Noting b goal w w n (codesOf blank (firsts outside reads) ++ (codesOf blank (symbols writes) ++ codesOf blank (further reads)))
+    at-first = subst (λ (l : List ℕ). Noting b goal w w n l) rule-is (noting-start b w n (codesOf blank (ruleSymbols (rows count w) (entryAt (rows count w) e))) room)
+
+    pub rule-room : (to : ℕ) → to ≡ q .start → Room b n w (codesOf blank (firsts outside (range (rows count w) (e + 4) to)))
+    rule-room to f = subst (λ (k : ℕ). Room b n w (codesOf blank (firsts outside (range (rows count w) (e + 4) k)))) (sym f)
+        (noting-room b goal w w n (codesOf blank (firsts outside reads)) (codesOf blank (symbols writes) ++ codesOf blank (further reads)) at-first)
+
+    module _ (to : ℕ) (ends : to ≡ q .start) (w₁ : List ℕ) (n₁ : ℕ) (one : Codes b w (notedAll (held b n w) (codesOf blank (firsts outside (range (rows count w) (e + 4) to)))) w₁ n₁) where
+      at-second : Noting b goal w w₁ n₁ (codesOf blank (symbols writes) ++ codesOf blank (further reads))
+      at-second = noting-on b goal w w n (codesOf blank (firsts outside reads)) (codesOf blank (symbols writes) ++ codesOf blank (further reads)) w₁ n₁ at-first
+          (subst (λ (k : ℕ). Codes b w (notedAll (held b n w) (codesOf blank (firsts outside (range (rows count w) (e + 4) k)))) w₁ n₁) ends one)
+
+      rows₁ : rows count w₁ ≡ rows count w
+      rows₁ = noting-rows b count goal w w₁ n₁ (codesOf blank (symbols writes) ++ codesOf blank (further reads)) at-second few
+
+      module _ (from till : ℕ) (begins : from ≡ q .end) (stops : till ≡ q .value) where
+        writes-are : codesOf blank (symbols (range (rows count w₁) from till)) ≡ codesOf blank (symbols writes)
+        writes-are =
+            ap (λ (ts : List Token). codesOf blank (symbols (range ts from till))) rows₁
+            ∙ ap (λ (k : ℕ). codesOf blank (symbols (range (rows count w) k till))) begins ∙ ap (λ (k : ℕ). codesOf blank (symbols (range (rows count w) (q .end) k))) stops
+
+        pub rule-room-2 : Room b n₁ w₁ (codesOf blank (symbols (range (rows count w₁) from till)))
+        rule-room-2 = subst (λ (l : List ℕ). Room b n₁ w₁ l) (sym writes-are) (noting-room b goal w w₁ n₁ (codesOf blank (symbols writes)) (codesOf blank (further reads)) at-second)
+
+        module _ (w₂ : List ℕ) (n₂ : ℕ) (two : Codes b w₁ (notedAll (held b n₁ w₁) (codesOf blank (symbols (range (rows count w₁) from till)))) w₂ n₂) where
+          at-third : Noting b goal w w₂ n₂ (codesOf blank (further reads))
+          at-third = noting-on b goal w w₁ n₁ (codesOf blank (symbols writes)) (codesOf blank (further reads)) w₂ n₂ at-second
+              (subst (λ (l : List ℕ). Codes b w₁ (notedAll (held b n₁ w₁) l) w₂ n₂) writes-are two)
+
+          rows₂ : rows count w₂ ≡ rows count w
+          rows₂ = noting-rows b count goal w w₂ n₂ (codesOf blank (further reads)) at-third few
+
+          reads-are : codesOf blank (further (range (rows count w₂) (e + 4) to)) ≡ codesOf blank (further reads)
+          reads-are = ap (λ (ts : List Token). codesOf blank (further (range ts (e + 4) to))) rows₂ ∙ ap (λ (k : ℕ). codesOf blank (further (range (rows count w) (e + 4) k))) ends
+
+          last : Noting b goal w w₂ n₂ (codesOf blank (further reads) ++ [])
+          last = subst (λ (l : List ℕ). Noting b goal w w₂ n₂ l) (sym (append-nil (codesOf blank (further reads)))) at-third
+
+          pub rule-room-3 : Room b n₂ w₂ (codesOf blank (further (range (rows count w₂) (e + 4) to)))
+          rule-room-3 = subst (λ (l : List ℕ). Room b n₂ w₂ l) (sym reads-are) (noting-room b goal w w₂ n₂ (codesOf blank (further reads)) [] last)
+
+          pub rule-all : (w₃ : List ℕ) (n₃ : ℕ) → Codes b w₂ (notedAll (held b n₂ w₂) (codesOf blank (further (range (rows count w₂) (e + 4) to)))) w₃ n₃
+              → Codes b w (notedAll (held b n w) (codesOf blank (ruleSymbols (rows count w) (entryAt (rows count w) e)))) w₃ n₃
+          rule-all w₃ n₃ three = noting-end b goal w w₃ n₃
+              (noting-on b goal w w₂ n₂ (codesOf blank (further reads)) [] w₃ n₃ last (subst (λ (l : List ℕ). Codes b w₂ (notedAll (held b n₂ w₂) l) w₃ n₃) reads-are three))
+
+-- ---- all rules: the walk has come to the line at the index i
+abbrev pub leftRules : ℕ → ℕ → List ℕ → ℕ → List ℕ
+leftRules count blank w i = codesOf blank (rulesSymbols (rows count w) (entriesAt (rows count w) i))
+
+pub rules-start : (b count blank : ℕ) (w : List ℕ) (n : ℕ) → Room b n w (codesOf blank (rulesSymbols (rows count w) (entries (rows count w))))
+    → Noting b (notedAll (held b n w) (codesOf blank (rulesSymbols (rows count w) (entries (rows count w))))) w w n (leftRules count blank w 0)
+unfolding entries
+rules-start b count blank w n h = noting-start b w n (codesOf blank (rulesSymbols (rows count w) (entries (rows count w)))) h
+
+module _ (b count blank : ℕ) (target w₀ w : List ℕ) (n i : ℕ) (few : 4 * count ≤ b) (g : Noting b target w₀ w n (leftRules count blank w₀ i)) where
+  rules-long : length (rows count w₀) ≡ count
+  rules-long = length-rows count w₀ (omega (arith, g .low))
+
+  pub rules-end : count ≤ i → Codes b w₀ target w n
+  unfolding rulesSymbols
+  rules-end h = noting-end b target w₀ w n (subst (λ (es : List Entry). Noting b target w₀ w n (codesOf blank (rulesSymbols (rows count w₀) es))) (entries-end (rows count w₀) i (omega (arith, rules-long))) g)
+
+  module _ (t : Token) (low : i < count) (at : t ≡ peek (rows count w) i) where
+    rules-rows : rows count w ≡ rows count w₀
+    rules-rows = noting-rows b count target w₀ w n (leftRules count blank w₀ i) g few
+
+    abbrev next : ℕ
+    next = i + 1 + behind i t
+
+    abbrev thisRule : List ℕ
+    thisRule = codesOf blank (ruleSymbols (rows count w) (entryAt (rows count w) i))
+
+    rules-split : Noting b target w₀ w n (thisRule ++ leftRules count blank w₀ next)
+    unfolding rulesSymbols
+    rules-split =
+        let ts : List Token = rows count w₀ in
+        let e : behind i (peek ts i) ≡ behind i t = ap (λ (us : List Token). behind i (peek us i)) (sym rules-rows) ∙ ap (behind i) (sym at) in
+        subst (λ (l : List ℕ). Noting b target w₀ w n l)
+        (ap (λ (es : List Entry). codesOf blank (rulesSymbols ts es)) (entries-step ts i (omega (arith, rules-long)) ∙ ap (λ (k : ℕ). entryAt ts i ∷ entriesAt ts (i + 1 + k)) e)
+        ∙ codes-append blank (ruleSymbols ts (entryAt ts i)) (rulesSymbols ts (entriesAt ts next))
+        ∙ ap (λ (us : List Token). codesOf blank (ruleSymbols us (entryAt us i)) ++ leftRules count blank w₀ next) (sym rules-rows)) g
+
+    pub rules-room : Room b n w (codesOf blank (ruleSymbols (rows count w) (entryAt (rows count w) i)))
+    rules-room = noting-room b target w₀ w n thisRule (leftRules count blank w₀ next) rules-split
+
+    pub rules-next : (w′ : List ℕ) (n′ j : ℕ) → Codes b w (notedAll (held b n w) (codesOf blank (ruleSymbols (rows count w) (entryAt (rows count w) i)))) w′ n′ → j ≡ i + 1 + behind i t
+        → Noting b target w₀ w′ n′ (leftRules count blank w₀ j)
+    rules-next w′ n′ j c e = subst (λ (k : ℕ). Noting b target w₀ w′ n′ (leftRules count blank w₀ k)) (sym e) (noting-on b target w₀ w n thisRule (leftRules count blank w₀ next) w′ n′ rules-split c)

@@ -1,0 +1,4 @@
+pub mod Codes
+pub mod Symbols
+pub mod Input
+pub mod Alphabets

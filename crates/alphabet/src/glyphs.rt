@@ -1,0 +1,266 @@
+// The characters that rules use, in the order of first use.
+ghost use mathlib.Core.Path.{_≡_};
+ghost use mathlib.Core.Bool.{true, false, cond};
+ghost use mathlib.Core.List.{[], _∷_};
+ghost use Prim.Native.Nat.{_+_, _*_, _≤_, _<_, _^_};
+ghost use lib.ListN.{length};
+ghost use Rattle.parser.specs.Views.{isSymbol};
+ghost use lib.Dec.{eqb};
+ghost use Rattle.assembler.specs.Rows.{rows};
+ghost use Rattle.assembler.specs.Entries.{entryAt, entries};
+ghost use Rattle.alphabet.specs.Codes.{notedAll, held, Codes, Room};
+ghost use Rattle.alphabet.specs.Symbols.{range, symbols, takes, walked, firsts, outside, others, further, ruleSymbols, rulesSymbols, codesOf};
+use crate::codes;
+use assembler::entry;
+use lexer::kind;
+use parser::view;
+use sheet::rules;
+use tokens::Token;
+
+// The number of a rule's item.
+const TRANSITION: u32 = 11;
+
+// Where a walk over read sets stands: whether a set is open, and whether its symbols are skipped.
+pub struct Walk {
+    pub inside: bool,
+    pub skip: bool,
+}
+
+// Whether a symbol is the first of its set, or stands alone.
+fn takes(s: Walk, t: Token) -> bool
+    ensures { λ r. ⌜ r ≡ takes s t ⌝ }
+{
+    if s.skip {
+        return false;
+    }
+    view::is_symbol(t)
+}
+
+// Behind a token of the read sets.
+fn walked(s: Walk, t: Token) -> Walk
+    ensures { λ r. ⌜ r ≡ walked s t ⌝ }
+{
+    if t.kind == kind::L_BRACE {
+        return Walk {
+            inside: true,
+            skip: false,
+        };
+    }
+    if t.kind == kind::R_BRACE {
+        return Walk {
+            inside: false,
+            skip: false,
+        };
+    }
+    if view::is_symbol(t) {
+        return Walk {
+            inside: s.inside,
+            skip: s.inside,
+        };
+    }
+    s
+}
+
+// Whether a symbol was met in the open set.
+fn met(seen: bool, t: Token) -> bool
+    ensures { λ r. ⌜ r ≡ cond seen true (isSymbol t) ⌝ }
+{
+    if seen {
+        return true;
+    }
+    view::is_symbol(t)
+}
+
+// Notes a token's character, if it is a symbol.
+fn note_symbol(work: &mut [u32], base: usize, n: usize, t: Token, blank: u32) -> usize
+    requires { ⌜ Room base n (now work) (codesOf blank (symbols (t ∷ []))) ⌝ }
+    ensures { λ r. ⌜ Codes base (now (work .entry)) (notedAll (held base n (now (work .entry))) (codesOf blank (symbols (t ∷ [])))) (now (work .exit)) r ⌝ }
+{
+    if view::is_symbol(t) {
+        return codes::note(work, base, n, rules::resolve(blank, t));
+    }
+    n
+}
+
+// The symbols from an index to before another.
+pub(crate) fn note_range(
+    work: &mut [u32],
+    count: usize,
+    base: usize,
+    n: usize,
+    from: usize,
+    to: usize,
+    blank: u32,
+) -> usize
+    requires { ⌜ (4 * count ≤ base) × (Room base n (now work) (codesOf blank (symbols (range (rows count (now work)) from to)))) ⌝ }
+    ensures { λ r. ⌜ Codes base (now (work .entry)) (notedAll (held base n (now (work .entry))) (codesOf blank (symbols (range (rows count (now (work .entry))) from to)))) (now (work .exit)) r ⌝ }
+{
+    let mut m = n;
+    let mut i = from;
+    while i < to {
+        let t = entry::token_at(work, count, i);
+        m = note_symbol(work, base, m, t, blank);
+        i += 1;
+    }
+    m
+}
+
+// A token's character, if it is the first of its set.
+fn note_first(work: &mut [u32], base: usize, n: usize, s: Walk, t: Token, blank: u32) -> usize
+    requires { ⌜ Room base n (now work) (codesOf blank (cond (takes s t) (t ∷ []) [])) ⌝ }
+    ensures { λ r. ⌜ Codes base (now (work .entry)) (notedAll (held base n (now (work .entry))) (codesOf blank (cond (takes s t) (t ∷ []) []))) (now (work .exit)) r ⌝ }
+{
+    if takes(s, t) {
+        return codes::note(work, base, n, rules::resolve(blank, t));
+    }
+    n
+}
+
+// The first members of the read sets from an index to before another.
+fn note_firsts(
+    work: &mut [u32],
+    count: usize,
+    base: usize,
+    n: usize,
+    from: usize,
+    to: usize,
+    blank: u32,
+) -> usize
+    requires { ⌜ (4 * count ≤ base) × (Room base n (now work) (codesOf blank (firsts outside (range (rows count (now work)) from to)))) ⌝ }
+    ensures { λ r. ⌜ Codes base (now (work .entry)) (notedAll (held base n (now (work .entry))) (codesOf blank (firsts outside (range (rows count (now (work .entry))) from to)))) (now (work .exit)) r ⌝ }
+{
+    let mut s = Walk {
+        inside: false,
+        skip: false,
+    };
+    let mut m = n;
+    let mut i = from;
+    while i < to {
+        let t = entry::token_at(work, count, i);
+        m = note_first(work, base, m, s, t, blank);
+        s = walked(s, t);
+        i += 1;
+    }
+    m
+}
+
+// A token's character, if it is a further member of its set.
+fn note_other(work: &mut [u32], base: usize, n: usize, seen: bool, t: Token, blank: u32) -> usize
+    requires { ⌜ Room base n (now work) (codesOf blank (cond seen (symbols (t ∷ [])) [])) ⌝ }
+    ensures { λ r. ⌜ Codes base (now (work .entry)) (notedAll (held base n (now (work .entry))) (codesOf blank (cond seen (symbols (t ∷ [])) []))) (now (work .exit)) r ⌝ }
+{
+    if seen {
+        return note_symbol(work, base, n, t, blank);
+    }
+    n
+}
+
+// The further members of the set that is open at an index.
+fn note_others(
+    work: &mut [u32],
+    count: usize,
+    base: usize,
+    n: usize,
+    from: usize,
+    to: usize,
+    blank: u32,
+) -> usize
+    requires { ⌜ (4 * count ≤ base) × (Room base n (now work) (codesOf blank (others false (range (rows count (now work)) from to)))) ⌝ }
+    ensures { λ r. ⌜ Codes base (now (work .entry)) (notedAll (held base n (now (work .entry))) (codesOf blank (others false (range (rows count (now (work .entry))) from to)))) (now (work .exit)) r ⌝ }
+{
+    let mut seen = false;
+    let mut m = n;
+    let mut i = from;
+    while i < to {
+        let t = entry::token_at(work, count, i);
+        if t.kind == kind::R_BRACE {
+            return m;
+        }
+        m = note_other(work, base, m, seen, t, blank);
+        seen = met(seen, t);
+        i += 1;
+    }
+    m
+}
+
+// The further members of the set that the token t in front of an index opens, if it does.
+fn note_set(
+    work: &mut [u32],
+    count: usize,
+    base: usize,
+    n: usize,
+    t: Token,
+    from: usize,
+    to: usize,
+    blank: u32,
+) -> usize
+    requires { ⌜ (4 * count ≤ base) × (Room base n (now work) (codesOf blank (cond (eqb (t .kind) 6) (others false (range (rows count (now work)) from to)) []))) ⌝ }
+    ensures { λ r. ⌜ Codes base (now (work .entry)) (notedAll (held base n (now (work .entry))) (codesOf blank (cond (eqb (t .kind) 6) (others false (range (rows count (now (work .entry))) from to)) []))) (now (work .exit)) r ⌝ }
+{
+    if t.kind == kind::L_BRACE {
+        return note_others(work, count, base, n, from, to, blank);
+    }
+    n
+}
+
+// The further members of all read sets from an index to before another, from the last set to the first.
+fn note_further(
+    work: &mut [u32],
+    count: usize,
+    base: usize,
+    n: usize,
+    from: usize,
+    to: usize,
+    blank: u32,
+) -> usize
+    requires { ⌜ (4 * count ≤ base) × (Room base n (now work) (codesOf blank (further (range (rows count (now work)) from to)))) ⌝ }
+    ensures { λ r. ⌜ Codes base (now (work .entry)) (notedAll (held base n (now (work .entry))) (codesOf blank (further (range (rows count (now (work .entry))) from to)))) (now (work .exit)) r ⌝ }
+{
+    let mut m = n;
+    let mut i = to;
+    while from < i {
+        i -= 1;
+        let t = entry::token_at(work, count, i);
+        m = note_set(work, count, base, m, t, i + 1, to, blank);
+    }
+    m
+}
+
+// The symbols of the line at an index, if it is a rule: the first choice of each tape, what is written, the further choices.
+fn note_rule(work: &mut [u32], count: usize, base: usize, n: usize, e: usize, blank: u32) -> usize
+    requires { ⌜ (4 * count ≤ base) × (e < count) × (Room base n (now work) (codesOf blank (ruleSymbols (rows count (now work)) (entryAt (rows count (now work)) e)))) ⌝ }
+    ensures { λ r. ⌜ Codes base (now (work .entry)) (notedAll (held base n (now (work .entry))) (codesOf blank (ruleSymbols (rows count (now (work .entry))) (entryAt (rows count (now (work .entry))) e)))) (now (work .exit)) r ⌝ }
+{
+    let t = entry::token_at(work, count, e);
+    if t.kind != entry::ITEM + TRANSITION {
+        return n;
+    }
+    let q = entry::token_at(work, count, e + 3);
+    let to = entry::wide(q.start);
+    let i = note_firsts(work, count, base, n, e + 4, to, blank);
+    let j = note_range(
+        work,
+        count,
+        base,
+        i,
+        entry::wide(q.end),
+        entry::wide(q.value),
+        blank,
+    );
+    note_further(work, count, base, j, e + 4, to, blank)
+}
+
+// The symbols of all rules.
+pub fn note_rules(work: &mut [u32], count: usize, base: usize, n: usize, blank: u32) -> usize
+    requires { ⌜ (4 * count ≤ base) × (Room base n (now work) (codesOf blank (rulesSymbols (rows count (now work)) (entries (rows count (now work)))))) ⌝ }
+    ensures { λ r. ⌜ Codes base (now (work .entry)) (notedAll (held base n (now (work .entry))) (codesOf blank (rulesSymbols (rows count (now (work .entry))) (entries (rows count (now (work .entry))))))) (now (work .exit)) r ⌝ }
+{
+    let mut m = n;
+    let mut e = 0;
+    while e < count {
+        let t = entry::token_at(work, count, e);
+        m = note_rule(work, count, base, m, e, blank);
+        e = entry::next_line(t, e);
+    }
+    m
+}

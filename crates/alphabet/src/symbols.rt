@@ -1,0 +1,284 @@
+// The blank, Σ and Γ.
+ghost use mathlib.Core.Path.{_≡_};
+ghost use mathlib.Core.Bool.{cond};
+ghost use mathlib.Core.List.{[], _∷_};
+ghost use Prim.Native.Nat.{_+_, _*_, _≤_, _<_, _^_};
+ghost use lib.Dec.{eqb};
+ghost use lib.ListN.{length};
+ghost use Rattle.language.specs.Layout.{flat};
+ghost use Rattle.assembler.specs.Rows.{rows};
+ghost use Rattle.sheet.specs.Stored.{Stored};
+ghost use Rattle.alphabet.specs.Codes.{notedAll, held, Codes, Room};
+ghost use Rattle.alphabet.specs.Symbols.{range, blankOf, symbols, symbolsIn, isBlank, hasBlank, codesOf};
+ghost use Rattle.alphabet.specs.Alphabets.{listedWords, inferredWords, otherWords, lineCodes, candidates, gammaCodes, declaredGamma, gammaWords, inferredSigma, sigmaWords};
+use crate::codes;
+use crate::glyphs;
+use crate::input;
+use assembler::entry;
+use diag::Span;
+use parser::view;
+use sheet::put;
+use sheet::rules;
+use tokens::Token;
+
+// The blank where none is declared.
+const BLANK: u32 = 0x2423;
+
+// The numbers of items.
+const INPUT: usize = 2;
+
+const INPUT_ALPHABET: usize = 6;
+
+const TAPE_ALPHABET: usize = 7;
+
+// The place of an inferred symbol.
+const NOWHERE: Span = Span { start: 0, end: 0 };
+
+// The blank, which the line at d declares.
+pub fn blank_of(work: &[u32], count: usize, d: usize) -> u32
+    requires { ⌜ 4 * count ≤ length (now work) ⌝ }
+    ensures { λ r. ⌜ r ≡ blankOf (rows count (now (work .entry))) d ⌝ }
+{
+    if d < count {
+        return rules::resolve(BLANK, entry::token_at(work, count, d + 2));
+    }
+    BLANK
+}
+
+// A token in the sheet, if it is a symbol.
+fn put_symbol(t: Token, blank: u32, out: &mut [u32], at: usize) -> usize
+    requires { ⌜ at + 3 < 2 ^ 64 ⌝ }
+    ensures { λ r. ⌜ Stored (flat (listedWords blank) (symbols (t ∷ []))) (now (out .entry)) at (now (out .exit)) r ⌝ }
+{
+    if view::is_symbol(t) {
+        return put::symbol(out, at, rules::resolve(blank, t), entry::place_of(t));
+    }
+    at
+}
+
+// The symbols from an index to before another.
+fn put_range(
+    work: &[u32],
+    count: usize,
+    from: usize,
+    to: usize,
+    blank: u32,
+    out: &mut [u32],
+    at: usize,
+) -> usize
+    requires { ⌜ (4 * count ≤ length (now work)) × (to < 2 ^ 32) × (at < 2 ^ 63) ⌝ }
+    ensures { λ r. ⌜ Stored (flat (listedWords blank) (symbols (range (rows count (now (work .entry))) from to))) (now (out .entry)) at (now (out .exit)) r ⌝ }
+{
+    let mut n = at;
+    let mut i = from;
+    while i < to {
+        n = put_symbol(entry::token_at(work, count, i), blank, out, n);
+        i += 1;
+    }
+    n
+}
+
+// Codes without a place: n of them from the index `base` on.
+fn put_codes(work: &[u32], base: usize, n: usize, out: &mut [u32], at: usize) -> usize
+    requires { ⌜ (base + n ≤ length (now work)) × (at < 2 ^ 62) ⌝ }
+    ensures { λ r. ⌜ Stored (flat inferredWords (held base n (now (work .entry)))) (now (out .entry)) at (now (out .exit)) r ⌝ }
+{
+    let mut m = at;
+    let mut i = 0;
+    while i < n {
+        m = put::symbol(out, m, work[base + i], NOWHERE);
+        i += 1;
+    }
+    m
+}
+
+// A symbol of Γ as one of Σ, unless it is the blank.
+fn put_other(t: Token, blank: u32, out: &mut [u32], at: usize) -> usize
+    requires { ⌜ at + 3 < 2 ^ 64 ⌝ }
+    ensures { λ r. ⌜ Stored (flat (otherWords blank) (symbols (t ∷ []))) (now (out .entry)) at (now (out .exit)) r ⌝ }
+{
+    if view::is_symbol(t) {
+        let c = rules::resolve(blank, t);
+        if c == blank {
+            return at;
+        }
+        return put::symbol(out, at, c, NOWHERE);
+    }
+    at
+}
+
+// The symbols from an index to before another as those of Σ.
+fn put_others(
+    work: &[u32],
+    count: usize,
+    from: usize,
+    to: usize,
+    blank: u32,
+    out: &mut [u32],
+    at: usize,
+) -> usize
+    requires { ⌜ (4 * count ≤ length (now work)) × (to < 2 ^ 32) × (at < 2 ^ 63) ⌝ }
+    ensures { λ r. ⌜ Stored (flat (otherWords blank) (symbols (range (rows count (now (work .entry))) from to))) (now (out .entry)) at (now (out .exit)) r ⌝ }
+{
+    let mut n = at;
+    let mut i = from;
+    while i < to {
+        n = put_other(entry::token_at(work, count, i), blank, out, n);
+        i += 1;
+    }
+    n
+}
+
+// Whether a token is a symbol that is the blank.
+fn is_blank(t: Token, blank: u32) -> bool
+    ensures { λ r. ⌜ r ≡ isBlank blank t ⌝ }
+{
+    if view::is_symbol(t) {
+        return rules::resolve(blank, t) == blank;
+    }
+    false
+}
+
+// Whether the blank is among the symbols from an index to before another.
+fn has_blank(work: &[u32], count: usize, from: usize, to: usize, blank: u32) -> bool
+    requires { ⌜ 4 * count ≤ length (now work) ⌝ }
+    ensures { λ r. ⌜ r ≡ hasBlank blank (range (rows count (now (work .entry))) from to) ⌝ }
+{
+    let mut i = from;
+    while i < to {
+        if is_blank(entry::token_at(work, count, i), blank) {
+            return true;
+        }
+        i += 1;
+    }
+    false
+}
+
+// Notes the symbols of the line at an index.
+fn note_line(work: &mut [u32], count: usize, base: usize, n: usize, f: usize, blank: u32) -> usize
+    requires { ⌜ (4 * count ≤ base) × (f < 2 ^ 32) × (Room base n (now work) (lineCodes blank (rows count (now work)) f)) ⌝ }
+    ensures { λ r. ⌜ Codes base (now (work .entry)) (notedAll (held base n (now (work .entry))) (lineCodes blank (rows count (now (work .entry))) f)) (now (work .exit)) r ⌝ }
+{
+    let t = entry::token_at(work, count, f);
+    glyphs::note_range(work, count, base, n, f + 1, entry::wide(t.value), blank)
+}
+
+// Notes what an undeclared Γ holds besides the blank: a declared Σ and what the rules use; or what they use and the input.
+fn note_candidates(
+    text: &[u8],
+    work: &mut [u32],
+    count: usize,
+    base: usize,
+    n: usize,
+    first: &[u32; 11],
+    blank: u32,
+) -> usize
+    requires { ⌜ (4 * count ≤ base) × (Room base n (now work) (candidates (now text) blank (rows count (now work)) (now first))) ⌝ }
+    ensures { λ r. ⌜ Codes base (now (work .entry)) (notedAll (held base n (now (work .entry))) (candidates (now (text .entry)) blank (rows count (now (work .entry))) (now (first .entry)))) (now (work .exit)) r ⌝ }
+{
+    let s = crate::index(first[INPUT_ALPHABET]);
+    if s < count {
+        let m = note_line(work, count, base, n, s, blank);
+        return glyphs::note_rules(work, count, base, m, blank);
+    }
+    let m = glyphs::note_rules(work, count, base, n, blank);
+    input::note_input(text, work, count, base, m, crate::index(first[INPUT]))
+}
+
+// The codes of an undeclared Γ from the index `base` on; answers their number.
+pub fn gamma_codes(
+    text: &[u8],
+    work: &mut [u32],
+    count: usize,
+    base: usize,
+    first: &[u32; 11],
+    blank: u32,
+) -> usize
+    requires { ⌜ (4 * count ≤ base) × (Room base 0 (now work) (blank ∷ candidates (now text) blank (rows count (now work)) (now first))) ⌝ }
+    ensures { λ r. ⌜ Codes base (now (work .entry)) (gammaCodes (now (text .entry)) blank (rows count (now (work .entry))) (now (first .entry))) (now (work .exit)) r ⌝ }
+{
+    let n = codes::note(work, base, 0, blank);
+    note_candidates(text, work, count, base, n, first, blank)
+}
+
+// A declared Γ, with the blank last if it lacks it.
+fn put_gamma(work: &[u32], count: usize, g: usize, blank: u32, out: &mut [u32], at: usize) -> usize
+    requires { ⌜ (4 * count ≤ length (now work)) × (g < 2 ^ 32) × (at < 2 ^ 62) ⌝ }
+    ensures { λ r. ⌜ Stored (declaredGamma blank (rows count (now (work .entry))) g) (now (out .entry)) at (now (out .exit)) r ⌝ }
+{
+    let t = entry::token_at(work, count, g);
+    let end = crate::index(t.value);
+    let n = put_range(work, count, g + 1, end, blank, out, at);
+    if has_blank(work, count, g + 1, end, blank) {
+        return n;
+    }
+    put::symbol(out, n, blank, NOWHERE)
+}
+
+// Γ, from the first declarations; where it is not declared, its n codes stand from the index `base` on.
+pub fn gamma(
+    work: &[u32],
+    count: usize,
+    base: usize,
+    n: usize,
+    first: &[u32; 11],
+    blank: u32,
+    out: &mut [u32],
+    at: usize,
+) -> usize
+    requires { ⌜ (4 * count ≤ length (now work)) × (base + n ≤ length (now work)) × (at < 2 ^ 62) ⌝ }
+    ensures { λ r. ⌜ Stored (gammaWords blank (rows count (now (work .entry))) (now (first .entry)) (held base n (now (work .entry)))) (now (out .entry)) at (now (out .exit)) r ⌝ }
+{
+    let g = crate::index(first[TAPE_ALPHABET]);
+    if g < count {
+        return put_gamma(work, count, g, blank, out, at);
+    }
+    put_codes(work, base, n, out, at)
+}
+
+// Σ where it is not declared: Γ less the blank.
+fn put_sigma(
+    work: &[u32],
+    count: usize,
+    base: usize,
+    n: usize,
+    g: usize,
+    blank: u32,
+    out: &mut [u32],
+    at: usize,
+) -> usize
+    requires { ⌜ (4 * count ≤ length (now work)) × (base + n ≤ length (now work)) × (g < 2 ^ 32) × (at < 2 ^ 62) ⌝ }
+    ensures { λ r. ⌜ Stored (inferredSigma blank (rows count (now (work .entry))) g (held base n (now (work .entry)))) (now (out .entry)) at (now (out .exit)) r ⌝ }
+{
+    if g < count {
+        let t = entry::token_at(work, count, g);
+        return put_others(work, count, g + 1, crate::index(t.value), blank, out, at);
+    }
+    if n == 0 {
+        return at;
+    }
+    put_codes(work, base + 1, n - 1, out, at)
+}
+
+// Σ, from the first declarations; the n codes of an undeclared Γ stand from the index `base` on.
+pub fn sigma(
+    work: &[u32],
+    count: usize,
+    base: usize,
+    n: usize,
+    first: &[u32; 11],
+    blank: u32,
+    out: &mut [u32],
+    at: usize,
+) -> usize
+    requires { ⌜ (4 * count ≤ length (now work)) × (base + n ≤ length (now work)) × (at < 2 ^ 62) ⌝ }
+    ensures { λ r. ⌜ Stored (sigmaWords blank (rows count (now (work .entry))) (now (first .entry)) (held base n (now (work .entry)))) (now (out .entry)) at (now (out .exit)) r ⌝ }
+{
+    let s = crate::index(first[INPUT_ALPHABET]);
+    if s < count {
+        let t = entry::token_at(work, count, s);
+        return put_range(work, count, s + 1, crate::index(t.value), blank, out, at);
+    }
+    let g = crate::index(first[TAPE_ALPHABET]);
+    put_sigma(work, count, base, n, g, blank, out, at)
+}
