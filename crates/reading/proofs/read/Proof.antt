@@ -106,6 +106,7 @@ module _ {M : Type 1} (𝓤 : URA M) (H : Heap 𝓤) (A : Atoms 𝓤) (W : Given
     E = (answerTy, l₀) ∷ (textTy, l₁) ∷ (wordsTy 1, l₂) ∷ (logTy 2, l₃) ∷ (wordsTy 3, l₄) ∷ (openedTy, l₅) ∷ (wordRef, l₆) ∷ (sliceTy wordRef, l₇) ∷ (word, l₈) ∷ (wordRef, l₉) ∷ (sliceTy wordRef, l₁₀) ∷ (tyBool, l₁₁) ∷ (tyUnit, l₁₂)
         ∷ (wordRef, l₁₃) ∷ (sliceTy wordRef, l₁₄) ∷ (recordRef, l₁₅) ∷ (sliceTy recordRef, l₁₆) ∷ []
 
+    -- the locals of the arm that reports, and those of the call that opens the text, in front of the others
     abbrev Arm : List (Item 𝓤) → List (Item 𝓤)
     Arm Γ = ‵ (froom (sliceTy recordRef) l₁₆ 0) ∷ ‵ (fdies (sliceTy recordRef) l₁₆) ∷ ‵ (froom recordRef l₁₅ 0) ∷ ‵ (fdies recordRef l₁₅) ∷ ‵ (froom (sliceTy wordRef) l₁₄ 0) ∷ ‵ (fdies (sliceTy wordRef) l₁₄) ∷ ‵ (froom wordRef l₁₃ 0) ∷ ‵ (fdies wordRef l₁₃)
         ∷ ‵ (froom tyUnit l₁₂ 0) ∷ ‵ (fdies tyUnit l₁₂) ∷ Γ

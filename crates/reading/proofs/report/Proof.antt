@@ -104,7 +104,7 @@ module _ {M : Type 1} (𝓤 : URA M) (H : Heap 𝓤) (A : Atoms 𝓤) (W : Given
     E = (tyUnit, l₀) ∷ (textTy, l₁) ∷ (wordsTy 1, l₂) ∷ (logTy 2, l₃) ∷ (searchTy, l₄) ∷ (word, l₅) ∷ (tyUnit, l₆) ∷ (recordRef, l₇) ∷ (sliceTy recordRef, l₈) ∷ (tyBool, l₉) ∷ (tyUnit, l₁₀) ∷ (wordRef, l₁₁) ∷ (sliceTy wordRef, l₁₂)
         ∷ (recordRef, l₁₃) ∷ (sliceTy recordRef, l₁₄) ∷ (recordRef, l₁₅) ∷ (sliceTy recordRef, l₁₆) ∷ (wordRef, l₁₇) ∷ (sliceTy wordRef, l₁₈) ∷ []
 
-    -- the locals that the arm that reports uses, and those before them
+    -- the locals of the arm that reports, in front of the others
     abbrev Arm : List (Item 𝓤) → List (Item 𝓤)
     Arm Γ = ‵ (froom (sliceTy wordRef) l₁₈ 0) ∷ ‵ (fdies (sliceTy wordRef) l₁₈) ∷ ‵ (froom wordRef l₁₇ 0) ∷ ‵ (fdies wordRef l₁₇) ∷ ‵ (froom (sliceTy recordRef) l₁₆ 0) ∷ ‵ (fdies (sliceTy recordRef) l₁₆) ∷ ‵ (froom recordRef l₁₅ 0) ∷ ‵ (fdies recordRef l₁₅)
         ∷ ‵ (froom (sliceTy recordRef) l₁₄ 0) ∷ ‵ (fdies (sliceTy recordRef) l₁₄) ∷ ‵ (froom recordRef l₁₃ 0) ∷ ‵ (fdies recordRef l₁₃) ∷ ‵ (froom (sliceTy wordRef) l₁₂ 0) ∷ ‵ (fdies (sliceTy wordRef) l₁₂) ∷ ‵ (froom wordRef l₁₁ 0) ∷ ‵ (fdies wordRef l₁₁)
