@@ -12,6 +12,15 @@ use diag::Diagnostic;
 pub mod lines;
 pub mod passes;
 
+// The passes, in their order.
+pub const FAILURES: u32 = 0;
+
+pub const NAMES: u32 = 1;
+
+pub const FINALS: u32 = 2;
+
+pub const RULES: u32 = 3;
+
 // How far a search has come: what assembly found, the number of the pass, the index of the token to look at, the rules so far and whether one was
 // dropped for the limit.
 pub struct Search {
@@ -71,7 +80,7 @@ pub fn start(text: &[u8], work: &mut [u32], count: usize) -> Search
         first,
         errors: a.errors,
         rules: a.rules,
-        pass: 0,
+        pass: FAILURES,
         at: 0,
         tally: 0,
         cut: false,

@@ -12,6 +12,10 @@ ghost use Rattle.assembler.specs.Finals.{Laid, Interned, Kept, Marks, nameAt, f
 ghost use Rattle.assembler.specs.Rules.{verdict, ruleError};
 ghost use Rattle.diagnostics.specs.Cursor.{moved, ruled, stepped, taken, nextLine};
 ghost use Rattle.diagnostics.specs.Repeats.{nameError};
+use crate::FAILURES;
+use crate::FINALS;
+use crate::NAMES;
+use crate::RULES;
 use crate::Search;
 use crate::Step;
 use assembler::declarations;
@@ -41,7 +45,7 @@ pub fn failure(work: &[u32], s: Search) -> Step
     let mut log = [0u32; 5];
     let t = entry::token_at(work, s.count, s.at);
     let n = failures::line_error(t, &mut log, 0);
-    stepped(s.moved(0, entry::next_line(t, s.at)), &log, n)
+    stepped(s.moved(FAILURES, entry::next_line(t, s.at)), &log, n)
 }
 
 // The diagnostic of a line that declares a name, given the first declarations.
@@ -73,7 +77,7 @@ pub fn name(work: &[u32], s: Search) -> Step
     let first = s.first;
     let t = entry::token_at(work, s.count, s.at);
     let n = name_error(work, s.count, s.at, &first, &mut log);
-    stepped(s.moved(1, entry::next_line(t, s.at)), &log, n)
+    stepped(s.moved(NAMES, entry::next_line(t, s.at)), &log, n)
 }
 
 // A token of F's line.
@@ -83,7 +87,7 @@ pub fn listed(text: &[u8], work: &mut [u32], a: usize, b: usize, s: Search, decl
 {
     let mut log = [0u32; 5];
     let n = finals::final_at(text, work, s.count, a, b, s.at, declared, &mut log, 0);
-    stepped(s.moved(2, s.at + 1), &log, n)
+    stepped(s.moved(FINALS, s.at + 1), &log, n)
 }
 
 // A line, as one that may be a rule.
@@ -102,6 +106,6 @@ pub fn rule(work: &[u32], s: Search) -> Step
         },
         v,
     );
-    let next = s.moved(3, entry::next_line(t, s.at));
+    let next = s.moved(RULES, entry::next_line(t, s.at));
     stepped(next.tallied(c.rules, c.cut), &log, n)
 }

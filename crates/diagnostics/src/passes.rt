@@ -5,6 +5,10 @@ ghost use lib.ListN.{length};
 ghost use Rattle.diagnostics.specs.Cursor.{onward};
 ghost use Rattle.diagnostics.specs.Pending.{pending};
 ghost use Rattle.diagnostics.specs.Stands.{Stands, Stepped};
+use crate::FAILURES;
+use crate::FINALS;
+use crate::NAMES;
+use crate::RULES;
 use crate::Search;
 use crate::Step;
 use crate::lines;
@@ -13,13 +17,6 @@ use assembler::finals;
 use diag::Diagnostic;
 use diag::Span;
 use lexer::kind;
-
-// The passes, in their order: failed lines, declarations, F, rules.
-const NAMES: u32 = 1;
-
-const FINALS: u32 = 2;
-
-const RULES: u32 = 3;
 
 // The step to the beginning of another pass.
 fn onward(s: Search, pass: u32, at: usize) -> Step
@@ -99,7 +96,7 @@ pub fn step(text: &[u8], work: &mut [u32], s: Search) -> Step
     requires { ⌜ Stands (now text) (now work) s × (1 ≤ length (pending (now text) (now work) s)) ⌝ }
     ensures { λ r. ⌜ Stepped (now (text .entry)) (now (work .entry)) (now (work .exit)) s r ⌝ }
 {
-    if s.pass == 0 {
+    if s.pass == FAILURES {
         return at_failures(text, work, s);
     }
     if s.pass == NAMES {

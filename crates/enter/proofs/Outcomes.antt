@@ -9,7 +9,7 @@ use borrow.Author.Tests.{lt-ltb, le-ltb, le-leb, lt-leb}
 use lib.ListN.{length, replicate, length-map}
 use Rattle.lexer.specs.Tokens.{Span}
 use Rattle.language.specs.Assembly as A
-use Rattle.language.specs.Outcome.{Refusal, logTooShort, Reply, refused, diagnosed, refusalOf, zeros, ReadOutcome, readMachine, readOutcome}
+use Rattle.language.specs.Outcome.{Refusal, logTooShort, refused, diagnosed, refusalOf, zeros, ReadOutcome, readMachine, readOutcome}
 use Rattle.diag.specs.declared.Diagnostic.{Diagnostic}
 use Rattle.diag.specs.Log.{flat, records, startOf, sort, padded, logAfter}
 use Rattle.diag.proofs.Records.{length-flat, records-flat}

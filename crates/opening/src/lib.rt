@@ -11,13 +11,13 @@ use reader::Refusal;
 use reader::admission;
 use reader::admission::Admission;
 
-// The answer; the search for diagnostics, at its beginning; how many of them the log takes: none where it has too few records; and whether the text was
-// admitted.
+// Whether the text was admitted; how many diagnostics the log takes: none where it has too few records; the search for them, at its beginning; and the
+// answer.
 pub struct Opened {
-    pub answer: Answer,
-    pub search: Search,
-    pub errors: usize,
     pub admitted: bool,
+    pub errors: usize,
+    pub search: Search,
+    pub answer: Answer,
 }
 
 // A text that is refused: there is nothing to search.
@@ -37,10 +37,10 @@ fn refused(r: Refusal) -> Opened
     };
     let answer = Answer::Refused(r);
     Opened {
-        answer,
-        search,
-        errors: 0,
         admitted: false,
+        errors: 0,
+        search,
+        answer,
     }
 }
 
@@ -54,27 +54,27 @@ fn admitted(text: &[u8], work: &mut [u32], records: usize, sheet: &mut [u32]) ->
     if found < 1 {
         let answer = enter::machine(text, work, search, sheet);
         return Opened {
-            answer,
-            search,
-            errors: 0,
             admitted: true,
+            errors: 0,
+            search,
+            answer,
         };
     }
     if records < found {
         let answer = enter::refused(found);
         return Opened {
-            answer,
-            search,
-            errors: 0,
             admitted: true,
+            errors: 0,
+            search,
+            answer,
         };
     }
     let answer = enter::diagnosed(found);
     Opened {
-        answer,
-        search,
-        errors: found,
         admitted: true,
+        errors: found,
+        search,
+        answer,
     }
 }
 

@@ -17,7 +17,7 @@ use denote.RattleType.{owns}
 use denote.Signature.{typeAt, typesAt}
 use denote.Triple.Call.{calls-at, calls-at-last}
 use denote.Triple.Clauses.{Ended, Clauses, Lasts, lasts, atExit, closing}
-use denote.Triple.Entry.{Res, alive}
+use denote.Triple.Entry.{Res}
 use denote.Triple.Spec.{Meets, tripleOf}
 
 module _ {M : Type 1} {𝓤 : URA M} where

@@ -9,7 +9,7 @@ use base.Logic.{ent, sep, via, monoR}
 use base.Fml.{Lft, Share, Fml, ftrue, fsep, feq, flft}
 use prog.Wp.{Heap}
 use ghost.Atoms.{Atoms}
-use types.Kit.{Given, Item, ‵, raw, _⊛_, mean, ⋆, pop, push, Goal, Seq, Step, step, by, _$_, _∵_, !, qed, move, split, join, fsplit, fjoin, drop, keep, fltI, feqI, done}
+use types.Kit.{Given, Item, ‵, raw, _⊛_, mean, ⋆, pop, push, Goal, Step, step, by, _$_, _∵_, !, qed, move, split, join, fsplit, fjoin, drop, keep, fltI, feqI, done}
 use mir.Syntax.{erased, w64}
 use denote.Builtin.{usize}
 use denote.RattleType.{RattleType}

@@ -1,5 +1,5 @@
 -- A record of a slice of diagnostics: it is taken out of the row, read or written, and put back. Every walk of this crate goes by these steps.
-use mathlib.Core.Path.{_≡_, refl, sym, ap}
+use mathlib.Core.Path.{_≡_, refl, ap, subst, _∙_}
 use Prim.Native.Nat.{ℕ, zero, suc, _<_, _≤_, _^_, _*_}
 use native.Mathlib.Omega.{arith}
 use native.Mathlib.Nat.{le-of-suc-le-suc, not-suc-le-zero}
@@ -20,7 +20,7 @@ use denote.Laws.{Is, shows}
 use denote.Memory.{cellAt, mem, pointee, shares}
 use denote.Slice.{sliceTy, Room}
 use denote.Index.{row, others, place, elem-out, elem-put, looks-slice}
-use denote.Steps.{owned}
+use denote.Steps.{only, owned}
 use denote.Struct.Laws as LL
 use Rattle.diag.specs.declared.Diagnostic.{Diagnostic}
 use Rattle.records.specs.Unused.{unused}
@@ -58,6 +58,10 @@ IsD d = Is D d (val d ∷ [])
 -- the place of a record in bytes fits a word
 pub scaled-fits : {n i : ℕ} → Room D n → i < n → i * 20 < 2 ^ 64
 scaled-fits room within = omega (arith, room .1)
+
+-- what a call that returns a diagnostic gives, where its contract says that it is d
+pub comes : (r d : Diagnostic) (v : Val) → r ≡ d → Is D r (v ∷ []) → (v ≡ val d) × IsD d
+comes r d v e is-r = (ap only (LL.tells T.the-type T′.the-laws r (v ∷ []) is-r) ∙ ap val e, subst IsD e (subst (Is D r) (LL.tells T.the-type T′.the-laws r (v ∷ []) is-r) is-r))
 
 -- nothing is stored past the end
 pub set-past : {X : Type 0} (l : List X) (i : ℕ) (x : X) → length l ≤ i → set l i x ≡ l

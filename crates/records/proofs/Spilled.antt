@@ -2,6 +2,7 @@
 use mathlib.Core.Path.{_≡_, refl, sym, ap, _∙_}
 use Prim.Native.Nat.{ℕ, zero, suc, _+_, _*_, _≤_}
 use native.Mathlib.Omega.{arith}
+use native.Mathlib.Nat.{add-zero, add-suc}
 use mathlib.Core.Bool.{Bool, true, false, cond}
 use mathlib.Core.List.{List, [], _∷_, _++_}
 use lib.Dec.{T, leb, le→leb}
@@ -21,6 +22,11 @@ pub length-spilled : (ys : List Diagnostic) (w : List ℕ) (i : ℕ) → length 
 unfolding appendAll
 length-spilled ys w zero = refl
 length-spilled ys w (suc i) = append-all-length (logged (spilled ys w i) i) (getD ys i unused ∷ []) ∙ length-spilled ys w i
+
+-- what appending counts
+pub counted : (w zs : List ℕ) (i r : ℕ) (d : Diagnostic) → logged zs r ≡ appended (logged w i) d → r ≡ suc i
+unfolding appended
+counted w zs i r d e = ap (λ (l : Log). l .count) e ∙ add-suc i zero ∙ ap suc (add-zero i)
 
 holds : (b : Bool) → T b → b ≡ true
 holds true _ = refl

@@ -42,7 +42,7 @@ use Rattle.reader.specs.Answer.{leavesWork}
 use Rattle.opening.specs.declared.Opened.{Opened}
 use Rattle.enter.specs.Records.{readIn, readRecords}
 use Rattle.opening.specs.Opens.{reported, Opens}
-use Rattle.reading.proofs.Values.{textTy, wordsTy, logTy, wordRef, recordRef, Sᵀ, searchVal, owns-search, answerVal, answerTy, answer-typed, owns-answer, Oᵀ, openedVal, openedTy, IsOpened, opened-answer, opened-search, opened-errors, opened-is, opened-typed}
+use Rattle.reading.proofs.Values.{textTy, wordsTy, logTy, wordRef, recordRef, Sᵀ, searchVal, owns-search, answerVal, answerTy, answer-typed, owns-answer, Oᵀ, openedVal, openedTy, IsOpened, opened-answer, opened-search, opened-errors, opened-is, opened-typed, reads-admitted, reads-errors, reads-search, reads-answer}
 use Rattle.reading.proofs.Lists.{chosen, rejected, not-both}
 use Rattle.opening.proofs.open as opn
 use Rattle.opening.proofs.open.Symbol as opn-def
@@ -125,7 +125,7 @@ module _ {M : Type 1} (𝓤 : URA M) (H : Heap 𝓤) (A : Atoms 𝓤) (W : Given
 
       ends : (ws : List ℕ) (zs : List Diagnostic) (ss : List ℕ) → length ws ≡ length (w .now) → length zs ≡ n → length ss ≡ length (s .now) → Reads o is-o ws zs ss → Sq W (At ws zs ss) (runs (𝓣 .C) (𝓣 .Λ) E mir′.t-9 (atRet E Post))
       ends ws zs ss same same′ same″ is =
-          assigns ! (of-opd ! (load ! (from ! (fld ! refl (stop !))) (look-in ! 26 (sub ! 0 refl (whole !))))) (from ! (stop !)) (init ! 36 refl (answer-typed W (o .answer) (opened-answer o is-o))) $
+          assigns ! (of-opd ! (reads-answer ! o 26 refl refl)) (from ! (stop !)) (init ! 36 refl (answer-typed W (o .answer) (opened-answer o is-o))) $
           returns ! (look ! 36 refl) $ forget ! 14 refl $ forget ! 26 refl $ forget ! 28 refl $ forget ! 30 refl $ forget ! 32 refl $ forget ! 34 refl $ forget ! 36 refl $
           move ! (36 ∷ 37 ∷ []) $ free1 ! $ move ! (34 ∷ 35 ∷ []) $ free1 ! $ move ! (32 ∷ 33 ∷ []) $ free1 ! $ move ! (30 ∷ 31 ∷ []) $ free1 ! $ move ! (28 ∷ 29 ∷ []) $ free1 ! $ move ! (26 ∷ 27 ∷ []) $ free1 ! $ move ! (24 ∷ 25 ∷ []) $ free1 ! $ move ! (22 ∷ 23 ∷ []) $ free1 ! $ move ! (20 ∷ 21 ∷ []) $ free1 ! $ move ! (18 ∷ 19 ∷ []) $ free1 ! $ move ! (16 ∷ 17 ∷ []) $ free1 ! $ move ! (14 ∷ 15 ∷ []) $ free1 ! $ move ! (12 ∷ 13 ∷ []) $ free1 ! $ move ! (10 ∷ 11 ∷ []) $ free1 ! $ move ! (8 ∷ 9 ∷ []) $ free1 ! $ move ! (6 ∷ 7 ∷ []) $ free1 ! $ move ! (4 ∷ 5 ∷ []) $ free1 ! $ free0 ! $ by ! (exits o is-o ws zs ss same same′ same″ is)
 
@@ -143,7 +143,7 @@ module _ {M : Type 1} (𝓤 : URA M) (H : Heap 𝓤) (A : Atoms 𝓤) (W : Given
             (((κ, ((α ∷ []), ((β ∷ []), tt))), (q, (fullShare, (fullShare, tt))), tt, (t, (named-as (at-last w ws) γ, (named-as l δ, (o .search, (o .errors, tt))))), (tv ∷ [], (wv ∷ [], (lv ∷ [], (searchVal (o .search) ∷ [], (vint w64 (o .errors) ∷ [], tt)))))), tt)
             (factI 𝓤 _ (emp 𝓤) (opened .reports))
             (and-then ! (load ! (from ! (stop !)) (look ! 35 refl)) (and-then ! (load ! (from ! (stop !)) (look ! 9 refl)) (and-then ! (load ! (from ! (stop !)) (look ! 5 refl))
-            (and-then ! (load ! (from ! (fld ! refl (stop !))) (look-in ! 27 (sub ! 1 refl (whole !)))) (and-then ! (load ! (from ! (fld ! refl (stop !))) (look-in ! 27 (sub ! 2 refl (whole !)))) (no-more !))))))
+            (and-then ! (reads-search ! o 27 refl refl) (and-then ! (reads-errors ! o 27 refl refl) (no-more !))))))
             (λ v r zs. heard ! (zs .1 .1 .0 ≡ made) (λ is. feqL ! (λ is-v.
             hands-back ! (seen u8 κ q t tv ∷ lent u32 (α ∷ []) fullShare (named-as (at-last w ws) γ) wv ∷ lent D (β ∷ []) fullShare (named-as l δ) lv ∷ held Sᵀ (o .search) (searchVal (o .search)) ∷ held usize (o .errors) (vint w64 (o .errors)) ∷ []) zs $
             move ! (1 ∷ 2 ∷ 6 ∷ []) $ back ! tt u32 (at-last w ws) (zs .1 .0) (λ sameʷ. move ! (2 ∷ 3 ∷ 4 ∷ []) $ back ! tt D l (zs .1 .1 .0) (λ sameˡ. move ! (3 ∷ 2 ∷ []) $ join ! $ move ! (0 ∷ 2 ∷ 1 ∷ 3 ∷ []) $
@@ -171,7 +171,7 @@ module _ {M : Type 1} (𝓤 : URA M) (H : Heap 𝓤) (A : Atoms 𝓤) (W : Given
         let is-o : IsOpened o = subst (λ (u : Val). Is Oᵀ o (u ∷ [])) is is-v in
         land ! (from ! (stop !)) (init ! 26 refl (subst (λ (u : Val). T (hasTy openedTy u) × WT u) (sym is) (opened-typed W o is-o))) $ rewrite ! 26 (λ (u : Val). ‵ (fat fullShare openedTy l₅ 0 u)) is refl $
         forget ! 16 refl $ forget ! 18 refl $ forget ! 20 refl $ forget ! 22 refl $ forget ! 24 refl $
-        assigns ! (of-opd ! (load ! (from ! (fld ! refl (stop !))) (look-in ! 26 (sub ! 3 refl (whole !))))) (from ! (stop !)) (init ! 14 refl (tt, tt)) $
+        assigns ! (of-opd ! (reads-admitted ! o 26 refl refl)) (from ! (stop !)) (init ! 14 refl (tt, tt)) $
         tests o is-o (ws .1 .0) (ws .1 .1 .1 .0) same same″ opened)))))))
 
   walk : (𝓣 : Tables 𝓤 H) → Meets 𝓤 H A opn.signature (𝓣 .C opn-def.name) (opn.spec 𝓤 H A mem run) → Meets 𝓤 H A rep.signature (𝓣 .C rep-def.name) (rep.spec 𝓤 H A mem run)

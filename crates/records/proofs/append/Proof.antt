@@ -1,7 +1,6 @@
 -- A walk of the MIR: in the arm that stores, the borrow is opened, the record is put into the row, and the borrow is closed; both arms meet before the count.
-use mathlib.Core.Path.{_≡_, refl, sym, ap, subst, _∙_}
-use Prim.Native.Nat.{ℕ, _+_, _<_, _≤_, _^_}
-use mathlib.Core.Bool.{Bool, not}
+use mathlib.Core.Path.{_≡_, refl, sym, ap, subst}
+use Prim.Native.Nat.{ℕ, _+_, _<_, _^_}
 use mathlib.Core.List.{[], _∷_, List}
 use lib.Dec.{T, ltb, ltb→lt, nltb→le}
 use lib.ListN.{length, set, length-set}
@@ -13,11 +12,11 @@ use base.Logic.{SProp, ent}
 use base.Fml.{Lft, Share, GName, Fml, ftrue, fsep, fat, froom, fdies, flft, fobs, fbor}
 use prog.Memory.{Memory}
 use prog.Routine.{Routine}
-use prog.Wp.{Heap, Env, Calls, Loops, Wp, WpFn, Tables, afterSeq, atReturn}
+use prog.Wp.{Heap, Env, Calls, Loops, WpFn, Tables}
 use ghost.Atoms.{Atoms}
 use contract.Monad.{Fun}
 use contract.Running.{givenOf, tables, tablesOf}
-use types.Kit.{Given, Item, ‵, _⊛_, ⋆, Sq, runs, anyQ, atRet, _$_, _∵_, !, qed, by, move, keep, drop, split, join, rewrite, fsplit, fjoin, feqI, fltI, suffices, frame, done}
+use types.Kit.{Given, Item, ‵, _⊛_, ⋆, Sq, runs, atRet, _$_, _∵_, !, qed, by, move, drop, split, join, rewrite, fsplit, fjoin, feqI, fltI, suffices, frame, done}
 use types.Run.{look, init, store-raw, forget, stop, hop, fld, from, load, lit, of-opd, bin, assigns, assigns-last, first, skips, branches, exec, returns, enter, alloc1, alloc0, params1, pass1, pass0, free1, free0}
 use types.Part.{whole, sub, look-in}
 use sound.WpLaws.{WpFn-mono}

@@ -1,5 +1,5 @@
 -- A walk of the MIR: the slice is looked into, the record is taken out of the row, read and put back.
-use mathlib.Core.Path.{_≡_, refl, sym}
+use mathlib.Core.Path.{refl, sym}
 use Prim.Native.Nat.{ℕ, _<_, _^_}
 use mathlib.Core.List.{[], _∷_, List}
 use lib.ListN.{length, getD}

@@ -19,7 +19,7 @@ use contract.Fact.{factI}
 use contract.Monad.{Fun}
 use contract.Running.{givenOf, tables, tablesOf}
 use types.Kit.{Given, Item, ‵, _⊛_, ⋆, Sq, runs, atRet, _$_, _∵_, !, qed, by, move, drop, split, join, feqI, feqL, suffices, frame, done}
-use types.Run.{look, init, store, forget, stop, from, load, unit-lit, of-opd, and-then, no-more, land, assigns, returns, enter, alloc1, alloc0, params1, pass1, pass0, free1, free0}
+use types.Run.{look, init, forget, stop, from, load, unit-lit, of-opd, and-then, no-more, land, assigns, returns, enter, alloc1, alloc0, params1, pass1, pass0, free1, free0}
 use sound.WpLaws.{WpFn-mono, fmOf}
 use denote.RattleType.{owns}
 use denote.Ref.{RefT, at-last}
@@ -40,7 +40,7 @@ use Rattle.records.proofs.Rows.{D, logTy, word}
 use Rattle.records.proofs.Lent.{Lent, named-as, lends, back, shows, shown}
 use Rattle.records.proofs.Asked.{asks}
 use Rattle.records.proofs.Taken.{retakes}
-use Rattle.records.proofs.Packed.{Arg, lent, seen, held, packs, unpacks, hands-back, number}
+use Rattle.records.proofs.Packed.{lent, seen, held, packs, unpacks, hands-back, number}
 use Rattle.records.proofs.Resorted.{resorted}
 use Rattle.records.proofs.spill as spill
 use Rattle.records.proofs.spill.Symbol as spill-def
