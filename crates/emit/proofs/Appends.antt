@@ -6,7 +6,7 @@ use native.Mathlib.Nat.{add-zero}
 use native.Mathlib.Numerals.{add-one}
 use mathlib.Core.Logic.{_⊎_, inl, inr}
 use mathlib.Core.List.{List, [], _∷_, _++_}
-use lib.ListN.{length, getD, drop, set, length-set, length-append, drop-of-length-le}
+use lib.ListN.{length, getD, drop, set, length-append, drop-of-length-le}
 use lib.Seq.{sets, sets-eq, length-sets, set-out, drop-cons}
 use Rattle.chars.proofs.Tests.{lt-or-ge}
 use Rattle.emit.specs.Output.{Output, output, counted, appended}
@@ -51,11 +51,6 @@ appended-append o h a b = ap₂ output (rows (lt-or-ge (o .at + length a) 184467
     rows (inl l) = let e : n ≡ o .at + length a = omega arith in ap (λ (k : ℕ). sets row k b) e ∙ sets-append a b (o .row) (o .at)
     rows (inr g) =
         sets-out b row n (omega (arith, short)) ∙ sym (sets-out b row (o .at + length a) (omega (arith, short))) ∙ sets-append a b (o .row) (o .at)
-
--- how many bytes there are after some more, where they can be counted
-pub appended-at : (o : Output) (a : List ℕ) → o .at + length a < 18446744073709551616 → appended o a .at ≡ o .at + length a
-unfolding appended
-appended-at o a h = omega arith
 
 -- the row as it was lent keeps its length
 pub appended-length : (o : Output) (a : List ℕ) → length (appended o a .row) ≡ length (o .row)

@@ -1,17 +1,15 @@
 -- A number in decimal: its digits are stored from the last to the first, and how many may be left does not matter.
 use mathlib.Core.Path.{_≡_, refl, sym, ap, _∙_}
-use Prim.Native.Nat.{ℕ, zero, suc, _+_, _-_, _*_, _/_, _%_, _≤_, _<_, _^_}
+use Prim.Native.Nat.{ℕ, zero, suc, _+_, _-_, _/_, _%_, _≤_, _<_, _^_}
 use native.Mathlib.Omega.{arith}
 use native.Mathlib.Nat.{pow-succ', pow-le-pow-right}
 use mathlib.Core.Logic.{⊎-elim}
-use mathlib.Core.Bool.{true, false}
 use mathlib.Core.List.{List, [], _∷_, _++_, append-assoc}
-use lib.Dec.{ltb}
 use lib.ListN.{length, drop, take, set, length-set, length-drop, drop-of-length-le}
 use lib.Seq.{take-all, drop-cons, getD-set-same, drop-set-lt}
 use borrow.Author.Tests.{lt-ltb, le-ltb}
 use Rattle.chars.proofs.Tests.{lt-or-ge}
-use Rattle.emit.specs.Output.{Output, output, appended}
+use Rattle.emit.specs.Output.{Output, appended}
 use Rattle.emit.specs.Decimal.{digitsFrom, decimal}
 
 -- ---- the digits that are stored, and those that are left

@@ -1,8 +1,8 @@
 -- The bytes of a code point by its size.
-use mathlib.Core.Path.{_≡_, ap, sym, _∙_}
-use Prim.Native.Nat.{ℕ, _+_, _/_, _%_, _≤_, _<_, _^_}
+use mathlib.Core.Path.{_≡_, sym, _∙_}
+use Prim.Native.Nat.{ℕ, _+_, _/_, _%_, _<_}
 use native.Mathlib.Omega.{arith}
-use mathlib.Core.List.{List, [], _∷_}
+use mathlib.Core.List.{[], _∷_}
 use Rattle.chars.specs.Utf8.{size, encodeOne}
 use Rattle.chars.proofs.Encoding.{Sized, size-1, size-2, size-3, size-4, sized}
 use Rattle.emit.specs.Output.{Output, appended}

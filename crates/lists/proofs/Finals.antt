@@ -9,7 +9,7 @@ use lib.ListN.{getD}
 use borrow.Author.Tests.{eq-eqb, ne-eqb}
 use Rattle.language.specs.Content.{StateContent}
 use Rattle.language.specs.Layout.{flag}
-use Rattle.language.specs.Plain.{Piece, _⨾_, nothing, say, only, commas, verbatim, finalNames}
+use Rattle.language.specs.Plain.{Piece, _⨾_, say, only, commas, verbatim, finalNames}
 use Rattle.language.specs.Agreement.{groups, placeAt, charactersAt, stateIn}
 use Rattle.machine.specs.declared.Span as D
 use Rattle.machine.specs.Head.{spanOf, spanIn}

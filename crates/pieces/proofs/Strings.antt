@@ -1,21 +1,21 @@
 -- Strings: what each character between the quotes gives is what the string's value gives, escaped again.
 use mathlib.Core.Path.{_≡_, refl, sym, ap, subst, _∙_}
-use Prim.Native.Nat.{ℕ, suc, _+_, _≤_}
+use Prim.Native.Nat.{ℕ, suc, _+_}
 use native.Mathlib.Omega.{arith}
 use mathlib.Core.Bool.{Bool, true, false, not, _&&_, false≢true}
 use mathlib.Core.Option.{Option, none, some}
 use mathlib.Core.List.{List, [], _∷_, _++_}
 use lib.Dec.{eqb}
 use lib.ListN.{length, drop}
-use borrow.Author.Tests.{eqb-true, eq-eqb, ne-eqb}
+use borrow.Author.Tests.{eqb-true, ne-eqb}
 use Rattle.chars.specs.Utf8.{encode, decode, front, decodedAt}
 use Rattle.chars.specs.declared.Decoded.{Decoded}
 use Rattle.chars.specs.declared.Decoded.the-variants.{Char, Invalid, End}
 use Rattle.chars.proofs.Laws.{char-decode, invalid-decode, end-decode}
 use Rattle.lexer.specs.Tokens.{escape, Inner, ends, breaks, escapes, stands, innerOf, Inside, closed, unclosed, put, pass, inside, unescape}
-use Rattle.language.specs.Plain.{Piece, _⨾_, say, escaped, inString, escapedText}
+use Rattle.language.specs.Plain.{Piece, say, escaped, inString, escapedText}
 use Rattle.language.proofs.Every.{byTest}
-use Rattle.emit.specs.Output.{Output, output, appended}
+use Rattle.emit.specs.Output.{Output}
 use Rattle.pieces.specs.Writes.{Adds, Writes}
 use Rattle.pieces.specs.Strings.{isEscape, rewritten, Whole}
 use Rattle.pieces.proofs.Chain.{known, same, _▹_, Goes, goes-start, goes-on, goes-end}
