@@ -25,22 +25,12 @@ use Rattle.sheet.specs.Comments.{spanWords}
 use Rattle.sheet.specs.Rules.{resolve}
 use Rattle.sheet.proofs.Writes.{stored-none, stored-as, stored-append, Writing, writing-start, writing-on, written}
 use Rattle.alphabet.specs.Codes.{noted, notedAll, held, Codes, Room}
-use Rattle.alphabet.specs.Symbols.{range, blankOf, symbols, symbolsIn, isBlank, hasBlank, lineRange, rulesSymbols, codesOf}
+use Rattle.alphabet.specs.Symbols.{range, symbols, symbolsIn, isBlank, hasBlank, lineRange, rulesSymbols, codesOf}
 use Rattle.alphabet.specs.Alphabets.{listedWords, inferredWords, otherWords, lineCodes, candidates, gammaCodes, declaredGamma, gammaWords, inferredSigma, sigmaWords}
 use Rattle.alphabet.specs.Input.{inputOf}
 use Rattle.alphabet.proofs.CodeLaws.{held-length, held-at, Noting, noting-start, noting-room, noting-on, noting-end, noting-rows}
 use Rattle.infer.proofs.Pages.{kept-on, kept-rows}
 use Rattle.alphabet.proofs.GlyphLaws.{range-none, range-past, range-in, symbols-on, is-symbol, no-symbol}
-
--- ---- the blank
-module _ (ts : List Token) (count d : ℕ) (many : length ts ≡ count) where
-  pub blank-none : count ≤ d → 0x2423 ≡ blankOf ts d
-  unfolding blankOf
-  blank-none h = rw (many, le-ltb d count h)
-
-  pub blank-declared : (t : Token) (r : ℕ) → d < count → t ≡ peek ts (d + 2) → r ≡ resolve 0x2423 t → r ≡ blankOf ts d
-  unfolding blankOf
-  blank-declared t r h e f = rw (many, lt-ltb d count h, ← e) f
 
 -- ---- one symbol
 module _ (blank : ℕ) (t : Token) (o : List ℕ) (i : ℕ) (b : Bool) (test : b ≡ isSymbol t) where

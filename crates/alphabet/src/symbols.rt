@@ -1,4 +1,4 @@
-// The blank, Σ and Γ.
+// Σ and Γ.
 ghost use mathlib.Core.Path.{_≡_};
 ghost use mathlib.Core.Bool.{cond};
 ghost use mathlib.Core.List.{[], _∷_};
@@ -9,7 +9,7 @@ ghost use Rattle.language.specs.Layout.{flat};
 ghost use Rattle.assembler.specs.Rows.{rows};
 ghost use Rattle.sheet.specs.Stored.{Stored};
 ghost use Rattle.alphabet.specs.Codes.{notedAll, held, Codes, Room};
-ghost use Rattle.alphabet.specs.Symbols.{range, blankOf, symbols, symbolsIn, isBlank, hasBlank, codesOf};
+ghost use Rattle.alphabet.specs.Symbols.{range, symbols, symbolsIn, isBlank, hasBlank, codesOf};
 ghost use Rattle.alphabet.specs.Alphabets.{listedWords, inferredWords, otherWords, lineCodes, candidates, gammaCodes, declaredGamma, gammaWords, inferredSigma, sigmaWords};
 use crate::codes;
 use crate::glyphs;
@@ -21,9 +21,6 @@ use sheet::put;
 use sheet::rules;
 use tokens::Token;
 
-// The blank where none is declared.
-const BLANK: u32 = 0x2423;
-
 // The numbers of items.
 const INPUT: usize = 2;
 
@@ -33,17 +30,6 @@ const TAPE_ALPHABET: usize = 7;
 
 // The place of an inferred symbol.
 const NOWHERE: Span = Span { start: 0, end: 0 };
-
-// The blank, which the line at d declares.
-pub fn blank_of(work: &[u32], count: usize, d: usize) -> u32
-    requires { ⌜ 4 * count ≤ length (now work) ⌝ }
-    ensures { λ r. ⌜ r ≡ blankOf (rows count (now (work .entry))) d ⌝ }
-{
-    if d < count {
-        return rules::resolve(BLANK, entry::token_at(work, count, d + 2));
-    }
-    BLANK
-}
 
 // A token in the sheet, if it is a symbol.
 fn put_symbol(t: Token, blank: u32, out: &mut [u32], at: usize) -> usize

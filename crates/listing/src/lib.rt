@@ -12,7 +12,7 @@ ghost use Rattle.list_lines.specs.Listing.{listing, listed};
 pub const MAX_INPUT: usize = 2048;
 
 // Lists an answer with its log and sheet at the front of `out`, as far as there is room; the listing's length.
-pub fn list(a: Answer, text: &[u8], log: &[u32], sheet: &[u32], out: &mut [u8]) -> usize
+fn list(a: Answer, text: &[u8], log: &[u32], sheet: &[u32], out: &mut [u8]) -> usize
     ensures { λ r. ⌜ output (now (out .exit)) r ≡ appended (output (now (out .entry)) 0) (listing (now (text .entry)) (readIn a (now (log .entry)) (now (sheet .entry)))) ⌝ }
 {
     match a {
@@ -27,7 +27,7 @@ pub fn list(a: Answer, text: &[u8], log: &[u32], sheet: &[u32], out: &mut [u8]) 
 }
 
 // Reads a text and lists the answer; a text above 2,048 bytes is refused. The diagnostics of 1,024 records are copied to the log's words.
-pub fn list_text(
+fn list_text(
     text: &[u8],
     work: &mut [u32],
     log: &mut [u32],
