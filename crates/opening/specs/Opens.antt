@@ -18,7 +18,7 @@ use Rattle.enter.specs.Records.{readIn, readRecords}
 
 -- a text that is refused
 abbrev pub refusedBy : Refusal → Opened
-refusedBy r = record { answer = Refused r; search = record { count = 0; first = replicate 11 0; errors = 0; rules = 0; pass = 0; at = 0; tally = 0; cut = false }; errors = 0; admitted = false }
+refusedBy r = record { admitted = false; errors = 0; search = record { count = 0; first = replicate 11 0; errors = 0; rules = 0; pass = 0; at = 0; tally = 0; cut = false }; answer = Refused r }
 
 -- the first c diagnostics that are pending, sorted, at the front of n records
 abbrev pub reported : List ℕ → List ℕ → Search → ℕ → ℕ → List Diagnostic
