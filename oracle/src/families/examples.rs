@@ -81,7 +81,7 @@ pub fn joined(random: &mut Random) -> Vec<u8> {
 }
 
 /// An example, a text by the grammar, or the plain form of either.
-fn description(random: &mut Random) -> String {
+pub fn description(random: &mut Random) -> String {
     let text = match random.below(3) {
         0 => random.pick(&EXAMPLES).into(),
         _ => grammar::text(random),

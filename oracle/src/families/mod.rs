@@ -7,6 +7,7 @@ pub mod limits;
 mod random;
 mod short;
 mod soup;
+mod spliced;
 
 pub use damaged::edit;
 pub use random::Random;
@@ -30,10 +31,14 @@ pub enum Family {
     Changed,
     /// Several descriptions one behind the other.
     Joined,
+    /// Lines of several descriptions in any order, some cut and joined.
+    Spliced,
+    /// Texts of many names that are alike.
+    Named,
 }
 
 impl Family {
-    pub const ALL: [Self; 8] = [
+    pub const ALL: [Self; 10] = [
         Self::Grammar,
         Self::Damaged,
         Self::Soup,
@@ -42,6 +47,8 @@ impl Family {
         Self::Limits,
         Self::Changed,
         Self::Joined,
+        Self::Spliced,
+        Self::Named,
     ];
 
     /// Those of which answers are stored for the gate.
@@ -65,6 +72,8 @@ impl Family {
             Self::Limits => "limits",
             Self::Changed => "changed",
             Self::Joined => "joined",
+            Self::Spliced => "spliced",
+            Self::Named => "named",
         }
     }
 
@@ -85,6 +94,8 @@ impl Family {
             Self::Limits => limits::text(index),
             Self::Changed => examples::changed(seed + index, &mut self.random(index, seed)),
             Self::Joined => examples::joined(&mut self.random(index, seed)),
+            Self::Spliced => spliced::spliced(&mut self.random(index, seed)),
+            Self::Named => spliced::named(&mut self.random(index, seed)),
         }
     }
 
@@ -104,7 +115,8 @@ impl Family {
             Self::Soup => 10,
             Self::Short | Self::Lines => 15,
             Self::Limits => 100,
-            Self::Changed | Self::Joined => 10,
+            Self::Changed | Self::Joined | Self::Spliced => 10,
+            Self::Named => 1,
         }
     }
 
