@@ -34,7 +34,7 @@ use Rattle.alphabet.specs.Alphabets.{gammaCodes, sigmaWords, gammaWords}
 use Rattle.machine.specs.declared.Span.{Span}
 use Rattle.machine.specs.declared.Counts.{Counts}
 use Rattle.machine.specs.Head.{spanOf, countsOf}
-use Rattle.head.specs.Meaning.{spanIn, countsIn, headIn}
+use Rattle.machine.specs.Meaning.{spanIn, countsIn, headIn}
 use Rattle.head.specs.Heads.{blankAt, headAt}
 use Rattle.head.proofs.HeadMeans.{head-means}
 use Rattle.head.proofs.ItemSays.{said-says}

@@ -17,9 +17,9 @@ use Rattle.diag.proofs.Sorting.{sort-length}
 use Rattle.records.specs.Unused.{unused}
 use Rattle.assembler.specs.Records.{recordOf, recordsOf}
 use Rattle.answered.specs.Ready.{linesOf}
-use Rattle.reader.specs.declared.Answer.{Answer}
-use Rattle.reader.specs.Answer as R
-use Rattle.reader.specs.Reading.{reportReply}
+use Rattle.answer.specs.declared.Answer.{Answer}
+use Rattle.answer.specs.Answer as R
+use Rattle.report.specs.Report.{reportReply}
 use Rattle.reader.proofs.Outcomes.{refused-outcome, reported-outcome, machine-outcome}
 use Rattle.enter.specs.Records.{RecordsOutcome, readIn, readRecords}
 

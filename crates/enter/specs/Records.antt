@@ -5,8 +5,8 @@ use lib.ListN.{length}
 use Rattle.diag.specs.declared.Diagnostic.{Diagnostic}
 use Rattle.diag.specs.Log.{flat, records}
 use Rattle.language.specs.Outcome.{Reply, readOutcome}
-use Rattle.reader.specs.declared.Answer.{Answer}
-use Rattle.reader.specs.Answer.{replyIn}
+use Rattle.answer.specs.declared.Answer.{Answer}
+use Rattle.answer.specs.Answer.{replyIn}
 
 -- what a reading call answers, and the log and the sheet as it leaves them
 pub record RecordsOutcome : Type 0 where

@@ -5,12 +5,12 @@ ghost use mathlib.Core.Option.{none};
 ghost use lib.ListN.{length};
 ghost use Rattle.language.specs.Outcome.{refusalOf, zeros, readMachine, diagnosed, refused, logTooShort};
 ghost use Rattle.answered.specs.Ready.{linesOf};
-ghost use Rattle.reader.specs.Answer.{replyIn, readIn};
+ghost use Rattle.answer.specs.Answer.{replyIn, readIn};
 ghost use Rattle.enter.specs.Begun.{Begun};
 use assembler::Assembled;
 use diagnostics::Search;
-use reader::Answer;
-use reader::Refusal;
+use answer::Answer;
+use answer::Refusal;
 use reader::written;
 
 // Enters an admitted text: its tokens stand in work, its lines are assembled, and the search for its diagnostics is at its beginning.

@@ -25,7 +25,7 @@ use Rattle.assembler.proofs.Means.{AllMean}
 use Rattle.sheet.specs.Rules.{resolve}
 use Rattle.machine.specs.declared.Span.{Span}
 use Rattle.machine.specs.declared.Counts.{Counts}
-use Rattle.head.specs.Meaning.{spanIn, kindIn, decoderIn, countsIn, headIn}
+use Rattle.machine.specs.Meaning.{spanIn, kindIn, decoderIn, countsIn, headIn}
 use Rattle.head.specs.Heads.{placeAt, textOf, textAt, kindOf, kindAt, decoderOf, decoderAt, tapesAt, blankAt, startAt, declaredIn, mapIn, headAt}
 use Rattle.shown.proofs.Declared.{fills, Declared, absent, present, declared-part}
 

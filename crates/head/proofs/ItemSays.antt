@@ -40,7 +40,7 @@ use Rattle.shown.proofs.Shows.{Said}
 use Rattle.shown.proofs.TokensShow.{symbol-code}
 use Rattle.shown.proofs.ItemTaken.{Taken as ValueTaken, item-taken}
 use Rattle.shown.proofs.LineTokens.{by-rule}
-use Rattle.head.specs.Meaning.{spanIn, kindIn, orderIn, decoderIn}
+use Rattle.machine.specs.Meaning.{spanIn, kindIn, orderIn, decoderIn}
 use Rattle.head.specs.Heads as H
 use Rattle.head.specs.Heads.{kindOf, orderOf, decoderOf}
 use Rattle.head.proofs.HeadMeans as HM

@@ -22,7 +22,7 @@ use Rattle.language.specs.Lines.{stringIn, meaningOf, kinds, OutputWord, wordOu
 use Rattle.tokens.specs.declared.Token.{Token as Words}
 use Rattle.sheet.specs.Rules.{resolve}
 use Rattle.language.specs.Infer.{tapesOf}
-use Rattle.head.specs.Meaning.{spanIn, kindIn, orderIn, decoderIn}
+use Rattle.machine.specs.Meaning.{spanIn, kindIn, orderIn, decoderIn}
 use Rattle.head.specs.Heads.{textOf, kindOf, orderOf, decoderOf}
 
 -- nothing is not something

@@ -11,11 +11,11 @@ use Rattle.language.specs.Outcome.{ReadOutcome, readOutcome, refusalOf, replyNu
 use Rattle.language.specs.Plain.{Piece, _⨾_}
 use Rattle.machine.specs.declared.Head.{Head}
 use Rattle.machine.specs.Head.{spanIn, countsIn}
-use Rattle.head.specs.Meaning.{headIn}
-use Rattle.reader.specs.declared.Refusal.{Refusal}
-use Rattle.reader.specs.declared.Answer.{Answer}
-use Rattle.reader.specs.declared.Answer.the-variants.{Machine, Diagnostics, Refused}
-use Rattle.reader.specs.Answer.{replyIn, readIn}
+use Rattle.machine.specs.Meaning.{headIn}
+use Rattle.answer.specs.declared.Refusal.{Refusal}
+use Rattle.answer.specs.declared.Answer.{Answer}
+use Rattle.answer.specs.declared.Answer.the-variants.{Machine, Diagnostics, Refused}
+use Rattle.answer.specs.Answer.{replyIn, readIn}
 use Rattle.emit.specs.Output.{Output, appended}
 use Rattle.emit.proofs.Appends.{appended-nil}
 use Rattle.list_lines.specs.Puts.{Puts}

@@ -1,10 +1,10 @@
 // What the list program prints: a text is read, and the answer listed.
-use reader::Answer;
-use reader::words::answer_number;
-use reader::words::answer_value;
+use answer::Answer;
+use answer::words::answer_number;
+use answer::words::answer_value;
 ghost use mathlib.Core.Path.{_≡_};
 ghost use lib.ListN.{length};
-ghost use Rattle.reader.specs.Answer.{readIn};
+ghost use Rattle.answer.specs.Answer.{readIn};
 ghost use Rattle.emit.specs.Output.{output, appended};
 ghost use Rattle.list_lines.specs.Listing.{listing, listed};
 

@@ -17,11 +17,12 @@ use Rattle.assembler.specs.Records.{recordOf, recordsOf}
 use Rattle.diagnostics.specs.declared.Search.{Search}
 use Rattle.diagnostics.specs.Pending.{pending}
 use Rattle.answered.specs.Ready.{linesOf}
-use Rattle.reader.specs.declared.Refusal.{Refusal}
-use Rattle.reader.specs.declared.Answer.{Answer}
-use Rattle.reader.specs.declared.admission.Admission.{Admission}
-use Rattle.reader.specs.declared.admission.Admission.the-variants.{Admitted, Refused as NotAdmitted}
-use Rattle.reader.specs.Answer as R
+use Rattle.answer.specs.declared.Refusal.{Refusal}
+use Rattle.answer.specs.declared.Answer.{Answer}
+use Rattle.admission.specs.declared.Admission.{Admission}
+use Rattle.admission.specs.declared.Admission.the-variants.{Admitted, Refused as NotAdmitted}
+use Rattle.answer.specs.Answer as R
+use Rattle.admission.specs.Admission.{admissionIn}
 use Rattle.reader.proofs.Calls.{machine-work}
 use Rattle.enter.specs.Records.{readIn}
 use Rattle.enter.specs.Begun.{Begun}
@@ -48,17 +49,17 @@ abbrev opened : Answer → Search → ℕ → Opened
 opened x s c = record { answer = x; search = s; errors = c; admitted = true }
 
 module _ (t w : List ℕ) (n : ℕ) (sheet : List ℕ) where
-  module _ (a : Admission) (e : R.admissionIn a ≡ refusalOf t (length w)) where
+  module _ (a : Admission) (e : admissionIn a ≡ refusalOf t (length w)) where
     -- rows 1 to 4
     pub opens-refused : (r : Refusal) → a ≡ NotAdmitted r → (o : Opened) → o ≡ refusedBy r → Opens t w n sheet w sheet o
     opens-refused r g o is = subst (λ (x : Opened). Opens t w n sheet w sheet x) (sym is) (record {
-      answers = λ log same. not-admitted t (length w) log sheet (refusedBy r .answer) (R.refusalIn r) (sym e ∙ ap R.admissionIn g) refl;
+      answers = λ log same. not-admitted t (length w) log sheet (refusedBy r .answer) (R.refusalIn r) (sym e ∙ ap admissionIn g) refl;
       reports = λ found. absurd (not-suc-le-zero found);
       leaves = λ _. (refl, refl);
     })
 
     pub admits : a ≡ Admitted → refusalOf t (length w) ≡ none
-    admits g = sym e ∙ ap R.admissionIn g
+    admits g = sym e ∙ ap admissionIn g
 
   module _ (a : refusalOf t (length w) ≡ none) (w₁ sheet₁ : List ℕ) (s : Search) (b : Begun t w₁ s) (z : sheet₁ ≡ zeros (length sheet)) where
     -- a machine, or row 6

@@ -10,9 +10,9 @@ use Rattle.records.specs.Unused.{unused}
 use Rattle.diagnostics.specs.declared.Search.{Search}
 use Rattle.diagnostics.specs.Pending.{pending}
 use Rattle.diagnostics.specs.Stands.{Stands}
-use Rattle.reader.specs.declared.Refusal.{Refusal}
-use Rattle.reader.specs.declared.Answer.the-variants.{Refused}
-use Rattle.reader.specs.Answer.{leavesWork}
+use Rattle.answer.specs.declared.Refusal.{Refusal}
+use Rattle.answer.specs.declared.Answer.the-variants.{Refused}
+use Rattle.answer.specs.Answer.{leavesWork}
 use Rattle.opening.specs.declared.Opened.{Opened}
 use Rattle.enter.specs.Records.{readIn, readRecords}
 

@@ -6,10 +6,9 @@ ghost use lib.ListN.{length};
 ghost use Rattle.language.specs.Outcome.{refusalOf};
 ghost use Rattle.opening.specs.Opens.{refusedBy, Opens};
 use diagnostics::Search;
-use reader::Answer;
-use reader::Refusal;
-use reader::admission;
-use reader::admission::Admission;
+use answer::Answer;
+use answer::Refusal;
+use admission::Admission;
 
 // Whether the text was admitted; how many diagnostics the log takes: none where it has too few records; the search for them, at its beginning; and the
 // answer.

@@ -31,14 +31,17 @@ use Rattle.assembler.specs.Records.{recordsOf}
 use Rattle.assembler.specs.Assembled.{Tokenized, Outcome}
 use Rattle.answered.specs.Ready.{linesOf, Ready}
 use Rattle.answered.proofs.Few.{diagnostics-few}
-use Rattle.reader.specs.declared.Refusal as R
-use Rattle.reader.specs.declared.Answer.{Answer}
-use Rattle.reader.specs.declared.Answer.the-variants.{Refused}
-use Rattle.reader.specs.declared.admission.Admission.{Admission}
-use Rattle.reader.specs.declared.admission.Admission.the-variants.{Admitted, Refused as NotAdmitted}
-use Rattle.reader.specs.Answer.{refusalIn, admissionIn, replyIn, readIn, untouched}
-use Rattle.reader.specs.Reading.{reportReply, answerRow, given, givenBy, leavesWorkNumber}
-use Rattle.reader.proofs.Admissions.{too-long, work-too-short}
+use Rattle.answer.specs.declared.Refusal as R
+use Rattle.answer.specs.declared.Answer.{Answer}
+use Rattle.answer.specs.declared.Answer.the-variants.{Refused}
+use Rattle.admission.specs.declared.Admission.{Admission}
+use Rattle.admission.specs.declared.Admission.the-variants.{Admitted, Refused as NotAdmitted}
+use Rattle.answer.specs.Answer.{refusalIn, replyIn, readIn, untouched}
+use Rattle.answer.specs.Words.{answerRow}
+use Rattle.admission.specs.Admission.{admissionIn}
+use Rattle.report.specs.Report.{reportReply}
+use Rattle.reader.specs.Reading.{given, givenBy, leavesWorkNumber}
+use Rattle.admission.proofs.Admissions.{too-long, work-too-short}
 use Rattle.reader.proofs.Outcomes.{refused-outcome, reported-outcome, machine-outcome}
 
 -- ---- refusals

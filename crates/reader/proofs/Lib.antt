@@ -1,5 +1,3 @@
-pub mod Admissions
-pub mod AnswerWords
 pub mod Reports
 pub mod Outcomes
 pub mod Calls

@@ -12,7 +12,7 @@ use Rattle.language.specs.Assembly as A
 use Rattle.language.specs.Outcome.{Refusal, refusalOf, zeros, machine, refused, ReadOutcome, readDiagnostics, readMachine, readWith, readOutcome}
 use Rattle.diag.specs.Log as D
 use Rattle.assembler.specs.Records.{recordsOf}
-use Rattle.reader.specs.Reading.{reportReply}
+use Rattle.report.specs.Report.{reportReply}
 use Rattle.reader.proofs.Reports.{sort-length, report-same}
 
 -- the lines of a text

@@ -16,9 +16,8 @@ use Rattle.diag.specs.Sort.{insertBy, insertAll, sortBy}
 use Rattle.diag.specs.Log as D
 use Rattle.diag.proofs.Cases.{by-test}
 use Rattle.diag.proofs.Records.{length-flat}
-use Rattle.diag.proofs.Logs.{log-sorted, log-cleared}
 use Rattle.assembler.specs.Records.{recordOf}
-use Rattle.reader.specs.Reading.{reportReply}
+use Rattle.report.specs.Report.{reportReply}
 
 -- ---- two stable sorts: the definition's inserts the first element last, before those that are not smaller; the log's the last element last, behind those
 -- that are not greater
@@ -120,20 +119,3 @@ report-same ds n s =
     rw (reportReply, readDiagnostics, D.logAfter, k, t, m, lt-leb (5 * length ds) n (omega arith), k))
     (λ t. let h : length ds ≤ n / 5 = ltb-false (n / 5) (length ds) t in
     rw (reportReply, readDiagnostics, D.logAfter, D.padded, k, t, m, le-leb (5 * length ds) n (omega arith), w, k, length-flat (D.sort (map recordOf ds)), m))
-
--- ---- what the function's returns ask for
-module _ (n k : ℕ) where
-  pub reply-refused : n / 5 < k → refused (logTooShort k) ≡ reportReply n k
-  unfolding reportReply
-  reply-refused h = rw (reportReply, lt-ltb (n / 5) k h)
-
-  pub reply-given : k ≤ n / 5 → diagnosed k ≡ reportReply n k
-  unfolding reportReply
-  reply-given h = rw (reportReply, le-ltb (n / 5) k h)
-
-module _ (w w′ : List ℕ) (k : ℕ) (ds : List Diagnostic) (is : D.logged w k ≡ D.appendAll (D.logged (replicate (length w) 0) 0) ds) where
-  pub cleared-after : length w / 5 < k → w′ ≡ replicate (length w) 0 → w′ ≡ D.logAfter (length w) (D.sort ds)
-  cleared-after h e = e ∙ log-cleared (length w) w k ds is (omega arith)
-
-  pub sorted-after : k ≤ length w / 5 → w′ ≡ D.flat (D.sort (D.records k w)) ++ drop (5 * k) w → w′ ≡ D.logAfter (length w) (D.sort ds)
-  sorted-after h e = log-sorted (length w) w k ds is w′ (omega arith) e

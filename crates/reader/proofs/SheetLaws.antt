@@ -24,7 +24,7 @@ use Rattle.infer.specs.States.{firstState}
 use Rattle.alphabet.specs.Alphabets.{gammaCodes}
 use Rattle.machine.specs.declared.Counts.{Counts}
 use Rattle.machine.specs.declared.Head.{Head}
-use Rattle.head.specs.Meaning.{countsIn, headIn}
+use Rattle.machine.specs.Meaning.{countsIn, headIn}
 use Rattle.head.specs.Heads.{blankAt, headAt}
 use Rattle.answered.specs.Ready.{linesOf, Ready}
 use Rattle.answered.specs.Sections.{Sections, sectionsOf, joined}
@@ -33,9 +33,9 @@ use Rattle.alphabet.proofs.SymbolWidths.{sigma-width, gamma-width}
 use Rattle.answered.proofs.Ties.{few, row-size, ties}
 use Rattle.answered.proofs.Sheets as T
 use Rattle.reader.specs.declared.sections.Ends.{Ends}
-use Rattle.reader.specs.declared.Refusal.the-variants.{SheetTooShort}
-use Rattle.reader.specs.declared.Answer.the-variants.{Machine, Refused}
-use Rattle.reader.specs.Answer.{readIn}
+use Rattle.answer.specs.declared.Refusal.the-variants.{SheetTooShort}
+use Rattle.answer.specs.declared.Answer.the-variants.{Machine, Refused}
+use Rattle.answer.specs.Answer.{readIn}
 use Rattle.reader.specs.Sheet.{endsOf, Written, Ordered, countsAt, spanFrom}
 use Rattle.language.specs.Machine.{Machine as Spec}
 use Rattle.reader.proofs.SectionLaws.{code-count}

@@ -1,4 +1,2 @@
-pub mod Answer
-pub mod Words
 pub mod Reading
 pub mod Sheet

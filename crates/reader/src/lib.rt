@@ -4,37 +4,14 @@ ghost use mathlib.Core.Bool.{true, false};
 ghost use mathlib.Core.Option.{none};
 ghost use lib.ListN.{length};
 ghost use Rattle.language.specs.Outcome.{refusalOf, readOutcome};
-ghost use Rattle.reader.specs.Answer.{readIn, leavesWork};
+ghost use Rattle.answer.specs.Answer.{readIn, leavesWork};
 ghost use Rattle.reader.specs.Reading.{given, givenBy, leavesWorkNumber};
 use admission::Admission;
-use machine::Head;
+use answer::Answer;
+use answer::words;
 
-pub mod admission;
-pub mod report;
 pub mod sections;
-pub mod words;
 pub mod written;
-
-// Why a call is refused (paper 01, "What a call returns").
-pub enum Refusal {
-    TextTooLong,
-    WorkTooShort,
-    // The length of the longest UTF-8 beginning.
-    InvalidUtf8(usize),
-    // The offset of the first character outside the set.
-    OutsideSet(usize),
-    // The number of diagnostics.
-    LogTooShort(usize),
-    // The words needed.
-    SheetTooShort(u64),
-}
-
-// What a reading call answers: a machine's head, the number of diagnostics, or a refusal.
-pub enum Answer {
-    Machine(Head),
-    Diagnostics(usize),
-    Refused(Refusal),
-}
 
 // Reads a text that is not refused.
 fn admitted(text: &[u8], work: &mut [u32], log: &mut [u32], sheet: &mut [u32]) -> Answer

@@ -4,9 +4,9 @@ use Prim.Native.Nat.{ℕ}
 use mathlib.Core.List.{List}
 use Rattle.diag.specs.declared.Diagnostic.{Diagnostic}
 use Rattle.language.specs.Outcome.{replyNumber}
-use Rattle.reader.specs.declared.Answer.{Answer}
-use Rattle.reader.specs.Answer.{replyIn}
-use Rattle.reader.specs.Reading.{answerRow}
+use Rattle.answer.specs.declared.Answer.{Answer}
+use Rattle.answer.specs.Answer.{replyIn}
+use Rattle.answer.specs.Words.{answerRow}
 use Rattle.enter.specs.Records.{RecordsOutcome, readIn}
 use Rattle.reading.specs.Given.{given, givenBy}
 

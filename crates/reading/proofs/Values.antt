@@ -25,9 +25,9 @@ use Rattle.diagnostics.specs.declared.Search.{Search}
 use Rattle.diagnostics.proofs.Search as S
 use Rattle.diagnostics.proofs.Search.Laws as S′
 use Rattle.records.proofs.Rows.{D}
-use Rattle.reader.specs.declared.Answer.{Answer}
-use Rattle.reader.proofs.Answer as Ans
-use Rattle.reader.proofs.Answer.Laws as Ans′
+use Rattle.answer.specs.declared.Answer.{Answer}
+use Rattle.answer.proofs.Answer as Ans
+use Rattle.answer.proofs.Answer.Laws as Ans′
 use Rattle.opening.specs.declared.Opened.{Opened}
 use Rattle.opening.proofs.Opened as O
 use Rattle.opening.proofs.Opened.Laws as O′

@@ -3,7 +3,7 @@ use Prim.Native.Nat.{ℕ}
 use mathlib.Core.List.{List}
 use Rattle.diag.specs.declared.Diagnostic.{Diagnostic}
 use Rattle.language.specs.Outcome.{replyNumber}
-use Rattle.reader.specs.Reading.{answerRow}
+use Rattle.answer.specs.Words.{answerRow}
 use Rattle.enter.specs.Records.{RecordsOutcome}
 
 -- its number, the row that is lent for the answer, the log and the sheet

@@ -3,15 +3,15 @@ ghost use mathlib.Core.Path.{_≡_};
 ghost use mathlib.Core.Bool.{true};
 ghost use Prim.Native.Nat.{_≤_};
 ghost use lib.ListN.{length};
-ghost use Rattle.reader.specs.Answer.{leavesWork};
+ghost use Rattle.answer.specs.Answer.{leavesWork};
 ghost use Rattle.reader.specs.Reading.{leavesWorkNumber};
 ghost use Rattle.enter.specs.Records.{readIn, readRecords};
 ghost use Rattle.opening.specs.Opens.{Reports, reported};
 ghost use Rattle.reading.specs.Given.{given, givenBy};
 use diag::Diagnostic;
 use diagnostics::Search;
-use reader::Answer;
-use reader::words;
+use answer::Answer;
+use answer::words;
 
 // The log of an admitted text: its first `errors` diagnostics, sorted, and unused records behind them.
 fn report(text: &[u8], work: &mut [u32], log: &mut [Diagnostic], search: Search, errors: usize)

@@ -12,10 +12,10 @@ use borrow.Author.Fill.{fill-more}
 use borrow.Author.Tests.{eq-eqb, ne-eqb, le-leb, lt-leb, lt-ltb, le-ltb}
 use Rattle.language.specs.Outcome.{ReadOutcome, readOutcome, replyWords, replyNumber, WriteOutcome, WriteReply, writeOutcome, writeWords}
 use Rattle.lexer.proofs.Scans.{byTest}
-use Rattle.reader.specs.declared.Refusal.the-variants.{TextTooLong, WorkTooShort, InvalidUtf8, OutsideSet, LogTooShort, SheetTooShort}
-use Rattle.reader.specs.declared.Answer.{Answer}
-use Rattle.reader.specs.declared.Answer.the-variants.{Machine, Diagnostics, Refused}
-use Rattle.reader.specs.Answer.{replyIn, readIn, leavesWork}
+use Rattle.answer.specs.declared.Refusal.the-variants.{TextTooLong, WorkTooShort, InvalidUtf8, OutsideSet, LogTooShort, SheetTooShort}
+use Rattle.answer.specs.declared.Answer.{Answer}
+use Rattle.answer.specs.declared.Answer.the-variants.{Machine, Diagnostics, Refused}
+use Rattle.answer.specs.Answer.{replyIn, readIn, leavesWork}
 use Rattle.reader.specs.Reading.{leavesWorkNumber}
 use Rattle.writer.specs.Given.{Given, given, givenBy, answerRow}
 use Rattle.replay.specs.Case.{wordAt, marked, wanted, leftFrom, left, rowsLeft, workLeft, byteWanted, outputFrom, outputLeft, outputAt, agrees, formAgrees, readingAgrees, writingAgrees}

@@ -193,7 +193,7 @@ fn answer_agrees(
     requires { ⌜ (40960 ≤ length (now before)) × (now work ≡ take (length (now work)) (now before)) × (length (now work) ≤ length (now before)) × (length (now log) ≤ length (now before)) × (length (now sheet) ≤ length (now before)) ⌝ }
     ensures { λ r. ⌜ r ≡ agrees (now (before .entry)) (now (case .entry)) (readOutcome (now (text .entry)) (length (now (work .entry))) (now (log .entry)) (now (sheet .entry))) ⌝ }
 {
-    let answer = reader::words::answer_words(reader::read(text, work, log, sheet));
+    let answer = answer::words::answer_words(reader::read(text, work, log, sheet));
     if left(before, case, 9, 36, &answer) {
         if rows_left(before, case, log, sheet) {
             work_left(answer[0], before, case, work)

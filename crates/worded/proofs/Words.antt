@@ -20,8 +20,8 @@ use Rattle.language.specs.Layout as L
 use Rattle.language.specs.Outcome.{Refusal, refusalOf, zeros, ReadOutcome, readOutcome, readWith, readMachine, readDiagnostics, wordsNeeded}
 use Rattle.language.proofs.Every.{byTest}
 use borrow.Author.Tests.{ltb-false}
-use Rattle.reader.specs.declared.Answer.{Answer}
-use Rattle.reader.specs.Answer.{readIn}
+use Rattle.answer.specs.declared.Answer.{Answer}
+use Rattle.answer.specs.Answer.{readIn}
 use Rattle.enter.specs.Records as Q
 use Rattle.enter.specs.Records.{readRecords}
 

@@ -3,10 +3,10 @@ ghost use mathlib.Core.Path.{_≡_};
 ghost use lib.ListN.{length, replicate};
 ghost use Rattle.language.specs.Outcome.{readOutcome};
 ghost use Rattle.records.specs.Unused.{unused};
-ghost use Rattle.reader.specs.Answer.{readIn};
+ghost use Rattle.answer.specs.Answer.{readIn};
 use diag::Diagnostic;
 use diag::Span;
-use reader::Answer;
+use answer::Answer;
 
 // The number of records.
 pub const RECORDS: usize = 1024;

@@ -10,11 +10,11 @@ use Rattle.language.specs.Outcome.{maxBytes, readOutcome, ReadOutcome, formOf, 
 use Rattle.language.proofs.Every.{byTest}
 use Rattle.machine.specs.declared.Head.{Head}
 use Rattle.machine.specs.Head.{headIn}
-use Rattle.head.specs.Meaning as H
-use Rattle.reader.specs.declared.Answer.{Answer}
-use Rattle.reader.specs.declared.Answer.the-variants.{Machine, Diagnostics, Refused}
-use Rattle.reader.specs.declared.Refusal.{Refusal}
-use Rattle.reader.specs.Answer as R
+use Rattle.machine.specs.Meaning as H
+use Rattle.answer.specs.declared.Answer.{Answer}
+use Rattle.answer.specs.declared.Answer.the-variants.{Machine, Diagnostics, Refused}
+use Rattle.answer.specs.declared.Refusal.{Refusal}
+use Rattle.answer.specs.Answer as R
 use Rattle.reader.specs.Reading.{leavesWorkNumber}
 use Rattle.formed.specs.Read.{ReadAs}
 use Rattle.formed.proofs.Readings.{machine-read}

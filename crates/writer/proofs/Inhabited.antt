@@ -22,8 +22,8 @@ use Rattle.machine.specs.declared.Head.{Head}
 use Rattle.machine.specs.declared.Span.{Span}
 use Rattle.machine.specs.declared.Kind.the-variants.{Transducer}
 use Rattle.machine.specs.declared.Decoder.the-variants.{Word}
-use Rattle.head.specs.Meaning.{headIn}
-use Rattle.reader.specs.declared.Answer.the-variants.{Machine}
+use Rattle.machine.specs.Meaning.{headIn}
+use Rattle.answer.specs.declared.Answer.the-variants.{Machine}
 use Rattle.writer.specs.declared.WriteAnswer.the-variants.{Written}
 use Rattle.writer.specs.Claim.{ReadCall, WriteCall, form, answered, Claim}
 use Rattle.writer.proofs.Claim.{claim}

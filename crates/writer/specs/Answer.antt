@@ -3,7 +3,7 @@ use Prim.Native.Nat.{ℕ}
 use mathlib.Core.Bool.{Bool, false}
 use mathlib.Core.List.{List}
 use Rattle.language.specs.Outcome as O
-use Rattle.reader.specs.Answer.{refusalIn}
+use Rattle.answer.specs.Answer.{refusalIn}
 use Rattle.writer.specs.declared.WriteAnswer.{WriteAnswer}
 use Rattle.writer.specs.declared.WriteAnswer.the-variants.{Written, Diagnostics, Refused, OutputTooShort}
 

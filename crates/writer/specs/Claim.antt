@@ -10,8 +10,8 @@ use Rattle.language.specs.Agreement as L
 use Rattle.language.specs.Lines.{readLines}
 use Rattle.language.specs.Outcome.{workNeeded, wordsNeeded, readOutcome}
 use Rattle.language.specs.Claim.{Lent, writing, Enough, Writable, formLeft, answerGiven, BothAgree}
-use Rattle.reader.specs.declared.Answer.{Answer}
-use Rattle.reader.specs.Answer.{readIn}
+use Rattle.answer.specs.declared.Answer.{Answer}
+use Rattle.answer.specs.Answer.{readIn}
 use Rattle.writer.specs.declared.WriteAnswer.{WriteAnswer}
 use Rattle.writer.specs.Answer.{writeIn}
 

@@ -7,15 +7,15 @@ ghost use lib.ListN.{length};
 ghost use Rattle.language.specs.Outcome.{ReadOutcome, formOf, writeForm, writeWith, writeOutcome};
 ghost use Rattle.machine.specs.Head.{headIn};
 ghost use Rattle.machine.specs.declared.Head.{Head};
-ghost use Rattle.reader.specs.declared.Answer.the-variants.{Machine};
-ghost use Rattle.reader.specs.Answer.{readIn, leavesWork as readLeaves};
+ghost use Rattle.answer.specs.declared.Answer.the-variants.{Machine};
+ghost use Rattle.answer.specs.Answer.{readIn, leavesWork as readLeaves};
 ghost use Rattle.reader.specs.Reading.{leavesWorkNumber};
 ghost use Rattle.formed.specs.Read.{ReadAs};
 ghost use Rattle.writer.specs.Answer.{writeReplyIn, writeIn, leavesWork};
 ghost use Rattle.writer.specs.Given.{given, givenBy};
 use machine::Head;
-use reader::Answer;
-use reader::Refusal;
+use answer::Answer;
+use answer::Refusal;
 
 pub mod words;
 

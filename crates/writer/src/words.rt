@@ -4,7 +4,7 @@ ghost use Rattle.language.specs.Outcome.{writeNumber, writeValue, writeWords};
 ghost use Rattle.writer.specs.Answer.{writeReplyIn};
 ghost use Rattle.writer.specs.Given.{answerRow};
 use crate::WriteAnswer;
-use reader::Answer;
+use answer::Answer;
 
 // The number of an answer.
 fn number(a: WriteAnswer) -> u32
@@ -12,8 +12,8 @@ fn number(a: WriteAnswer) -> u32
 {
     match a {
         WriteAnswer::Written(_) => 0,
-        WriteAnswer::Diagnostics(_) => reader::words::DIAGNOSTICS,
-        WriteAnswer::Refused(r) => reader::words::answer_number(Answer::Refused(r)),
+        WriteAnswer::Diagnostics(_) => answer::words::DIAGNOSTICS,
+        WriteAnswer::Refused(r) => answer::words::answer_number(Answer::Refused(r)),
         WriteAnswer::OutputTooShort(_) => 7,
     }
 }
@@ -25,7 +25,7 @@ fn value(a: WriteAnswer) -> u64
     match a {
         WriteAnswer::Written(n) => n as u64,
         WriteAnswer::Diagnostics(n) => n as u64,
-        WriteAnswer::Refused(r) => reader::words::answer_value(Answer::Refused(r)),
+        WriteAnswer::Refused(r) => answer::words::answer_value(Answer::Refused(r)),
         WriteAnswer::OutputTooShort(n) => n,
     }
 }
@@ -46,7 +46,7 @@ fn answer_words(a: WriteAnswer) -> [u32; 36]
 pub fn give(a: WriteAnswer, row: &mut [u32]) -> u32
     ensures { λ n. ⌜ (n ≡ writeNumber (writeReplyIn a)) × (now (row .exit) ≡ answerRow (writeReplyIn a) (now (row .entry))) ⌝ }
 {
-    if row.len() < reader::words::ANSWER_WORDS {
+    if row.len() < answer::words::ANSWER_WORDS {
         return number(a);
     }
     let words = answer_words(a);

@@ -10,9 +10,9 @@ use Rattle.language.specs.Outcome as O
 use Rattle.language.specs.Outcome.{readOutcome, formOf, writeWith}
 use Rattle.machine.specs.declared.Head.{Head}
 use Rattle.machine.specs.Head.{headIn}
-use Rattle.reader.specs.declared.Answer.{Answer}
-use Rattle.reader.specs.declared.Answer.the-variants.{Machine}
-use Rattle.reader.specs.Answer as R
+use Rattle.answer.specs.declared.Answer.{Answer}
+use Rattle.answer.specs.declared.Answer.the-variants.{Machine}
+use Rattle.answer.specs.Answer as R
 use Rattle.reader.specs.Reading.{leavesWorkNumber}
 use Rattle.enter.specs.Records as Q
 use Rattle.enter.specs.Records.{readRecords}

@@ -9,9 +9,9 @@ use types.Kit.{Given}
 use denote.RattleType.{RattleType}
 use denote.Laws.{Is}
 use denote.Enum.Laws as EL
-use Rattle.reader.specs.declared.Answer.{Answer}
-use Rattle.reader.proofs.Answer as RA
-use Rattle.reader.proofs.Answer.Laws as RA′
+use Rattle.answer.specs.declared.Answer.{Answer}
+use Rattle.answer.proofs.Answer as RA
+use Rattle.answer.proofs.Answer.Laws as RA′
 use Rattle.writer.specs.declared.WriteAnswer.{WriteAnswer}
 use Rattle.writer.proofs.WriteAnswer as WA
 use Rattle.writer.proofs.WriteAnswer.Laws as WA′

@@ -11,8 +11,8 @@ use Rattle.language.specs.Agreement as L
 use Rattle.language.specs.Lines.{readLines}
 use Rattle.language.specs.Outcome.{workNeeded, wordsNeeded, formOf, machine, diagnosed, refused, written, notWritten, notRead}
 use Rattle.language.specs.Claim.{Writable, BothAgree}
-use Rattle.reader.specs.declared.Answer.{Answer}
-use Rattle.reader.specs.Answer.{replyIn}
+use Rattle.answer.specs.declared.Answer.{Answer}
+use Rattle.answer.specs.Answer.{replyIn}
 use Rattle.enter.specs.Records.{readIn, readRecords}
 use Rattle.writer.specs.declared.WriteAnswer.{WriteAnswer}
 use Rattle.writer.specs.Answer.{writeReplyIn}

@@ -37,15 +37,16 @@ use Rattle.records.proofs.Lent.{Lent, Seen, named-as, lends, back, copies}
 use Rattle.records.proofs.Asked.{asks}
 use Rattle.records.proofs.Packed.{lent, seen, held, Packed, packs, unpacks, hands-back}
 use Rattle.records.proofs.Taken.{retakes}
-use Rattle.reader.specs.Answer.{replyIn, leavesWork}
+use Rattle.answer.specs.Answer.{replyIn, leavesWork}
 use Rattle.enter.specs.Records.{readIn, readRecords}
 use Rattle.reading.proofs.Values.{textTy, wordsTy, logTy, wordRef, recordRef, Aᵀ, answerVal, answerTy, IsAnswer, answer-typed, answer-is, owns-answer}
-use Rattle.reader.specs.Reading.{answerRow, leavesWorkNumber}
+use Rattle.reader.specs.Reading.{leavesWorkNumber}
+use Rattle.answer.specs.Words.{answerRow}
 use Rattle.language.specs.Outcome.{replyNumber}
 use Rattle.reader.proofs.Calls.{given-work}
-use Rattle.reader.proofs.words.give as giv
-use Rattle.reader.proofs.words.give.Symbol as giv-def
-use Rattle.reader.proofs.words.give.Met as giv-met
+use Rattle.answer.proofs.words.give as giv
+use Rattle.answer.proofs.words.give.Symbol as giv-def
+use Rattle.answer.proofs.words.give.Met as giv-met
 use Rattle.reading.specs.Given.{given, givenBy}
 use Rattle.reading.proofs.Exported.{given-is}
 use Rattle.reading.proofs.read as rd
@@ -180,4 +181,4 @@ pevzoncs-read-records-spec 𝓤 H 𝓜 𝓖 𝓡 =
     (tables 𝓤 H 𝓜 𝓡 code.env .C) (tables 𝓤 H 𝓜 𝓡 code.env .Λ) key code.function (code.unfolded 𝓤 H 𝓜 𝓡)
     (meets 𝓤 H (𝓖 .A) (givenOf 𝓤 H 𝓜 𝓖) (𝓜 .mem) (𝓡 .run) (tablesOf 𝓤 H 𝓜 (tables 𝓤 H 𝓜 𝓡 code.env))
     (cited 𝓤 H (tripleOf 𝓤 H (𝓖 .A) rd.signature (rd.spec 𝓤 H (𝓖 .A) (𝓜 .mem) (𝓡 .run))) 𝓜 𝓡 code.env rd-def.name rd-def.routine code.calls-reading·read (rd-met.met 𝓤 H 𝓜 𝓖 𝓡))
-    (cited 𝓤 H (tripleOf 𝓤 H (𝓖 .A) giv.signature (giv.spec 𝓤 H (𝓖 .A) (𝓜 .mem) (𝓡 .run))) 𝓜 𝓡 code.env giv-def.name giv-def.routine code.calls-reader·words·give (giv-met.met 𝓤 H 𝓜 𝓖 𝓡)))
+    (cited 𝓤 H (tripleOf 𝓤 H (𝓖 .A) giv.signature (giv.spec 𝓤 H (𝓖 .A) (𝓜 .mem) (𝓡 .run))) 𝓜 𝓡 code.env giv-def.name giv-def.routine code.calls-answer·words·give (giv-met.met 𝓤 H 𝓜 𝓖 𝓡)))

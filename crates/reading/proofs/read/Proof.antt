@@ -38,7 +38,7 @@ use Rattle.records.proofs.Lent.{Lent, Seen, named-as, lends, back, copies}
 use Rattle.records.proofs.Asked.{asks, asks-last}
 use Rattle.records.proofs.Packed.{lent, seen, held, Packed, packs, unpacks, hands-back, number}
 use Rattle.records.proofs.Taken.{retakes}
-use Rattle.reader.specs.Answer.{leavesWork}
+use Rattle.answer.specs.Answer.{leavesWork}
 use Rattle.opening.specs.declared.Opened.{Opened}
 use Rattle.enter.specs.Records.{readIn, readRecords}
 use Rattle.opening.specs.Opens.{reported, Opens}

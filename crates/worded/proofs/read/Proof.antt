@@ -47,10 +47,10 @@ use Rattle.records.proofs.Packed.{lent, seen, held, endsOf, Packed, packs, unpa
 use Rattle.records.proofs.spill as spl
 use Rattle.records.proofs.spill.Symbol as spl-def
 use Rattle.records.proofs.spill.Met as spl-met
-use Rattle.reader.specs.declared.Answer.{Answer}
-use Rattle.reader.specs.Answer as R
-use Rattle.reader.proofs.Answer as RA
-use Rattle.reader.proofs.Answer.Laws as RA′
+use Rattle.answer.specs.declared.Answer.{Answer}
+use Rattle.answer.specs.Answer as R
+use Rattle.answer.proofs.Answer as RA
+use Rattle.answer.proofs.Answer.Laws as RA′
 use Rattle.enter.specs.Records.{readIn, readRecords}
 use Rattle.reading.proofs.HandedOn.{told, shares-on}
 use Rattle.reading.proofs.read as red

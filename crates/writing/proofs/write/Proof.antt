@@ -38,8 +38,8 @@ use Rattle.records.proofs.Lent.{named-as, lends, back, copies}
 use Rattle.records.proofs.Asked.{asks}
 use Rattle.records.proofs.Taken.{retakes}
 use Rattle.records.proofs.Packed.{lent, seen, held, endsOf, Packed, packs, unpacks, hands-back}
-use Rattle.reader.specs.declared.Answer.{Answer}
-use Rattle.reader.specs.Answer as R
+use Rattle.answer.specs.declared.Answer.{Answer}
+use Rattle.answer.specs.Answer as R
 use Rattle.enter.specs.Records.{readIn, readRecords}
 use Rattle.writer.specs.declared.WriteAnswer.{WriteAnswer}
 use Rattle.writer.specs.Answer as W′
