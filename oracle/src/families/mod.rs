@@ -2,6 +2,7 @@
 
 mod damaged;
 mod examples;
+mod filled;
 mod grammar;
 pub mod limits;
 mod random;
@@ -30,10 +31,14 @@ pub enum Family {
     Changed,
     /// Several descriptions one behind the other.
     Joined,
+    /// Short texts over a second alphabet, of white space, quotes and blanks, each exactly once.
+    Odd,
+    /// Lines of every form, filled with tokens that may not stand there.
+    Filled,
 }
 
 impl Family {
-    pub const ALL: [Self; 8] = [
+    pub const ALL: [Self; 10] = [
         Self::Grammar,
         Self::Damaged,
         Self::Soup,
@@ -42,6 +47,8 @@ impl Family {
         Self::Limits,
         Self::Changed,
         Self::Joined,
+        Self::Odd,
+        Self::Filled,
     ];
 
     /// Those of which answers are stored for the gate.
@@ -65,6 +72,8 @@ impl Family {
             Self::Limits => "limits",
             Self::Changed => "changed",
             Self::Joined => "joined",
+            Self::Odd => "odd",
+            Self::Filled => "filled",
         }
     }
 
@@ -73,7 +82,7 @@ impl Family {
         Self::ALL.into_iter().find(|family| family.name() == name)
     }
 
-    /// The text with number `index`. For `Short`, `Lines` and `Changed` the seed is an offset into
+    /// The text with number `index`. For `Short`, `Odd`, `Lines` and `Changed` the seed is an offset into
     /// the list of all texts, for `Limits` it means nothing.
     pub fn text(self, index: u64, seed: u64) -> Vec<u8> {
         match self {
@@ -85,6 +94,8 @@ impl Family {
             Self::Limits => limits::text(index),
             Self::Changed => examples::changed(seed + index, &mut self.random(index, seed)),
             Self::Joined => examples::joined(&mut self.random(index, seed)),
+            Self::Odd => short::odd(seed + index).into_bytes(),
+            Self::Filled => filled::text(&mut self.random(index, seed)).into_bytes(),
         }
     }
 
@@ -104,7 +115,7 @@ impl Family {
             Self::Soup => 10,
             Self::Short | Self::Lines => 15,
             Self::Limits => 100,
-            Self::Changed | Self::Joined => 10,
+            Self::Changed | Self::Joined | Self::Odd | Self::Filled => 10,
         }
     }
 
@@ -133,7 +144,7 @@ impl Selection {
                 Some(_) => return None,
             };
             let seed = match family {
-                Family::Short | Family::Lines => 0,
+                Family::Short | Family::Odd | Family::Lines => 0,
                 _ => self.seed,
             };
             Some((family, family.at_most(count), seed))
