@@ -2,6 +2,7 @@
 
 mod damaged;
 mod examples;
+mod filled;
 mod grammar;
 pub mod limits;
 mod random;
@@ -31,6 +32,10 @@ pub enum Family {
     Changed,
     /// Several descriptions one behind the other.
     Joined,
+    /// Short texts over a second alphabet, of white space, quotes and blanks, each exactly once.
+    Odd,
+    /// Lines of every form, filled with tokens that may not stand there.
+    Filled,
     /// Lines of several descriptions in any order, some cut and joined.
     Spliced,
     /// Texts of many names that are alike.
@@ -38,7 +43,7 @@ pub enum Family {
 }
 
 impl Family {
-    pub const ALL: [Self; 10] = [
+    pub const ALL: [Self; 12] = [
         Self::Grammar,
         Self::Damaged,
         Self::Soup,
@@ -47,6 +52,8 @@ impl Family {
         Self::Limits,
         Self::Changed,
         Self::Joined,
+        Self::Odd,
+        Self::Filled,
         Self::Spliced,
         Self::Named,
     ];
@@ -72,6 +79,8 @@ impl Family {
             Self::Limits => "limits",
             Self::Changed => "changed",
             Self::Joined => "joined",
+            Self::Odd => "odd",
+            Self::Filled => "filled",
             Self::Spliced => "spliced",
             Self::Named => "named",
         }
@@ -82,7 +91,7 @@ impl Family {
         Self::ALL.into_iter().find(|family| family.name() == name)
     }
 
-    /// The text with number `index`. For `Short`, `Lines` and `Changed` the seed is an offset into
+    /// The text with number `index`. For `Short`, `Odd`, `Lines` and `Changed` the seed is an offset into
     /// the list of all texts, for `Limits` it means nothing.
     pub fn text(self, index: u64, seed: u64) -> Vec<u8> {
         match self {
@@ -94,6 +103,8 @@ impl Family {
             Self::Limits => limits::text(index),
             Self::Changed => examples::changed(seed + index, &mut self.random(index, seed)),
             Self::Joined => examples::joined(&mut self.random(index, seed)),
+            Self::Odd => short::odd(seed + index).into_bytes(),
+            Self::Filled => filled::text(&mut self.random(index, seed)).into_bytes(),
             Self::Spliced => spliced::spliced(&mut self.random(index, seed)),
             Self::Named => spliced::named(&mut self.random(index, seed)),
         }
@@ -115,7 +126,7 @@ impl Family {
             Self::Soup => 10,
             Self::Short | Self::Lines => 15,
             Self::Limits => 100,
-            Self::Changed | Self::Joined | Self::Spliced => 10,
+            Self::Changed | Self::Joined | Self::Odd | Self::Filled | Self::Spliced => 10,
             Self::Named => 1,
         }
     }
@@ -145,7 +156,7 @@ impl Selection {
                 Some(_) => return None,
             };
             let seed = match family {
-                Family::Short | Family::Lines => 0,
+                Family::Short | Family::Odd | Family::Lines => 0,
                 _ => self.seed,
             };
             Some((family, family.at_most(count), seed))

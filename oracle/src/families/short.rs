@@ -5,6 +5,12 @@ const CHARACTERS: [&str; 16] = [
     "\n", " ", "/", "'", "\"", "\\", "a", "_", "0", "Q", "F", "=", "{", "}", ",", "δ",
 ];
 
+/// Characters that such a list leaves out: all white space that is not ASCII, a carriage return, the
+/// zero byte, both blanks, an escape's letter, a direction, `*`.
+const ODD: [&str; 16] = [
+    "\n", " ", "/", "'", "\"", "\\", "n", "_", "0", "\r", "\u{85}", "\u{A0}", "\0", "␣", "L", "*",
+];
+
 /// The lines, one of each kind that the assembler tells apart.
 const LINES: [&str; 10] = [
     "\n",
@@ -22,6 +28,11 @@ const LINES: [&str; 10] = [
 /// Text number `index` over the characters; number 0 is empty.
 pub fn characters(index: u64) -> String {
     spell(index, &CHARACTERS)
+}
+
+/// Text number `index` over the odd characters; number 0 is empty.
+pub fn odd(index: u64) -> String {
+    spell(index, &ODD)
 }
 
 /// Text number `index` over the lines; number 0 is empty.
