@@ -19,32 +19,23 @@ use Rattle.tokens.specs.declared.Token.{Token}
 use Rattle.parser.specs.Row.{peek}
 use Rattle.equal_names.specs.Rows.{rows, Kept}
 use Rattle.equal_names.specs.Names.{isWord, sameWord, firstEqual, Interned}
-use Rattle.equal_names.specs.Index.{step, fourAt, restOf, hashFrom, letterOf, slotIn, slotOf, stops, filled, Probed, Room, Reached, Indexed, Tried}
+use Rattle.equal_names.specs.Index.{step, fourAt, restOf, hashFrom, letterOf, front, final, slotIn, slotOf, stops, filled, Probed, Room, Reached, Indexed, Tried}
 use Rattle.equal_names.proofs.NameLaws.{length-rows, kept-rows, kept-refl, kept-trans, word-part, first-before, first-equal, first-word, first-part, word-yes, partOf, first-same, first-again}
 
 by-equal : {X : Type 0} (a b : ℕ) → (a ≡ b → X) → ((a ≡ b → ⊥) → X) → X
 by-equal a b f g = by-test (eqb a b) (λ e. f (eqb-true a b e)) (λ n. g (λ q. let z : true ≡ false = sym (eq-eqb a b q) ∙ n in let o : _≡_ {A = ℕ} 0 1 = cc in omega arith))
 
 -- ---- the hash
-pub product-low : (h q k : ℕ) → h < 2 ^ 33 → q < 2 ^ 32 → k < 2 ^ 30 → (h + q) * k ≤ 12884901888 * 1073741824
-product-low h q k l b m =
-    let x : (h + q) * k ≤ 12884901888 * k = mul-le-mul-right {m = h + q} {n = 12884901888} k (omega arith) in
-    let y : 12884901888 * k ≤ 12884901888 * 1073741824 = mul-le-mul-left {m = k} {n = 1073741824} 12884901888 (omega arith) in
-    omega arith
+pub step-low : (h q : ℕ) → step h q < 2 ^ 30
+step-low h q = omega arith
 
-pub fold-low : (x : ℕ) → x < 2 ^ 64 → x % 4294967296 + x / 4294967296 < 2 ^ 33
-fold-low x h = omega arith
-
-pub step-low : (h q k : ℕ) → h < 2 ^ 33 → q < 2 ^ 32 → k < 2 ^ 30 → step k h q < 2 ^ 33
-step-low h q k l b m = fold-low ((h + q) * k) (omega (arith, product-low h q k l b m))
-
-short-hash : (k h : ℕ) (l : List ℕ) → length l < 4 → step k h (restOf l) ≡ hashFrom k h l
+short-hash : (h : ℕ) (l : List ℕ) → length l < 4 → step h (restOf l) ≡ hashFrom h l
 unfolding hashFrom restOf
-short-hash k h [] n = refl
-short-hash k h (a ∷ []) n = refl
-short-hash k h (a ∷ b ∷ []) n = refl
-short-hash k h (a ∷ b ∷ c ∷ []) n = refl
-short-hash k h (a ∷ b ∷ c ∷ d ∷ r) n = absurd (omega arith)
+short-hash h [] n = refl
+short-hash h (a ∷ []) n = refl
+short-hash h (a ∷ b ∷ []) n = refl
+short-hash h (a ∷ b ∷ c ∷ []) n = refl
+short-hash h (a ∷ b ∷ c ∷ d ∷ r) n = absurd (omega arith)
 
 four-front : (name : List ℕ) (i : ℕ) → i + 4 ≤ length name → drop i name ≡ getD name i 0 ∷ getD name (i + 1) 0 ∷ getD name (i + 2) 0 ∷ getD name (i + 3) 0 ∷ drop (i + 4) name
 four-front name i h =
@@ -58,14 +49,14 @@ four-front name i h =
     ∙ ap (λ (l : List ℕ). getD name (i + 2) 0 ∷ l) (ap (λ (j : ℕ). drop j name) e₃ ∙ drop-cons name (i + 3) 0 (omega arith)
     ∙ ap (λ (l : List ℕ). getD name (i + 3) 0 ∷ l) (ap (λ (j : ℕ). drop j name) e₄))))
 
-module _ (name : List ℕ) (k h i : ℕ) (inv : hashFrom k h (drop i name) ≡ hashFrom k 0 name) where
-  pub hash-on : (q s : ℕ) → 4 ≤ length name - i → q ≡ fourAt name i → s ≡ step k h q → hashFrom k s (drop (i + 4) name) ≡ hashFrom k 0 name
+module _ (name : List ℕ) (h i : ℕ) (inv : hashFrom h (drop i name) ≡ hashFrom 0 name) where
+  pub hash-on : (q s : ℕ) → 4 ≤ length name - i → q ≡ fourAt name i → s ≡ step h q → hashFrom s (drop (i + 4) name) ≡ hashFrom 0 name
   unfolding hashFrom
   hash-on q s l e z =
-      ap (λ (s : ℕ). hashFrom k s (drop (i + 4) name)) (z ∙ ap (step k h) e) ∙ sym (ap (hashFrom k h) (four-front name i (omega arith))) ∙ inv
+      ap (λ (s : ℕ). hashFrom s (drop (i + 4) name)) (z ∙ ap (step h) e) ∙ sym (ap (hashFrom h) (four-front name i (omega arith))) ∙ inv
 
-  pub hash-end : (q s : ℕ) → i ≤ length name → length name - i < 4 → q ≡ restOf (drop i name) → s ≡ step k h q → s ≡ hashFrom k 0 name
-  hash-end q s m l e z = z ∙ ap (step k h) e ∙ short-hash k h (drop i name) (omega (arith, length-drop i name)) ∙ inv
+  pub hash-end : (q s : ℕ) → i ≤ length name → length name - i < 4 → q ≡ restOf (drop i name) → s ≡ step h q → s ≡ hashFrom 0 name
+  hash-end q s m l e z = z ∙ ap (step h) e ∙ short-hash h (drop i name) (omega (arith, length-drop i name)) ∙ inv
 
 -- the last bytes
 last : (n : ℕ) → n < 4 → (n ≡ 0 → ⊥) → (n ≡ 1 → ⊥) → (n ≡ 2 → ⊥) → n ≡ 3
@@ -150,29 +141,38 @@ letter-one [] letters h m = absurd (omega arith)
 letter-one (c ∷ []) letters h m = refl
 letter-one (c ∷ d ∷ r) letters h m = absurd (omega arith)
 
-pub slot-letter : (text : List ℕ) (letters k span : ℕ) (t : Token) (c : ℕ) → c ≡ letterOf (part text (t .start) (t .end)) → c < letters → c ≡ slotOf text letters k span t
+pub slot-letter : (text : List ℕ) (letters span : ℕ) (t : Token) (c : ℕ) → c ≡ letterOf (part text (t .start) (t .end)) → c < letters → c ≡ slotOf text letters span t
 unfolding slotOf slotIn
-slot-letter text letters k span t c e h = e ∙ rw (lt-ltb (letterOf (part text (t .start) (t .end))) letters (omega (arith, e)))
+slot-letter text letters span t c e h = e ∙ rw (lt-ltb (letterOf (part text (t .start) (t .end))) letters (omega (arith, e)))
 
-pub slot-is : (text : List ℕ) (letters k span : ℕ) (t : Token) (name : List ℕ) (h : ℕ) → name ≡ part text (t .start) (t .end) → letters ≤ letterOf (part text (t .start) (t .end)) → h ≡ hashFrom k 0 name → letters + h % 4294967296 * (span - letters) / 4294967296 ≡ slotOf text letters k span t
+pub slot-is : (text : List ℕ) (letters span : ℕ) (t : Token) (name : List ℕ) (h c r : ℕ) → name ≡ part text (t .start) (t .end) → letters ≤ letterOf (part text (t .start) (t .end)) → h ≡ hashFrom 0 (take (length name - 1 - 0) (drop 0 name)) → c ≡ final name
+    → r ≡ letters + h * (span - letters - 32) / 1073741824 + c % 32 → r ≡ slotOf text letters span t
 unfolding slotOf slotIn
-slot-is text letters k span t name h e l q =
-    ap (λ (h : ℕ). letters + h % 4294967296 * (span - letters) / 4294967296) (q ∙ ap (hashFrom k 0) e)
+slot-is text letters span t name h c r e l q z o =
+    let whole : length name - 1 - 0 ≡ length name - 1 = omega arith in
+    o ∙ ap (λ (h : ℕ). letters + h * (span - letters - 32) / 1073741824 + c % 32) (q ∙ ap (λ (n : ℕ). hashFrom 0 (take n name)) whole) ∙ ap (λ (c : ℕ). letters + hashFrom 0 (front name) * (span - letters - 32) / 1073741824 + c % 32) z
+    ∙ ap (λ (l : List ℕ). letters + hashFrom 0 (front l) * (span - letters - 32) / 1073741824 + final l % 32) e
     ∙ rw (le-ltb (letterOf (part text (t .start) (t .end))) letters l)
 
-pub slot-product : (h span : ℕ) → span < 2 ^ 32 → h % 4294967296 * span ≤ 4294967295 * 4294967295
-slot-product h span s =
-    let x : h % 4294967296 * span ≤ 4294967295 * span = mul-le-mul-right {m = h % 4294967296} {n = 4294967295} span (omega arith) in
-    let y : 4294967295 * span ≤ 4294967295 * 4294967295 = mul-le-mul-left {m = span} {n = 4294967295} 4294967295 (omega arith) in
+pub slot-none : (text : List ℕ) (letters span : ℕ) (t : Token) (name : List ℕ) → name ≡ part text (t .start) (t .end) → letters ≤ letterOf (part text (t .start) (t .end)) → length name ≡ 0
+    → letters ≡ slotOf text letters span t
+unfolding hashFrom restOf
+slot-none text letters span t [] e l n = slot-is text letters span t [] 0 0 letters e l refl refl (omega arith)
+slot-none text letters span t (c ∷ r) e l n = absurd (omega arith)
+
+pub slot-product : (h room : ℕ) → h < 2 ^ 30 → room < 2 ^ 34 → h * room ≤ 1073741823 * 17179869184
+slot-product h room l s =
+    let x : h * room ≤ 1073741823 * room = mul-le-mul-right {m = h} {n = 1073741823} room (omega arith) in
+    let y : 1073741823 * room ≤ 1073741823 * 17179869184 = mul-le-mul-left {m = room} {n = 17179869184} 1073741823 (omega arith) in
     omega arith
 
-pub scaled-low : (h span : ℕ) → 0 < span → h % 4294967296 * span / 4294967296 < span
-scaled-low h span p =
-    let x : h % 4294967296 * span ≤ 4294967295 * span = mul-le-mul-right {m = h % 4294967296} {n = 4294967295} span (omega arith) in
+scaled-low : (h room : ℕ) → h < 2 ^ 30 → h * room / 1073741824 ≤ room
+scaled-low h room l =
+    let x : h * room ≤ 1073741824 * room = mul-le-mul-right {m = h} {n = 1073741824} room (omega arith) in
     omega arith
 
-pub slot-low : (h letters span : ℕ) → letters < span → letters + h % 4294967296 * (span - letters) / 4294967296 < span
-slot-low h letters span p = omega (arith, scaled-low h (span - letters) (omega arith))
+pub slot-low : (h letters span c : ℕ) → h < 2 ^ 30 → letters + 32 ≤ span → letters + h * (span - letters - 32) / 1073741824 + c % 32 < span
+slot-low h letters span c l p = omega (arith, scaled-low h (span - letters - 32) l)
 
 -- ---- a slot
 module _ (text : List ℕ) (ts : List Token) (t : Token) (v : ℕ) where
@@ -231,11 +231,11 @@ stored w slot name x v e = ap (λ (v : ℕ). set (set w slot v) name (v - 1)) e
 pub tried-false : {P : Type 0} {a : ℕ} {w₀ w : List ℕ} → Kept a w₀ w → Tried P a w₀ w false
 tried-false k = record { kept = k; done = λ e. absurd (let o : _≡_ {A = ℕ} 0 1 = cc in omega arith) }
 
-module _ (text : List ℕ) (count a b letters span window k : ℕ) (w : List ℕ) (room : Room count a b letters span window k w) where
+module _ (text : List ℕ) (count a b letters span window : ℕ) (w : List ℕ) (room : Room count a b letters span window w) where
   pub room-rows : 4 * count ≤ length w
   room-rows = omega (arith, room .tokens, room .words, room .table)
 
-module _ (text : List ℕ) (count a b letters span window k : ℕ) (w : List ℕ) (x : ℕ) (room : Room count a b letters span window k w) (ix : Indexed text (rows count w) a b letters span window k w x) (low : x < count) (t : Token)
+module _ (text : List ℕ) (count a b letters span window : ℕ) (w : List ℕ) (x : ℕ) (room : Room count a b letters span window w) (ix : Indexed text (rows count w) a b letters span window w x) (low : x < count) (t : Token)
     (at-x : t ≡ peek (rows count w) x) where
   abbrev ts : List Token
   ts = rows count w
@@ -244,12 +244,12 @@ module _ (text : List ℕ) (count a b letters span window k : ℕ) (w : List ℕ
   u = peek (rows count w) x
 
   inside : x < length ts
-  inside = omega (arith, length-rows count w (room-rows text count a b letters span window k w room))
+  inside = omega (arith, length-rows count w (room-rows text count a b letters span window w room))
 
-  pub enter-full : Tried (Indexed text ts a b letters span window k w (x + 1)) a w w false
+  pub enter-full : Tried (Indexed text ts a b letters span window w (x + 1)) a w w false
   enter-full = tried-false (kept-refl a w)
 
-  pub enter-other : (t .kind ≡ 0 → ⊥) → Tried (Indexed text ts a b letters span window k w (x + 1)) a w w true
+  pub enter-other : (t .kind ≡ 0 → ⊥) → Tried (Indexed text ts a b letters span window w (x + 1)) a w w true
   enter-other n =
       let no : isWord u ≡ false = ap isWord (sym at-x) ∙ ne-eqb (t .kind) 0 n in
       let before : (y : ℕ) → y < x + 1 → isWord (peek ts y) ≡ true → y < x =
@@ -260,7 +260,7 @@ module _ (text : List ℕ) (count a b letters span window k : ℕ) (w : List ℕ
             record { names = λ y h e. ix .names y (before y h e) e; held = ix .held; reached = λ y h e. ix .reached y (before y h e) e; letter-word = ix .letter-word; letter-part = ix .letter-part };
       }
 
-  module _ (kind : t .kind ≡ 0) (s d : ℕ) (slot : s ≡ slotOf text letters k span t) (slot-in : s < span) (probed : Probed text ts w (b + s) window t d) (short : d < window) (one : (c : ℕ) → c < letters → b + c ≡ b + s + d → partOf text t ≡ c ∷ []) where
+  module _ (kind : t .kind ≡ 0) (s d : ℕ) (slot : s ≡ slotOf text letters span t) (slot-in : s < span) (probed : Probed text ts w (b + s) window t d) (short : d < window) (one : (c : ℕ) → c < letters → b + c ≡ b + s + d → partOf text t ≡ c ∷ []) where
     abbrev f : ℕ
     f = firstEqual text u 0 ts
 
@@ -276,12 +276,12 @@ module _ (text : List ℕ) (count a b letters span window k : ℕ) (w : List ℕ
     p : Probed text ts w (b + s) window u d
     p = subst (λ (t : Token). Probed text ts w (b + s) window t d) at-x probed
 
-    own-slot : slotOf text letters k span u ≡ s
-    own-slot = ap (slotOf text letters k span) (sym at-x) ∙ sym slot
+    own-slot : slotOf text letters span u ≡ s
+    own-slot = ap (slotOf text letters span) (sym at-x) ∙ sym slot
 
-    same-slot : (y : ℕ) → sameWord text u (peek ts y) ≡ true → slotOf text letters k span (peek ts y) ≡ s
+    same-slot : (y : ℕ) → sameWord text u (peek ts y) ≡ true → slotOf text letters span (peek ts y) ≡ s
     unfolding slotOf
-    same-slot y e = ap (slotIn letters k span) (word-part text u (peek ts y) e) ∙ own-slot
+    same-slot y e = ap (slotIn letters span) (word-part text u (peek ts y) e) ∙ own-slot
 
     -- an empty slot ends the search of a word that is the first of its name
     empty-first : v ≡ 0 → f ≡ x
@@ -290,8 +290,8 @@ module _ (text : List ℕ) (count a b letters span window k : ℕ) (w : List ℕ
         never : (f ≡ x → ⊥) → ⊥
         never n =
             let fl : f < x = omega (arith, first-before text ts x inside word) in
-            let r : Reached text ts b letters span k w (peek ts f) = ix .reached f fl (first-word text ts x inside word) in
-            let sl : slotOf text letters k span (peek ts f) ≡ s = same-slot f (first-equal text ts x inside word) in
+            let r : Reached text ts b letters span w (peek ts f) = ix .reached f fl (first-word text ts x inside word) in
+            let sl : slotOf text letters span (peek ts f) ≡ s = same-slot f (first-equal text ts x inside word) in
             let h : getD w (b + s + r .steps) 0 ≡ f + 1 = ap (λ (s : ℕ). getD w (b + s + r .steps) 0) (sym sl) ∙ r .here ∙ ap (λ (n : ℕ). n + 1) (first-again text ts x inside word) in
             let less : r .steps < d → ⊥ = λ l.
             let g : getD w (b + s + r .steps) 0 - 1 ≡ f = omega arith in
@@ -336,7 +336,7 @@ module _ (text : List ℕ) (count a b letters span window k : ℕ) (w : List ℕ
           ap (λ (l : List ℕ). getD l (a + y) 0) e′ ∙ getD-set-other (set w j (f + 1)) (a + x) (a + y) f 0 (λ q. omega arith)
           ∙ getD-set-other w j (a + y) (f + 1) 0 (λ q. omega (arith, room .words))
 
-      itself : Reached text ts b letters span k w′ u
+      itself : Reached text ts b letters span w′ u
       itself = record {
         steps = d;
         passed = λ i l z.
@@ -345,9 +345,9 @@ module _ (text : List ℕ) (count a b letters span window k : ℕ) (w : List ℕ
         here = ap (λ (s : ℕ). getD w′ (b + s + d) 0) own-slot ∙ at-slot;
       }
 
-      still : (y : ℕ) → Reached text ts b letters span k w (peek ts y) → Reached text ts b letters span k w′ (peek ts y)
+      still : (y : ℕ) → Reached text ts b letters span w (peek ts y) → Reached text ts b letters span w′ (peek ts y)
       still y r =
-          let o : ℕ = b + slotOf text letters k span (peek ts y) in
+          let o : ℕ = b + slotOf text letters span (peek ts y) in
           record {
             steps = r .steps;
             passed = λ i l z. r .passed i l (sym (keeps (o + i) (omega arith) (r .passed i l)) ∙ z);
@@ -357,7 +357,7 @@ module _ (text : List ℕ) (count a b letters span window k : ℕ) (w : List ℕ
       letter-here : (c : ℕ) → b + c ≡ j → getD w′ (b + c) 0 - 1 ≡ f
       letter-here c q = omega (arith, ap (λ (i : ℕ). getD w′ i 0) q, at-slot)
 
-      entered : Tried (Indexed text (rows count w) a b letters span window k w′ (x + 1)) a w w′ true
+      entered : Tried (Indexed text (rows count w) a b letters span window w′ (x + 1)) a w w′ true
       entered = record {
         kept = record {
           front = ap (take a) e′ ∙ take-set-le a (set w j (f + 1)) (a + x) f (omega arith) ∙ take-set-le a w j (f + 1) (omega (arith, room .words));
@@ -376,7 +376,7 @@ module _ (text : List ℕ) (count a b letters span window k : ℕ) (w : List ℕ
               let g : getD w′ i 0 ≡ getD w i 0 = elsewhere i l q in
               ap (λ (m : ℕ). firstEqual text (peek ts (m - 1)) 0 ts) g ∙ ix .held i l h (λ z. n (g ∙ z)) ∙ ap (λ (m : ℕ). m - 1) (sym g));
           reached = λ y h e.
-              by-equal y x (λ q. subst (λ (y : ℕ). Reached text ts b letters span k w′ (peek ts y)) (sym q) itself) (λ q. still y (ix .reached y (omega arith) e));
+              by-equal y x (λ q. subst (λ (y : ℕ). Reached text ts b letters span w′ (peek ts y)) (sym q) itself) (λ q. still y (ix .reached y (omega arith) e));
           letter-word = λ c l n.
               by-equal (b + c) j (λ q. ap (λ (i : ℕ). isWord (peek ts i)) (letter-here c q) ∙ first-word text ts x inside word)
               (λ q.
@@ -392,8 +392,8 @@ module _ (text : List ℕ) (count a b letters span window k : ℕ) (w : List ℕ
       }
 
   -- a word in a window of slots
-  pub enter-word : (s d : ℕ) → isWord u ≡ true → s ≡ slotOf text letters k span t → s < span → letters ≤ s → Probed text ts w (b + s) window t d → d < window
-      → (w′ : List ℕ) → w′ ≡ set (set w (b + s + d) (filled (getD w (b + s + d) 0) x)) (a + x) (filled (getD w (b + s + d) 0) x - 1) → Tried (Indexed text ts a b letters span window k w′ (x + 1)) a w w′ true
+  pub enter-word : (s d : ℕ) → isWord u ≡ true → s ≡ slotOf text letters span t → s < span → letters ≤ s → Probed text ts w (b + s) window t d → d < window
+      → (w′ : List ℕ) → w′ ≡ set (set w (b + s + d) (filled (getD w (b + s + d) 0) x)) (a + x) (filled (getD w (b + s + d) 0) x - 1) → Tried (Indexed text ts a b letters span window w′ (x + 1)) a w w′ true
   enter-word s d is slot low-slot high p short w′ e =
       entered (eqb-true (t .kind) 0 (ap isWord at-x ∙ is)) s d slot low-slot p short (λ c l q. absurd (omega arith)) w′ e
 
@@ -416,10 +416,10 @@ module _ (text : List ℕ) (count a b letters span window k : ℕ) (w : List ℕ
         let z : b + c + 0 ≡ b + c = omega arith in
         record { low = omega arith; passed = λ i h. absurd (omega arith); here = λ h. ap (λ (i : ℕ). stops text ts t (getD w i 0)) z ∙ letter-stops }
 
-    pub enter-letter : (w′ : List ℕ) → w′ ≡ set (set w (b + c) (filled (getD w (b + c) 0) x)) (a + x) (filled (getD w (b + c) 0) x - 1) → Tried (Indexed text ts a b letters span window k w′ (x + 1)) a w w′ true
+    pub enter-letter : (w′ : List ℕ) → w′ ≡ set (set w (b + c) (filled (getD w (b + c) 0) x)) (a + x) (filled (getD w (b + c) 0) x - 1) → Tried (Indexed text ts a b letters span window w′ (x + 1)) a w w′ true
     enter-letter w′ e =
         let z : b + c ≡ b + c + 0 = omega arith in
-        entered kind c 0 (slot-letter text letters k span t c is own) (omega (arith, room .some)) letter-probed (room .wide)
+        entered kind c 0 (slot-letter text letters span t c is own) (omega (arith, room .some)) letter-probed (room .wide)
         (λ i l q. let o : c ≡ i = omega arith in letter-name ∙ ap (λ (c : ℕ). c ∷ []) o) w′
         (e ∙ ap (λ (i : ℕ). set (set w i (filled (getD w i 0) x)) (a + x) (filled (getD w i 0) x - 1)) z)
 
@@ -435,7 +435,7 @@ module _ (text : List ℕ) (ts : List Token) (x : ℕ) (t : Token) (at : t ≡ p
   long-there c e h = omega (arith, ap (λ (t : Token). letterOf (part text (t .start) (t .end))) at)
 
 -- ---- the table emptied
-module _ (text : List ℕ) (count a b letters span window k : ℕ) (w : List ℕ) (room : Room count a b letters span window k w) (v : List ℕ)
+module _ (text : List ℕ) (count a b letters span window : ℕ) (w : List ℕ) (room : Room count a b letters span window w) (v : List ℕ)
     (cleared : v ≡ replicate (length (midOf b (b + span + window - b) w)) 0) where
   abbrev m : ℕ
   m = b + span + window - b
@@ -466,41 +466,41 @@ module _ (text : List ℕ) (count a b letters span window k : ℕ) (w : List ℕ
   zero-letter : (c : ℕ) → c < letters → getD (putMid b m w v) (b + c) 0 ≡ 0
   zero-letter c l = zero-at (b + c) (omega arith) (omega (arith, room .some))
 
-  pub clear-indexed : Indexed text (rows count w) a b letters span window k (putMid b (b + span + window - b) w v) 0
+  pub clear-indexed : Indexed text (rows count w) a b letters span window (putMid b (b + span + window - b) w v) 0
   clear-indexed = record { names = λ x h e. absurd (omega arith); held = λ j l h n. absurd (n (zero-at j l h)); reached = λ x h e. absurd (omega arith); letter-word = λ c l n. absurd (n (zero-letter c l)); letter-part = λ c l n. absurd (n (zero-letter c l)) }
 
 -- ---- all tokens
-pub record Indexing (text : List ℕ) (count a b letters span window k : ℕ) (w₀ w : List ℕ) (x : ℕ) : Type 0 where
+pub record Indexing (text : List ℕ) (count a b letters span window : ℕ) (w₀ w : List ℕ) (x : ℕ) : Type 0 where
   pub kept : Kept a w₀ w
-  pub room : Room count a b letters span window k w
-  pub indexed : Indexed text (rows count w) a b letters span window k w x
+  pub room : Room count a b letters span window w
+  pub indexed : Indexed text (rows count w) a b letters span window w x
 
-module _ (text : List ℕ) (count a b letters span window k : ℕ) where
-  kept-room : {w₀ w : List ℕ} → Kept a w₀ w → Room count a b letters span window k w₀ → Room count a b letters span window k w
-  kept-room e r = record { tokens = r .tokens; words = r .words; table = omega (arith, e .size, r .table); some = r .some; wide = r .wide; letter = r .letter; few = r .few; factor = r .factor; narrow = r .narrow }
+module _ (text : List ℕ) (count a b letters span window : ℕ) where
+  kept-room : {w₀ w : List ℕ} → Kept a w₀ w → Room count a b letters span window w₀ → Room count a b letters span window w
+  kept-room e r = record { tokens = r .tokens; words = r .words; table = omega (arith, e .size, r .table); some = r .some; wide = r .wide; letter = r .letter; few = r .few; narrow = r .narrow }
 
-  pub indexing-start : (w₀ w : List ℕ) → Room count a b letters span window k w₀ → Kept a w₀ w → Indexed text (rows count w₀) a b letters span window k w 0 → Indexing text count a b letters span window k w w 0
+  pub indexing-start : (w₀ w : List ℕ) → Room count a b letters span window w₀ → Kept a w₀ w → Indexed text (rows count w₀) a b letters span window w 0 → Indexing text count a b letters span window w w 0
   indexing-start w₀ w r e i = record {
     kept = kept-refl a w;
     room = kept-room e r;
-    indexed = subst (λ (ts : List Token). Indexed text ts a b letters span window k w 0) (sym (kept-rows count a w₀ w e (r .tokens))) i;
+    indexed = subst (λ (ts : List Token). Indexed text ts a b letters span window w 0) (sym (kept-rows count a w₀ w e (r .tokens))) i;
   }
 
-  module _ (w₀ w w′ : List ℕ) (x : ℕ) (i : Indexing text count a b letters span window k w₀ w x) (r : Bool) (tried : Tried (Indexed text (rows count w) a b letters span window k w′ (x + 1)) a w w′ r) where
-    pub indexing-on : r ≡ true → Indexing text count a b letters span window k w₀ w′ (x + 1)
+  module _ (w₀ w w′ : List ℕ) (x : ℕ) (i : Indexing text count a b letters span window w₀ w x) (r : Bool) (tried : Tried (Indexed text (rows count w) a b letters span window w′ (x + 1)) a w w′ r) where
+    pub indexing-on : r ≡ true → Indexing text count a b letters span window w₀ w′ (x + 1)
     indexing-on e = record {
       kept = kept-trans a w₀ w w′ (i .kept) (tried .kept);
       room = kept-room (tried .kept) (i .room);
-      indexed = subst (λ (ts : List Token). Indexed text ts a b letters span window k w′ (x + 1)) (sym (kept-rows count a w w′ (tried .kept) (i .room .tokens))) (tried .done e);
+      indexed = subst (λ (ts : List Token). Indexed text ts a b letters span window w′ (x + 1)) (sym (kept-rows count a w w′ (tried .kept) (i .room .tokens))) (tried .done e);
     }
 
     pub indexing-full : (w₁ : List ℕ) → Kept a w₁ w₀ → Tried (Interned text (rows count w₁) a w′) a w₁ w′ false
     indexing-full w₁ e = tried-false (kept-trans a w₁ w w′ (kept-trans a w₁ w₀ w e (i .kept)) (tried .kept))
 
-  pub indexing-end : (w₁ w₀ w : List ℕ) (x : ℕ) → Kept a w₁ w₀ → Indexing text count a b letters span window k w₀ w x → count ≤ x → Tried (Interned text (rows count w₁) a w) a w₁ w true
+  pub indexing-end : (w₁ w₀ w : List ℕ) (x : ℕ) → Kept a w₁ w₀ → Indexing text count a b letters span window w₀ w x → count ≤ x → Tried (Interned text (rows count w₁) a w) a w₁ w true
   indexing-end w₁ w₀ w x e i h =
       let kept : Kept a w₁ w = kept-trans a w₁ w₀ w e (i .kept) in
-      let n : length (rows count w) ≡ count = length-rows count w (room-rows text count a b letters span window k w (i .room)) in
+      let n : length (rows count w) ≡ count = length-rows count w (room-rows text count a b letters span window w (i .room)) in
       record {
         kept = kept;
         done = λ _.
@@ -557,33 +557,25 @@ module _ (text : List ℕ) (count a : ℕ) where
     pub searching-end : count ≤ x → Interned text (rows count w₀) a w
     searching-end h = record { interned = λ y l e. s .names y (omega (arith, length-rows count w₀ (omega arith))) }
 
--- ---- one factor after another
-module _ (text : List ℕ) (count a b size letters span window : ℕ) where
-  pub factor-room : (w₀ w : List ℕ) (k : ℕ) → 4 * count ≤ a → a + count ≤ b → b + size ≤ length w₀ → letters ≤ 256 → 0 < window → span + window ≤ size → letters < span → span < 2 ^ 32 → count < 2 ^ 31 → k < 2 ^ 30 → Kept a w₀ w
-      → Room count a b letters span window k w
-  factor-room w₀ w k t o l q c h y n f g e = record { tokens = t; words = o; table = omega (arith, e .size); some = y; wide = c; letter = q; few = f; factor = g; narrow = n }
+-- ---- one table after another
+pub table-room : (count a b size letters span window : ℕ) (w : List ℕ) → 4 * count ≤ a → a + count ≤ b → b + size ≤ length w → letters ≤ 256 → 0 < window → span + window ≤ size → letters + 32 ≤ span → span < 2 ^ 34 → count < 2 ^ 31
+    → Room count a b letters span window w
+table-room count a b size letters span window w t o l q c h y n f = record { tokens = t; words = o; table = omega arith; some = y; wide = c; letter = q; few = f; narrow = n }
 
-pub factor-low : (h : ℕ) → h < 2 ^ 33 → h / 8 < 2 ^ 30
-factor-low h l = omega arith
-
-module _ (text : List ℕ) (count a : ℕ) (w₀ w w′ : List ℕ) (kept : Kept a w₀ w) (tokens : 4 * count ≤ a) where
-  module _ (r : Bool) (tried : Tried (Interned text (rows count w) a w′) a w w′ r) where
-    pub factor-kept : Kept a w₀ w′
-    factor-kept = kept-trans a w₀ w w′ kept (tried .kept)
-
-    pub factor-done : r ≡ true → Interned text (rows count w₀) a w′
-    factor-done e = subst (λ (ts : List Token). Interned text ts a w′) (kept-rows count a w₀ w kept tokens) (tried .done e)
-
-  pub last-kept : Kept a w w′ → Kept a w₀ w′
-  last-kept e = kept-trans a w₀ w w′ kept e
-
-  pub last-done : Interned text (rows count w) a w′ → Interned text (rows count w₀) a w′
-  last-done i = subst (λ (ts : List Token). Interned text ts a w′) (kept-rows count a w₀ w kept tokens) i
-
--- ---- the small table
 module _ (text : List ℕ) (count a : ℕ) (w₀ w : List ℕ) (r : Bool) (tried : Tried (Interned text (rows count w₀) a w) a w₀ w r) where
   pub small-kept : Kept a w₀ w
   small-kept = tried .kept
 
   pub small-done : r ≡ true → Interned text (rows count w₀) a w
   small-done e = tried .done e
+
+  module _ (w′ : List ℕ) (tokens : 4 * count ≤ a) where
+    pub next-kept : Kept a w w′ → Kept a w₀ w′
+    next-kept e = kept-trans a w₀ w w′ (tried .kept) e
+
+    pub next-done : Interned text (rows count w) a w′ → Interned text (rows count w₀) a w′
+    next-done i = subst (λ (ts : List Token). Interned text ts a w′) (kept-rows count a w₀ w (tried .kept) tokens) i
+
+    module _ (r′ : Bool) (again : Tried (Interned text (rows count w) a w′) a w w′ r′) where
+      pub large-tried : Tried (Interned text (rows count w₀) a w′) a w₀ w′ r′
+      large-tried = record { kept = next-kept (again .kept); done = λ e. next-done (again .done e) }

@@ -1,7 +1,7 @@
 // Equal names: for each word the first that equals it, found by an index of the names.
 ghost use mathlib.Core.Path.{_≡_};
 ghost use mathlib.Core.Bool.{true};
-ghost use Prim.Native.Nat.{_+_, _*_, _-_, _/_, _<_, _≤_, _^_};
+ghost use Prim.Native.Nat.{_+_, _*_, _-_, _/_, _%_, _<_, _≤_, _^_};
 ghost use lib.ListN.{length, getD, set, drop};
 ghost use Rattle.parser.specs.Row.{peek};
 ghost use Rattle.equal_names.specs.Rows.{rows, Kept};
@@ -13,10 +13,16 @@ use lexer::kind;
 use lexer::names;
 use tokens::Token;
 
-// 2 to the 32nd: the hash is cut and folded there.
-const CUT: usize = 4294967296;
-// The factor of the hash for the small table.
+// The hash is counted modulo this prime, so that no two names are alike by how they are made.
+const PRIME: usize = 1073741789;
+// The factor of the hash.
 const FACTOR: usize = 663608941;
+// What a hash is below: 2 to the 30th.
+const SCALE: usize = 1073741824;
+// In how many slots names that differ only in their last byte begin: such names often follow one another.
+const NEAR: usize = 32;
+// The least number of free words with which a table is made.
+const LEAST: usize = 128;
 // How many slots at most are kept for names of one byte.
 const LETTERS: usize = 128;
 // How many slots the small table has to begin in, and in how many a name is looked for there.
@@ -25,11 +31,6 @@ const SMALL: usize = 8192;
 const SMALL_WINDOW: usize = 32;
 // In how many slots a name is looked for in the large table.
 const WINDOW: usize = 128;
-// How many factors are tried for the large table.
-const FACTORS: usize = 4;
-// The factor of the hash of the text from which the first one comes.
-const FIRST: usize = 1009;
-
 // A byte as a number.
 fn byte(x: u8) -> usize
     ensures { λ r. ⌜ (r ≡ x) × (r < 256) ⌝ }
@@ -100,27 +101,25 @@ fn rest(name: &[u8], i: usize) -> usize
     low + byte(name[i + 2]) * 65536
 }
 
-// The hash h with a number behind it, by the factor k.
-fn step(k: usize, h: usize, q: usize) -> usize
-    requires { ⌜ (k < 2 ^ 30) × (h < 2 ^ 33) × (q < 2 ^ 32) ⌝ }
-    ensures { λ r. ⌜ (r ≡ step k h q) × (r < 2 ^ 33) ⌝ }
+// The hash h with a number behind it.
+fn step(h: usize, q: usize) -> usize
+    requires { ⌜ (h < 2 ^ 30) × (q < 2 ^ 32) ⌝ }
+    ensures { λ r. ⌜ (r ≡ step h q) × (r < 2 ^ 30) ⌝ }
 {
-    let x = (h + q) * k;
-    x % CUT + x / CUT
+    (h + q) * FACTOR % PRIME
 }
 
-// The hash of a name, by the factor k.
-fn hash(name: &[u8], k: usize) -> usize
-    requires { ⌜ k < 2 ^ 30 ⌝ }
-    ensures { λ r. ⌜ (r ≡ hashFrom k 0 (now (name .entry))) × (r < 2 ^ 33) ⌝ }
+// The hash of a name.
+fn hash(name: &[u8]) -> usize
+    ensures { λ r. ⌜ (r ≡ hashFrom 0 (now (name .entry))) × (r < 2 ^ 30) ⌝ }
 {
     let mut h = 0;
     let mut i = 0;
     while 4 <= name.len() - i {
-        h = step(k, h, four(name, i));
+        h = step(h, four(name, i));
         i += 4;
     }
-    step(k, h, rest(name, i))
+    step(h, rest(name, i))
 }
 
 // The byte of a name of one byte; 256 for any other.
@@ -136,12 +135,26 @@ fn letter(text: &[u8], t: Token) -> usize
     byte(text[t.start as usize])
 }
 
-// Where the name of t, which is no letter with a slot of its own, is looked for first.
-fn slot_of(text: &[u8], name: &[u8], letters: usize, k: usize, span: usize, t: Token) -> usize
-    requires { ⌜ (now name ≡ part (now text) (t .start) (t .end)) × (k < 2 ^ 30) × (letters < span) × (span < 2 ^ 32) × (letters ≤ letterOf (part (now text) (t .start) (t .end))) ⌝ }
-    ensures { λ r. ⌜ (r ≡ slotOf (now (text .entry)) letters k span t) × (r < span) × (letters ≤ r) ⌝ }
+// A hash scaled to the slots behind those of the letters, and the last byte near.
+fn place(letters: usize, span: usize, h: usize, last: usize) -> usize
+    requires { ⌜ (letters + 32 ≤ span) × (span < 2 ^ 34) × (h < 2 ^ 30) ⌝ }
+    ensures { λ r. ⌜ (r ≡ letters + h * (span - letters - 32) / 1073741824 + last % 32) × (r < span) × (letters ≤ r) ⌝ }
 {
-    letters + hash(name, k) % CUT * (span - letters) / CUT
+    letters + h * (span - letters - NEAR) / SCALE + last % NEAR
+}
+
+// Where the name of t, which is no letter with a slot of its own, is looked for first.
+fn slot_of(text: &[u8], name: &[u8], letters: usize, span: usize, t: Token) -> usize
+    requires { ⌜ (now name ≡ part (now text) (t .start) (t .end)) × (letters + 32 ≤ span) × (span < 2 ^ 34) × (letters ≤ letterOf (part (now text) (t .start) (t .end))) ⌝ }
+    ensures { λ r. ⌜ (r ≡ slotOf (now (text .entry)) letters span t) × (r < span) × (letters ≤ r) ⌝ }
+{
+    let n = name.len();
+    if n == 0 {
+        return letters;
+    }
+    let e = n - 1;
+    let h = hash(&name[0..e]);
+    place(letters, span, h, byte(name[e]))
 }
 
 // Whether the search for t ends at a slot that holds v.
@@ -210,15 +223,14 @@ fn enter_name(
     letters: usize,
     span: usize,
     window: usize,
-    k: usize,
     x: usize,
 ) -> bool
-    requires { ⌜ Room count a b letters span window k (now work) × Indexed (now text) (rows count (now work)) a b letters span window k (now work) x × (x < count) × (isWord (peek (rows count (now work)) x) ≡ true) × (letters ≤ letterOf (part (now text) (peek (rows count (now work)) x .start) (peek (rows count (now work)) x .end))) ⌝ }
-    ensures { λ r. ⌜ Tried (Indexed (now (text .entry)) (rows count (now (work .entry))) a b letters span window k (now (work .exit)) (x + 1)) a (now (work .entry)) (now (work .exit)) r ⌝ }
+    requires { ⌜ Room count a b letters span window (now work) × Indexed (now text) (rows count (now work)) a b letters span window (now work) x × (x < count) × (isWord (peek (rows count (now work)) x) ≡ true) × (letters ≤ letterOf (part (now text) (peek (rows count (now work)) x .start) (peek (rows count (now work)) x .end))) ⌝ }
+    ensures { λ r. ⌜ Tried (Indexed (now (text .entry)) (rows count (now (work .entry))) a b letters span window (now (work .exit)) (x + 1)) a (now (work .entry)) (now (work .exit)) r ⌝ }
 {
     let t = token_at(work, count, x);
     let name = names::part_of(text, t.start as usize, t.end as usize);
-    let at = b + slot_of(text, name, letters, k, span, t);
+    let at = b + slot_of(text, name, letters, span, t);
     let d = probe(text, name, work, count, at, window, t);
     if d < window {
         store(work, at + d, a + x, x);
@@ -237,11 +249,10 @@ fn enter_token(
     letters: usize,
     span: usize,
     window: usize,
-    k: usize,
     x: usize,
 ) -> bool
-    requires { ⌜ Room count a b letters span window k (now work) × Indexed (now text) (rows count (now work)) a b letters span window k (now work) x × (x < count) ⌝ }
-    ensures { λ r. ⌜ Tried (Indexed (now (text .entry)) (rows count (now (work .entry))) a b letters span window k (now (work .exit)) (x + 1)) a (now (work .entry)) (now (work .exit)) r ⌝ }
+    requires { ⌜ Room count a b letters span window (now work) × Indexed (now text) (rows count (now work)) a b letters span window (now work) x × (x < count) ⌝ }
+    ensures { λ r. ⌜ Tried (Indexed (now (text .entry)) (rows count (now (work .entry))) a b letters span window (now (work .exit)) (x + 1)) a (now (work .entry)) (now (work .exit)) r ⌝ }
 {
     let t = token_at(work, count, x);
     if t.kind != kind::WORD {
@@ -252,7 +263,7 @@ fn enter_token(
         store(work, b + c, a + x, x);
         return true;
     }
-    enter_name(text, work, count, a, b, letters, span, window, k, x)
+    enter_name(text, work, count, a, b, letters, span, window, x)
 }
 
 // Empties the table.
@@ -265,16 +276,15 @@ fn clear_table(
     letters: usize,
     span: usize,
     window: usize,
-    k: usize,
 )
-    requires { ⌜ Room count a b letters span window k (now work) ⌝ }
-    ensures { λ _. ⌜ Kept a (now (work .entry)) (now (work .exit)) × Indexed (now (text .entry)) (rows count (now (work .entry))) a b letters span window k (now (work .exit)) 0 ⌝ }
+    requires { ⌜ Room count a b letters span window (now work) ⌝ }
+    ensures { λ _. ⌜ Kept a (now (work .entry)) (now (work .exit)) × Indexed (now (text .entry)) (rows count (now (work .entry))) a b letters span window (now (work .exit)) 0 ⌝ }
 {
     let e = b + span + window;
     diag::clear(&mut work[b..e]);
 }
 
-// The row of first equal words by an index with the factor k; false where a window is full.
+// The row of first equal words by an index; false where a window is full.
 fn index(
     text: &[u8],
     work: &mut [u32],
@@ -284,15 +294,14 @@ fn index(
     letters: usize,
     span: usize,
     window: usize,
-    k: usize,
 ) -> bool
-    requires { ⌜ Room count a b letters span window k (now work) ⌝ }
+    requires { ⌜ Room count a b letters span window (now work) ⌝ }
     ensures { λ r. ⌜ Tried (Interned (now (text .entry)) (rows count (now (work .entry))) a (now (work .exit))) a (now (work .entry)) (now (work .exit)) r ⌝ }
 {
-    clear_table(text, work, count, a, b, letters, span, window, k);
+    clear_table(text, work, count, a, b, letters, span, window);
     let mut x = 0;
     while x < count {
-        if enter_token(text, work, count, a, b, letters, span, window, k, x) {
+        if enter_token(text, work, count, a, b, letters, span, window, x) {
             x += 1;
         } else {
             return false;
@@ -334,7 +343,6 @@ fn search(text: &[u8], work: &mut [u32], count: usize, a: usize)
 
 // The number of slots for letters.
 fn letters_of(size: usize) -> usize
-    requires { ⌜ 4 ≤ size ⌝ }
     ensures { λ r. ⌜ (r ≤ size / 2) × (r ≤ 256) ⌝ }
 {
     if size / 2 < LETTERS {
@@ -345,19 +353,19 @@ fn letters_of(size: usize) -> usize
 
 // The number of slots in which a name is looked for.
 fn window_of(size: usize, most: usize) -> usize
-    requires { ⌜ (4 ≤ size) × (0 < most) ⌝ }
-    ensures { λ r. ⌜ (r ≤ size / 4) × (0 < r) ⌝ }
+    requires { ⌜ (128 ≤ size) × (0 < most) ⌝ }
+    ensures { λ r. ⌜ (r ≤ size / 8) × (0 < r) ⌝ }
 {
-    if size / 4 < most {
-        return size / 4;
+    if size / 8 < most {
+        return size / 8;
     }
     most
 }
 
 // The number of slots in which a search may begin.
 fn span_of(size: usize, letters: usize, window: usize, most: usize) -> usize
-    requires { ⌜ (letters + window < size) × (letters < most) × (most < 2 ^ 32) ⌝ }
-    ensures { λ r. ⌜ (r + window ≤ size) × (letters < r) × (r < 2 ^ 32) ⌝ }
+    requires { ⌜ (letters + window + 32 ≤ size) × (letters + 32 ≤ most) × (most < 2 ^ 34) ⌝ }
+    ensures { λ r. ⌜ (r + window ≤ size) × (letters + 32 ≤ r) × (r < 2 ^ 34) ⌝ }
 {
     if size - window < most {
         return size - window;
@@ -365,38 +373,40 @@ fn span_of(size: usize, letters: usize, window: usize, most: usize) -> usize
     most
 }
 
-// The row of first equal words by a large table; a factor for which a window is full gives way to the next.
-fn large(text: &[u8], work: &mut [u32], count: usize, a: usize, b: usize, size: usize)
-    requires { ⌜ (4 * count ≤ a) × (a + count ≤ b) × (b + size ≤ length (now work)) × (4 ≤ size) × (count < 2 ^ 31) ⌝ }
-    ensures { λ _. ⌜ Kept a (now (work .entry)) (now (work .exit)) × Interned (now (text .entry)) (rows count (now (work .entry))) a (now (work .exit)) ⌝ }
+// The row of first equal words by a table with at most so many slots to begin in and so long a window; false where a window is full.
+fn by_table(
+    text: &[u8],
+    work: &mut [u32],
+    count: usize,
+    a: usize,
+    b: usize,
+    size: usize,
+    most: usize,
+    longest: usize,
+) -> bool
+    requires { ⌜ (4 * count ≤ a) × (a + count ≤ b) × (b + size ≤ length (now work)) × (128 ≤ size) × (288 ≤ most) × (most < 2 ^ 34) × (0 < longest) × (count < 2 ^ 31) ⌝ }
+    ensures { λ r. ⌜ Tried (Interned (now (text .entry)) (rows count (now (work .entry))) a (now (work .exit))) a (now (work .entry)) (now (work .exit)) r ⌝ }
 {
     let letters = letters_of(size);
-    let window = window_of(size, WINDOW);
-    let span = span_of(size, letters, window, CUT - 1);
-    let mut i = 0usize;
-    while i < FACTORS {
-        let k = hash(text, FIRST + i) / 8;
-        if index(text, work, count, a, b, letters, span, window, k) {
-            return;
-        }
-        i += 1;
-    }
-    search(text, work, count, a);
+    let window = window_of(size, longest);
+    let span = span_of(size, letters, window, most);
+    index(text, work, count, a, b, letters, span, window)
 }
 
-// The row of first equal words, from the word a on; `size` words from b on are free. Few names find room in a small table, which is soon emptied.
+// The row of first equal words, from the word a on; `size` words from b on are free. Few names find room in a small table, which is soon emptied;
+// others in one that has four slots for each token, where there are so many words.
 pub fn intern(text: &[u8], work: &mut [u32], count: usize, a: usize, b: usize, size: usize)
     requires { ⌜ (4 * count ≤ a) × (a + count ≤ b) × (b + size ≤ length (now work)) × (0 < size) × (count < 2 ^ 31) ⌝ }
     ensures { λ _. ⌜ Kept a (now (work .entry)) (now (work .exit)) × Interned (now (text .entry)) (rows count (now (work .entry))) a (now (work .exit)) ⌝ }
 {
-    if size < 4 {
+    if size < LEAST {
         return search(text, work, count, a);
     }
-    let letters = letters_of(size);
-    let window = window_of(size, SMALL_WINDOW);
-    let span = span_of(size, letters, window, SMALL);
-    if index(text, work, count, a, b, letters, span, window, FACTOR) {
+    if by_table(text, work, count, a, b, size, SMALL, SMALL_WINDOW) {
         return;
     }
-    large(text, work, count, a, b, size);
+    if by_table(text, work, count, a, b, size, 4 * count + SMALL, WINDOW) {
+        return;
+    }
+    search(text, work, count, a);
 }

@@ -1,7 +1,7 @@
 //! The texts that are measured, each a function of its size.
 
 use crate::chars;
-use crate::families::limits::{fill, read_sets};
+use crate::families::limits::{fill, quads, read_sets};
 use crate::outcome::MAX_TEXT;
 
 /// Sizes at which a case that grows is measured.
@@ -53,6 +53,9 @@ pub const CASES: &[Case] = &[
     }),
     growing("states-f", |size| {
         pieces("F = {a", |i| format!(",q{i}"), "}\n", size)
+    }),
+    growing("states-quads", |size| {
+        pieces("Q = {a", |i| format!(",{}", quads(i)), "}\n", size)
     }),
     growing("errors", |size| fill("a\n", size)),
     growing("errors-rules", |size| fill("δ(a,a)=(a,a,x)\n", size)),

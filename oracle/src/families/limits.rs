@@ -16,7 +16,7 @@ pub fn text(index: u64) -> Vec<u8> {
 
 const RULE: &str = "δ(a,a)=(a,a,R)\n";
 
-const TEXTS: [fn() -> Vec<u8>; 77] = [
+const TEXTS: [fn() -> Vec<u8>; 79] = [
     // Lengths.
     || vec![],
     || fill("\n", MAX_TEXT),
@@ -132,6 +132,9 @@ const TEXTS: [fn() -> Vec<u8>; 77] = [
         ]
         .concat()
     },
+    // Names that a hash of four bytes at a step may take for one another.
+    || in_quads(20_000),
+    || in_quads(200_000),
     // Many diagnostics.
     || fill("a\n", MAX_TEXT),
     || around("F={a", ",a", "}\n", MAX_TEXT - 1),
@@ -216,6 +219,24 @@ fn numbered(before: &str, separator: &str, after: &str, count: usize) -> Vec<u8>
     }
     out.push_str(after);
     out.into_bytes()
+}
+
+/// Name number `index` of those whose letters each stand four times: the index with 52 letters for digits, three at least.
+pub fn quads(index: usize) -> String {
+    let letters: Vec<char> = ('a'..='z').chain('A'..='Z').collect();
+    let mut name = String::new();
+    let mut rest = index;
+    while rest > 0 || name.len() < 12 {
+        name.extend([letters[rest % 52]; 4]);
+        rest /= 52;
+    }
+    name
+}
+
+/// So many names of letters that each stand four times, in `Q`.
+fn in_quads(count: usize) -> Vec<u8> {
+    let names: Vec<String> = (0..count).map(quads).collect();
+    format!("Q={{{}}}\n", names.join(",")).into_bytes()
 }
 
 /// Every admitted character but line feed, quoted.

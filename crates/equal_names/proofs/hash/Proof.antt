@@ -9,10 +9,10 @@ use Rattle.equal_names.proofs.hash.Statement.{statement}
 use Rattle.equal_names.proofs.hash.Tie as tie
 
 abbrev Inv-loop : tie.InvT-loop
-Inv-loop name k h₀ i₀ h i = (hashFrom k h (drop i name) ≡ hashFrom k 0 name) × (h < 2 ^ 33) × (i ≤ length name)
+Inv-loop name h₀ i₀ h i = (hashFrom h (drop i name) ≡ hashFrom 0 name) × (h < 2 ^ 30) × (i ≤ length name)
 
 abbrev μ-loop : tie.MeasureT-loop
-μ-loop name k h₀ i₀ h i = length name - i
+μ-loop name h₀ i₀ h i = length name - i
 
 ruleset laws = (needs, hash-on, hash-end)
 

@@ -6,10 +6,10 @@ use Rattle.equal_names.proofs.index.Statement.{statement}
 use Rattle.equal_names.proofs.index.Tie as tie
 
 abbrev Inv-loop : tie.InvT-loop
-Inv-loop text work₀ count a b letters span window k x₀ work x = Indexing text count a b letters span window k work₀ work x
+Inv-loop text work₀ count a b letters span window x₀ work x = Indexing text count a b letters span window work₀ work x
 
 abbrev μ-loop : tie.MeasureT-loop
-μ-loop text work₀ count a b letters span window k x₀ work x = count - x
+μ-loop text work₀ count a b letters span window x₀ work x = count - x
 
 ruleset laws = (needs, indexing-start, indexing-on, indexing-full, indexing-end)
 
@@ -24,7 +24,7 @@ index-spec =
     (λ c κs. search laws)
     (λ c. search laws)
     (λ c. search laws)
-    (λ c. indexing-on _ _ _ _ _ _ _ _ _ _ _ _ (c .before .before .before .before .before .before .loop .inv) _ (c .before .before .before .enter-token .ensures) (c .if1 .taken))
+    (λ c. indexing-on _ _ _ _ _ _ _ _ _ _ _ (c .before .before .before .before .before .before .loop .inv) _ (c .before .before .before .enter-token .ensures) (c .if1 .taken))
     (λ c. search laws)
     (λ c. search laws)
     (λ c. search laws)

@@ -1,11 +1,10 @@
--- `equal_names::intern` meets its contract: by the small table, or else by the large one.
+-- `equal_names::intern` meets its contract: by the small table, or else by the large one, or else by the search.
 use borrow.Author.Needs.{needs}
-use Rattle.equal_names.proofs.IndexLaws.{factor-room, small-kept, small-done, last-kept, last-done}
-use Rattle.equal_names.proofs.NameLaws.{kept-refl}
+use Rattle.equal_names.proofs.IndexLaws.{small-kept, small-done, next-kept, next-done, large-tried}
 use Rattle.equal_names.proofs.intern.Statement.{statement}
 use Rattle.equal_names.proofs.intern.Tie as tie
 
-ruleset laws = (needs, factor-room, small-kept, small-done, last-kept, last-done, kept-refl)
+ruleset laws = (needs, small-kept, small-done, next-kept, next-done, large-tried)
 
 pub intern-spec : {M : Type 1} → statement M
 intern-spec =
@@ -15,8 +14,10 @@ intern-spec =
     (λ c. search laws)
     (λ c. search laws)
     (λ c κs. search laws)
-    (λ c κs. search laws)
-    (λ c κs. search laws)
+    (λ c. search laws)
+    (λ c. search laws)
+    (λ c. search laws)
+    (λ c. search laws)
     (λ c κs. search laws)
     (λ c. search laws)
     (λ c. search laws)
