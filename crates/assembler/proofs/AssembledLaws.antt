@@ -24,7 +24,6 @@ use Rattle.diag.specs.declared.Diagnostic.{Diagnostic}
 use Rattle.diag.specs.Log.{Log, logged, appendAll}
 use Rattle.diag.proofs.Appended.{append-all-append, append-all-count}
 use Rattle.assembler.specs.declared.Assembled.{Assembled}
-use Rattle.assembler.specs.declared.rules.RuleCount.{RuleCount}
 use Rattle.assembler.specs.Rows.{rows}
 use Rattle.assembler.specs.Entries.{Entry, behind, entriesFrom, entries}
 use Rattle.assembler.specs.Entered.{flat, enteredFrom, entered}
@@ -171,11 +170,12 @@ module _ (text : List ℕ) (count : ℕ) (w₀ w₁ first : List ℕ) (l : Log)
     rules-few h =
         omega (arith, ap (λ (x : Log). x .count) finals, append-all-count l (finalsErrors text (rows count w₀) first), finals-few text (rows count w₀) first, row-size)
 
-    pub finals-and-rules : (log : List ℕ) (r : RuleCount) → r .rules ≡ ruleCount noRules (entries (rows count w₁))
-        → logged log (r .errors) ≡ appendAll (logged g n) (ruleErrors noRules (entries (rows count w₁))) → S.FinalsAndRules text count w₀ w₁ first l log r
-    finals-and-rules log r c e = record {
+    pub rules-wrong : (k : ℕ) → k ≡ length (ruleErrors noRules (entries (rows count w₀))) → k ≡ length (ruleErrors noRules (entries (rows count w₁)))
+    rules-wrong k e = e ∙ ap (λ (ts : List Token). length (ruleErrors noRules (entries ts))) (sym row-kept)
+
+    pub finals-and-rules : (log : List ℕ) (r : ℕ) → logged log r ≡ appendAll (logged g n) (ruleErrors noRules (entries (rows count w₁))) → S.FinalsAndRules text count w₀ w₁ first l log r
+    finals-and-rules log r e = record {
       kept = kept;
-      rules = c ∙ ap (λ (ts : List Token). ruleCount noRules (entries ts)) row-kept;
       written =
           e ∙ ap (λ (ts : List Token). appendAll (logged g n) (ruleErrors noRules (entries ts))) row-kept
           ∙ ap (λ (x : Log). appendAll x (ruleErrors noRules (entries (rows count w₀)))) finals
@@ -215,10 +215,10 @@ module _ (text : List ℕ) (count : ℕ) (w₀ log₀ : List ℕ) (laid : Laid c
       finals-room =
           omega (arith, ap (λ (x : Log). x .count) e₂, append-all-count (logged g₁ n) (declarationErrors ts undeclared es), declarations-few ts undeclared es, lines-count, lines-low, laid .few)
 
-      pub diagnosed : (w₁ log : List ℕ) (c : RuleCount) → S.FinalsAndRules text count w₀ w₁ first (logged g₂ m) log c
-          → S.Diagnosed text count w₀ w₁ log₀ log (record { first = first; rules = c .rules; errors = c .errors })
+      pub diagnosed : (w₁ log : List ℕ) (k r : ℕ) → k ≡ ruleCount noRules (entries (rows count w₀)) → S.FinalsAndRules text count w₀ w₁ first (logged g₂ m) log r
+          → S.Diagnosed text count w₀ w₁ log₀ log (record { first = first; rules = k; errors = r })
       unfolding S.rowDiagnostics
-      diagnosed w₁ log c p =
+      diagnosed w₁ log k r c p =
           let D : List Diagnostic = declarationErrors ts undeclared es in
           let table : List ℕ = declarations (length ts) undeclared es in
           let F : List Diagnostic = finalsErrors text ts table ++ ruleErrors noRules es in
@@ -226,7 +226,7 @@ module _ (text : List ℕ) (count : ℕ) (w₀ log₀ : List ℕ) (laid : Laid c
           record {
             kept = p .kept;
             first = f₂;
-            rules = p .rules;
+            rules = c;
             written =
                 p .written ∙ ap (λ (x : List ℕ). appendAll (logged g₂ m) (finalsErrors text ts x ++ ruleErrors noRules es)) same
                 ∙ ap (λ (x : Log). appendAll x F) e₂ ∙ sym (append-all-append (logged g₁ n) D F)

@@ -5,6 +5,7 @@ pub mod Passes
 pub mod FailureLaws
 pub mod DeclarationLaws
 pub mod RuleLaws
+pub mod SurveyLaws
 pub mod Braces
 pub mod Inside
 pub mod LineLaws

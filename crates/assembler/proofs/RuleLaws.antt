@@ -24,8 +24,8 @@ use Rattle.parser.specs.Row.{peek, ended}
 use Rattle.parser.specs.Views.{isSymbol}
 use Rattle.assembler.specs.Rows.{rows, placeOf}
 use Rattle.assembler.specs.Entries.{Entry, entryAt, behind, entries}
-use Rattle.assembler.specs.Rules.{counted, combinationsFrom, combinations, sameArity, readPart, verdict, after, ruleError, ruleErrors, ruleCount, noRules}
-use Rattle.assembler.proofs.Rows.{length-rows, entriesAt, entries-step, entries-end}
+use Rattle.assembler.specs.Rules.{counted, combinationsFrom, combinations, sameArity, readPart, verdict, after, ruleError, ruleErrors, noRules}
+use Rattle.assembler.proofs.Rows.{length-rows}
 use Rattle.assembler.proofs.Passes.{at-most-one, Passing, passing-start, passing-step, passing-end}
 
 -- ---- one token of the read sets
@@ -261,22 +261,21 @@ after-within s TooMany h g = h
 after-within s (Expands n) h g = g n refl
 
 -- ---- all lines: the pass has come to the line at the index i
-pub record Tallying (count : ℕ) (work : List ℕ) (total : ℕ) (target : Log) (from : ℕ) (w₀ : List ℕ) (s : Tally) (w : List ℕ) (n i : ℕ) : Type 0 where
-  pub counts : ruleCount s (entriesAt (rows count work) i) ≡ total
+pub record Tallying (count : ℕ) (work : List ℕ) (target : Log) (from : ℕ) (w₀ : List ℕ) (s : Tally) (w : List ℕ) (n i : ℕ) : Type 0 where
   pub passing : Passing (rows count work) (ruleErrors s) target from w₀ w n i
   pub within : s .rules ≤ 262144
 
 pub tallying-start : (count : ℕ) (work w : List ℕ) (n : ℕ)
-    → Tallying count work (ruleCount noRules (entries (rows count work))) (appendAll (logged w n) (ruleErrors noRules (entries (rows count work)))) n w noRules w n 0
+    → Tallying count work (appendAll (logged w n) (ruleErrors noRules (entries (rows count work)))) n w noRules w n 0
 unfolding entries
-tallying-start count work w n = record { counts = refl; passing = passing-start (rows count work) (ruleErrors noRules) w n; within = omega arith }
+tallying-start count work w n = record { passing = passing-start (rows count work) (ruleErrors noRules) w n; within = omega arith }
 
-module _ (count : ℕ) (work : List ℕ) (total : ℕ) (target : Log) (from : ℕ) (w₀ : List ℕ) (s : Tally) (w : List ℕ) (n i : ℕ)
-    (p : Tallying count work total target from w₀ s w n i) (room : 4 * count ≤ length work) where
+module _ (count : ℕ) (work : List ℕ) (target : Log) (from : ℕ) (w₀ : List ℕ) (s : Tally) (w : List ℕ) (n i : ℕ)
+    (p : Tallying count work target from w₀ s w n i) (room : 4 * count ≤ length work) where
   pub tallying-on : (s′ : Tally) (w′ : List ℕ) (n′ j : ℕ) (t : Token) (v : Verdict) (q : Span) → i < count → t ≡ peek (rows count work) i
       → v ≡ verdict (s .rules) (entryAt (rows count work) i) → q ≡ placeOf t → logged w′ n′ ≡ appendAll (logged w n) (ruleError v (s .cut) q) → s′ ≡ after s v
-      → j ≡ i + 1 + behind i t → Tallying count work total target from w₀ s′ w′ n′ j
-  unfolding ruleErrors ruleCount
+      → j ≡ i + 1 + behind i t → Tallying count work target from w₀ s′ w′ n′ j
+  unfolding ruleErrors
   tallying-on s′ w′ n′ j t v q h et ev eq ew es ej =
       let ts : List Token = rows count work in
       let many : length ts ≡ count = length-rows count work room in
@@ -289,18 +288,12 @@ module _ (count : ℕ) (work : List ℕ) (total : ℕ) (target : Log) (from : �
       let ew′ : logged w′ n′ ≡ appendAll (logged w n) ds =
       ew ∙ ap (λ (v : Verdict). appendAll (logged w n) (ruleError v (s .cut) q)) ev ∙ ap (λ (q : Span). appendAll (logged w n) (ruleError v′ (s .cut) q)) eq′ in
       let es′ : after s v′ ≡ s′ = ap (after s) (sym ev) ∙ sym es in
-      let lines : entriesAt ts i ≡ e ∷ entriesAt ts j = entries-step ts i here ∙ ap (λ (j : ℕ). e ∷ entriesAt ts j) next in
       record {
-        counts = ap (λ (s : Tally). ruleCount s (entriesAt ts j)) (sym es′) ∙ ap (ruleCount s) (sym lines) ∙ p .counts;
         passing = subst (λ (x : Tally). Passing ts (ruleErrors x) target from w₀ w′ n′ j) es′
             (subst (λ (j : ℕ). Passing ts (ruleErrors (after s v′)) target from w₀ w′ n′ j) next
             (passing-step ts target from w₀ w n i (ruleErrors s) (ruleErrors (after s v′)) ds w′ n′ (p .passing) here (λ es. refl) (one-rule v′ (s .cut) (placeOf (peek ts i))) ew′));
         within = subst (λ (x : Tally). x .rules ≤ 262144) es′ (after-within s v′ (p .within) (λ m h. verdict-within (s .rules) m e h));
       }
-
-  pub counts-end : count ≤ i → s .rules ≡ total
-  unfolding ruleCount
-  counts-end h = sym (ap (ruleCount s) (entries-end (rows count work) i (omega (arith, length-rows count work room)))) ∙ p .counts
 
   pub tallying-end : count ≤ i → logged w n ≡ target
   unfolding ruleErrors

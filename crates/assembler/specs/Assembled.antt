@@ -13,7 +13,6 @@ use Rattle.language.specs.Infer.{machineOf}
 use Rattle.diag.specs.declared.Diagnostic.{Diagnostic}
 use Rattle.diag.specs.Log.{Log, logged, appendAll}
 use Rattle.assembler.specs.declared.Assembled.{Assembled}
-use Rattle.assembler.specs.declared.rules.RuleCount.{RuleCount}
 use Rattle.assembler.specs.Rows.{rows}
 use Rattle.assembler.specs.Entries.{entries}
 use Rattle.assembler.specs.Entered.{entered}
@@ -51,10 +50,9 @@ pub record Entered (text : List ℕ) (count : ℕ) (w₀ w : List ℕ) : Type 0 
   pub size : length w ≡ length w₀
 
 -- the last two passes over a row with entries, behind a log
-pub record FinalsAndRules (text : List ℕ) (count : ℕ) (w₀ w first : List ℕ) (l : Log) (log : List ℕ) (r : RuleCount) : Type 0 where
+pub record FinalsAndRules (text : List ℕ) (count : ℕ) (w₀ w first : List ℕ) (l : Log) (log : List ℕ) (n : ℕ) : Type 0 where
   pub kept : Kept (marksFrom (length text)) w₀ w
-  pub rules : r .rules ≡ ruleCount noRules (entries (rows count w₀))
-  pub written : logged log (r .errors) ≡ appendAll l (finalsErrors text (rows count w₀) first ++ ruleErrors noRules (entries (rows count w₀)))
+  pub written : logged log n ≡ appendAll l (finalsErrors text (rows count w₀) first ++ ruleErrors noRules (entries (rows count w₀)))
 
 -- the passes over a row with entries
 pub record Diagnosed (text : List ℕ) (count : ℕ) (w₀ w log₀ log : List ℕ) (r : Assembled) : Type 0 where

@@ -6,5 +6,6 @@ pub mod Rules
 pub mod Entered
 pub mod Names
 pub mod Finals
+pub mod Survey
 pub mod Records
 pub mod Assembled

@@ -58,7 +58,7 @@ pub fn duplicate(
 }
 
 // One line's, and its declaration if it is the first of its name.
-fn declaration(
+pub fn declaration(
     work: &[u32],
     count: usize,
     at: usize,

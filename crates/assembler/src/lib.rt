@@ -1,19 +1,23 @@
-// Assembly of a description from the tokens in a row of words (the source's dsl/parser.rs, Assembler): lines are parsed once, and passes over
-// the lines find the declarations, the number of rules and the diagnostics.
+// Assembly of a description from the tokens in a row of words (the source's dsl/parser.rs, Assembler): lines are parsed once, one walk over
+// the lines finds the declarations and the number of rules, and passes over them append the diagnostics.
+ghost use mathlib.Core.Path.{_≡_};
 ghost use Prim.Native.Nat.{_+_, _*_, _<_, _^_};
 ghost use Rattle.diag.specs.Log.{logged};
 ghost use lib.ListN.{length};
 ghost use Rattle.assembler.specs.Rows.{rows};
+ghost use Rattle.assembler.specs.Entries.{entries};
 ghost use Rattle.assembler.specs.Finals.{Interned, Laid};
+ghost use Rattle.assembler.specs.Rules.{ruleErrors, noRules};
 ghost use Rattle.assembler.specs.Assembled.{Tokenized, Entered, FinalsAndRules, Diagnosed, Outcome, wordsFrom, marksFrom};
-use rules::RuleCount;
 
 pub mod declarations;
 pub mod entry;
 pub mod failures;
 pub mod finals;
 pub mod lines;
+pub mod pass;
 pub mod rules;
+pub mod survey;
 
 // What assembly finds: the entry of the first declaration of each name, a value that is no index for none; the number of rules; and the number of diagnostics.
 pub struct Assembled {
@@ -32,34 +36,35 @@ fn enter(text: &[u8], work: &mut [u32], count: usize)
     equal_names::intern(text, work, count, 4 * base, 5 * base, base);
 }
 
-// The diagnostics of F and of the rules, behind m others.
+// The diagnostics of F and those of the rules, of which there are `wrong`, behind m others.
 fn finals_and_rules(
     text: &[u8],
     work: &mut [u32],
     count: usize,
     first: &[u32; 11],
+    wrong: usize,
     log: &mut [u32],
     m: usize,
-) -> RuleCount
-    requires { ⌜ Laid count (wordsFrom (length (now text))) (marksFrom (length (now text))) (now work) × Interned (now text) (rows count (now work)) (wordsFrom (length (now text))) (now work) × (m + 2 * count < 2 ^ 64) ⌝ }
+) -> usize
+    requires { ⌜ Laid count (wordsFrom (length (now text))) (marksFrom (length (now text))) (now work) × Interned (now text) (rows count (now work)) (wordsFrom (length (now text))) (now work) × (m + 2 * count < 2 ^ 64) × (wrong ≡ length (ruleErrors noRules (entries (rows count (now work))))) ⌝ }
     ensures { λ r. ⌜ FinalsAndRules (now (text .entry)) count (now (work .entry)) (now (work .exit)) (now (first .entry)) (logged (now (log .entry)) m) (now (log .exit)) r ⌝ }
 {
     let base = text.len() + 1;
     let n = finals::finals(text, work, count, 4 * base, 5 * base, first, log, m);
-    rules::rules(work, count, log, n)
+    pass::ruled(work, count, wrong, log, n)
 }
 
-// The passes over the lines that were entered.
+// The lines that were entered: one walk counts, and the passes that have diagnostics follow.
 fn diagnose(text: &[u8], work: &mut [u32], count: usize, log: &mut [u32]) -> Assembled
     requires { ⌜ Laid count (wordsFrom (length (now text))) (marksFrom (length (now text))) (now work) × Interned (now text) (rows count (now work)) (wordsFrom (length (now text))) (now work) ⌝ }
     ensures { λ r. ⌜ Diagnosed (now (text .entry)) count (now (work .entry)) (now (work .exit)) (now (log .entry)) (now (log .exit)) r ⌝ }
 {
     let mut first = [0xffff_ffffu32; 11];
-    let n = failures::line_errors(work, count, log, 0);
-    let m = declarations::declarations(work, count, &mut first, log, n);
-    let c = finals_and_rules(text, work, count, &first, log, m);
-    let rules = c.rules;
-    let errors = c.errors;
+    let s = survey::survey(work, count, &mut first);
+    let n = pass::failed(work, count, s.failures, log, 0);
+    let m = pass::declared(work, count, s.names, log, n);
+    let errors = finals_and_rules(text, work, count, &first, s.wrong, log, m);
+    let rules = s.rules;
     Assembled {
         first,
         rules,

@@ -1,4 +1,4 @@
-// How many rules the lines stand for, and the diagnostics of rules.
+// How many rules a line stands for, and the diagnostics of rules.
 ghost use mathlib.Core.Path.{_≡_};
 ghost use Prim.Native.Nat.{_+_, _*_, _-_, _<_, _≤_, _^_};
 ghost use lib.ListN.{length, take, drop};
@@ -7,7 +7,7 @@ ghost use Rattle.diag.specs.declared.Span.{Span};
 ghost use Rattle.parser.specs.Row.{peek};
 ghost use Rattle.assembler.specs.Rows.{rows, placeOf};
 ghost use Rattle.assembler.specs.Entries.{entryAt, entries};
-ghost use Rattle.assembler.specs.Rules.{counted, combinations, sameArity, verdict, after, ruleError, ruleErrors, ruleCount, noRules};
+ghost use Rattle.assembler.specs.Rules.{counted, combinations, sameArity, verdict, after, ruleError, ruleErrors, noRules};
 use crate::entry;
 use diag::Diagnostic;
 use diag::Span;
@@ -46,12 +46,6 @@ pub enum Verdict {
     TooMany,
     // It expands, and so many rules there are then.
     Expands(usize),
-}
-
-// The number of rules, and of diagnostics so far.
-pub struct RuleCount {
-    pub rules: usize,
-    pub errors: usize,
 }
 
 // One token more.
@@ -177,9 +171,9 @@ pub fn rule_error(v: Verdict, cut: bool, place: Span, log: &mut [u32], errors: u
 }
 
 // Of all lines.
-pub fn rules(work: &[u32], count: usize, log: &mut [u32], errors: usize) -> RuleCount
+pub fn rules(work: &[u32], count: usize, log: &mut [u32], errors: usize) -> usize
     requires { ⌜ (4 * count ≤ length (now work)) × (count < 2 ^ 32) × (errors + count < 2 ^ 64) ⌝ }
-    ensures { λ r. ⌜ (r .rules ≡ ruleCount noRules (entries (rows count (now (work .entry))))) × (logged (now (log .exit)) (r .errors) ≡ appendAll (logged (now (log .entry)) errors) (ruleErrors noRules (entries (rows count (now (work .entry)))))) ⌝ }
+    ensures { λ r. ⌜ logged (now (log .exit)) r ≡ appendAll (logged (now (log .entry)) errors) (ruleErrors noRules (entries (rows count (now (work .entry))))) ⌝ }
 {
     let mut s = Tally {
         rules: 0,
@@ -194,8 +188,5 @@ pub fn rules(work: &[u32], count: usize, log: &mut [u32], errors: usize) -> Rule
         s = after(s, v);
         at = entry::next_line(t, at);
     }
-    RuleCount {
-        rules: s.rules,
-        errors: n,
-    }
+    n
 }

@@ -1,0 +1,16 @@
+-- `assembler::pass::failed` meets its contract: where the pass has no diagnostic, appending none changes nothing.
+use borrow.Author.Needs.{needs}
+use Rattle.assembler.proofs.SurveyLaws.{none-given}
+use Rattle.assembler.proofs.pass.failed.Statement.{statement}
+use Rattle.assembler.proofs.pass.failed.Tie as tie
+
+ruleset laws = (needs, none-given)
+
+pub failed-spec : {M : Type 1} → statement M
+failed-spec =
+    tie.close
+    (tie.spec
+    (λ c. search laws)
+    (λ c κs. search laws)
+    (λ c. search laws)
+    (λ c. search laws))
