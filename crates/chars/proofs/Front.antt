@@ -66,9 +66,9 @@ module _ (t : List ℕ) (at a : ℕ) (h : at < length t) (e : a ≡ getD t at 0)
   unfolding decodedAt
   is-bad p = sym (ap (decodedAt at) p)
 
-  pub long-none : 0x80 ≤ a → a < 0xC0 → Invalid ≡ decodedAt at (front (drop at t))
+  pub long-none : 0x80 ≤ getD t at 0 → a < 0xC0 → Invalid ≡ decodedAt at (front (drop at t))
   unfolding lead
-  long-none l u = is-bad (front-led ∙ rw (le-ltb a 0x80 l, lt-ltb a 0xC0 u))
+  long-none l u = is-bad (front-led ∙ rw (le-ltb a 0x80 (omega arith), lt-ltb a 0xC0 u))
 
   module _ (p : 0xC0 ≤ a) (b x : ℕ) (eb : b ≡ tailOf x) (ex : x ≡ getD t (at + 1) 0) where
     tail-b : tailOf (getD t (at + 1) 0) ≡ b

@@ -6,4 +6,5 @@ pub mod Laws
 pub mod Scans
 pub mod Theorems
 pub mod Blocks
+pub mod Short
 pub mod Examples

@@ -1,10 +1,12 @@
 // Characters of a text: UTF-8 (RFC 3629), the set that a description may use, and the classes of code points.
 ghost use mathlib.Core.Path.{_≡_};
-ghost use Prim.Native.Nat.{_+_, _<_, _≤_};
+ghost use mathlib.Core.Bool.{true};
+ghost use Prim.Native.Nat.{_+_, _*_, _<_, _≤_};
 ghost use lib.ListN.{length, getD, drop};
 ghost use Rattle.chars.specs.Utf8.{scalar, size, sizes, tailOf, form, front, decode, decodedAt, validUpTo};
 ghost use Rattle.chars.specs.Ranges.{within};
 ghost use Rattle.chars.specs.Blocks.{ors};
+ghost use Rattle.chars.specs.Short.{isTail, isTwo, twoCode, isThree, plainTwo, plainStep};
 ghost use Rattle.chars.specs.Class.{admitted, outsideFrom, firstOutside, plainUpTo, classOf};
 
 // The character at a place: its code point and the place after it; no character; the text's end.
@@ -98,11 +100,12 @@ fn formed(at: usize, n: usize, code: u32) -> Decoded
     Decoded::Invalid
 }
 
-// The character at a place whose first byte, a, is above ASCII.
-fn long_at(text: &[u8], at: usize, a: u32) -> Decoded
-    requires { ⌜ (at < length (now text)) × (a ≡ getD (now text) at 0) × (0x80 ≤ a) × (a < 256) ⌝ }
+// The character at a place whose first byte is above ASCII.
+fn long_at(text: &[u8], at: usize) -> Decoded
+    requires { ⌜ (at < length (now text)) × (0x80 ≤ getD (now text) at 0) ⌝ }
     ensures { λ r. ⌜ r ≡ decodedAt at (front (drop at (now (text .entry)))) ⌝ }
 {
+    let a = wide(text[at]);
     if a < 0xC0 {
         return Decoded::Invalid;
     }
@@ -127,6 +130,54 @@ fn long_at(text: &[u8], at: usize, a: u32) -> Decoded
     formed(at, 4, (a - 0xF0) * 262144 + b * 4096 + c * 64 + d)
 }
 
+// Whether a byte is a continuation byte.
+fn is_tail(b: u32) -> bool
+    ensures { λ r. ⌜ r ≡ isTail b ⌝ }
+{
+    (0x80 <= b) & (b < 0xC0)
+}
+
+// Whether two bytes are a character.
+fn is_two(a: u32, b: u32) -> bool
+    ensures { λ r. ⌜ r ≡ isTwo a b ⌝ }
+{
+    if a < 0xC2 {
+        return false;
+    }
+    if 0xE0 <= a {
+        return false;
+    }
+    is_tail(b)
+}
+
+// The character of two bytes.
+fn two_code(a: u32, b: u32) -> u32
+    requires { ⌜ isTwo a b ≡ true ⌝ }
+    ensures { λ r. ⌜ r ≡ twoCode a b ⌝ }
+{
+    (a - 0xC0) * 64 + (b - 0x80)
+}
+
+// The second and the third byte of a character as one number.
+fn joined(b: u8, c: u8) -> u32
+    ensures { λ r. ⌜ (r ≡ b * 64 + c) × (r < 16640) ⌝ }
+{
+    wide(b) * 64 + wide(c)
+}
+
+// Whether three bytes are a character that begins with E2: a is the first byte, c the third, and d, the last two joined, lies within bounds.
+fn is_three(lo: u32, hi: u32, a: u32, c: u32, d: u32) -> bool
+    ensures { λ r. ⌜ r ≡ isThree lo hi a c d ⌝ }
+{
+    if a != 0xE2 {
+        return false;
+    }
+    if is_tail(c) {
+        return (lo <= d) & (d < hi);
+    }
+    false
+}
+
 // The character at a place of a text. Small, so that it is compiled into its callers: ASCII is decided here.
 pub fn char_at(text: &[u8], at: usize) -> Decoded
     ensures { λ r. ⌜ r ≡ decodedAt at (front (drop at (now (text .entry)))) ⌝ }
@@ -138,7 +189,31 @@ pub fn char_at(text: &[u8], at: usize) -> Decoded
     if a < 0x80 {
         return Decoded::Char(a, at + 1);
     }
-    long_at(text, at, a)
+    long_at(text, at)
+}
+
+// The same where characters above ASCII are as likely: those of two bytes and those that begin with E2 are decided here too.
+pub fn glyph_at(text: &[u8], at: usize) -> Decoded
+    ensures { λ r. ⌜ r ≡ decodedAt at (front (drop at (now (text .entry)))) ⌝ }
+{
+    if text.len() <= at {
+        return Decoded::End;
+    }
+    let a = wide(text[at]);
+    if a < 0x80 {
+        return Decoded::Char(a, at + 1);
+    }
+    if 2 < text.len() - at {
+        let b = wide(text[at + 1]);
+        if is_two(a, b) {
+            return Decoded::Char(two_code(a, b), at + 2);
+        }
+        let d = joined(text[at + 1], text[at + 2]);
+        if is_three(0x2080, 0x3080, a, wide(text[at + 2]), d) {
+            return Decoded::Char(d - 0x80, at + 3);
+        }
+    }
+    long_at(text, at)
 }
 
 // The length of the longest UTF-8 beginning.
@@ -198,12 +273,18 @@ fn eight(text: &[u8], at: usize) -> u8
     x | (text[at + 4] | (text[at + 5] | (text[at + 6] | text[at + 7])))
 }
 
-// A place before which all bytes are ASCII, from one on: blocks of eight are passed over.
+// A place before which all bytes are ASCII, from one on: blocks of eight are passed over, unless the third byte says that there is none.
 fn ascii_blocks(text: &[u8], at: usize) -> usize
     requires { ⌜ at ≤ length (now text) ⌝ }
     ensures { λ r. ⌜ (at ≤ r) × (r ≤ length (now (text .entry))) × (r + sizes (decode (drop r (now (text .entry)))) ≡ at + sizes (decode (drop at (now (text .entry))))) × (outsideFrom r (decode (drop r (now (text .entry)))) ≡ outsideFrom at (decode (drop at (now (text .entry))))) ⌝ }
 {
     let mut i = at;
+    if text.len() - at < 8 {
+        return at;
+    }
+    if 0x80 <= text[at + 2] {
+        return at;
+    }
     while 8 <= text.len() - i {
         if 0x80 <= eight(text, i) {
             return i;
@@ -228,6 +309,61 @@ fn ascii_end(text: &[u8], at: usize) -> usize
     i
 }
 
+// Whether two bytes are a character of the set, where the first byte tells it: from C2 to CA and from CE to D1.
+fn plain_two(a: u32, b: u32) -> bool
+    ensures { λ r. ⌜ r ≡ plainTwo a b ⌝ }
+{
+    if a < 0xCB {
+        if a < 0xC2 {
+            return false;
+        }
+        return is_tail(b);
+    }
+    if a < 0xCE {
+        return false;
+    }
+    if a < 0xD2 {
+        return is_tail(b);
+    }
+    false
+}
+
+// The place behind the character of the set at a place whose first byte is above ASCII; that place itself where none stands there.
+fn plain_long(text: &[u8], at: usize) -> usize
+    requires { ⌜ (at < length (now text)) × (0x80 ≤ getD (now text) at 0) ⌝ }
+    ensures { λ r. ⌜ r ≡ plainStep at (front (drop at (now (text .entry)))) ⌝ }
+{
+    let d = long_at(text, at);
+    match d {
+        Decoded::Char(c, next) => {
+            if is_admitted(c) {
+                return next;
+            }
+            at
+        }
+        Decoded::Invalid => at,
+        Decoded::End => at,
+    }
+}
+
+// The same, by the first byte, a, for nearly all characters of the set; those of three bytes are 2190 to 243F.
+fn plain_step(text: &[u8], at: usize, a: u32) -> usize
+    requires { ⌜ (at < length (now text)) × (a ≡ getD (now text) at 0) × (0x80 ≤ a) ⌝ }
+    ensures { λ r. ⌜ r ≡ plainStep at (front (drop at (now (text .entry)))) ⌝ }
+{
+    if text.len() - at < 3 {
+        return plain_long(text, at);
+    }
+    if plain_two(a, wide(text[at + 1])) {
+        return at + 2;
+    }
+    let d = joined(text[at + 1], text[at + 2]);
+    if is_three(0x2210, 0x24C0, a, wide(text[at + 2]), d) {
+        return at + 3;
+    }
+    plain_long(text, at)
+}
+
 // The place of the first character outside the set, or the end of the longest UTF-8 beginning where there is none.
 pub fn plain_up_to(text: &[u8]) -> usize
     ensures { λ r. ⌜ r ≡ plainUpTo (now (text .entry)) ⌝ }
@@ -241,18 +377,11 @@ pub fn plain_up_to(text: &[u8]) -> usize
         if a < 0x80 {
             at = ascii_end(text, at + 1);
         } else {
-            let d = long_at(text, at, a);
-            match d {
-                Decoded::Char(c, next) => {
-                    if is_admitted(c) {
-                        at = next;
-                    } else {
-                        return at;
-                    }
-                }
-                Decoded::Invalid => return at,
-                Decoded::End => return at,
+            let next = plain_step(text, at, a);
+            if next == at {
+                return at;
             }
+            at = next;
         }
     }
 }

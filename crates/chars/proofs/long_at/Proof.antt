@@ -10,6 +10,8 @@ pub long-at-spec : {M : Type 1} → statement M
 long-at-spec =
     tie.close
     (tie.spec
+    (λ c. search needs)
+    (λ c κs. search needs)
     (λ c. search laws)
     (λ c. search needs)
     (λ c κs. search needs)

@@ -4,9 +4,9 @@ use mathlib.Core.Path.{_≡_}
 use lib.ListN.{length, drop}
 use Rattle.chars.specs.Utf8.{sizes, decode, validUpTo}
 use Rattle.chars.specs.Class.{outsideFrom, firstOutside}
-use Rattle.chars.proofs.Laws.{char-le, char-falls}
-use Rattle.chars.proofs.Scans.{valid-start, valid-on, outside-start, outside-on}
-use Rattle.chars.proofs.Blocks.{plain-end, plain-invalid, plain-stop, plain-here, run-valid, run-outside}
+use Rattle.chars.proofs.Scans.{valid-start, outside-start}
+use Rattle.chars.proofs.Blocks.{plain-end, run-valid, run-outside}
+use Rattle.chars.proofs.Short.{step-le, step-falls, step-valid, step-outside, step-stop}
 use borrow.Author.Needs.{needs}
 use Rattle.chars.proofs.plain_up_to.Statement.{statement}
 use Rattle.chars.proofs.plain_up_to.Tie as tie
@@ -17,7 +17,7 @@ Inv-loop text at₀ at = (at ≤ length text) × (at + sizes (decode (drop at te
 abbrev μ-loop : tie.MeasureT-loop
 μ-loop text at₀ at = length text - at
 
-ruleset laws = (needs, char-le, char-falls, valid-on, outside-on, plain-end, plain-invalid, plain-stop, plain-here, run-valid, run-outside)
+ruleset laws = (needs, plain-end, run-valid, run-outside, step-le, step-falls, step-valid, step-outside, step-stop)
 
 pub plain-up-to-spec : {M : Type 1} → statement M
 plain-up-to-spec =
@@ -34,12 +34,6 @@ plain-up-to-spec =
     (λ c. search laws)
     (λ c. search laws)
     (λ c κs. search laws)
-    (λ c. search laws)
-    (λ c κs. search laws)
-    (λ c. search laws)
-    (λ c. search laws)
-    (λ c. search laws)
-    (λ c. search laws)
     (λ c. search laws)
     (λ c. search laws)
     (λ c. search laws))
