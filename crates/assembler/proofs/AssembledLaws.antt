@@ -27,6 +27,7 @@ use Rattle.assembler.specs.declared.Assembled.{Assembled}
 use Rattle.assembler.specs.Rows.{rows}
 use Rattle.assembler.specs.Entries.{Entry, behind, entriesFrom, entries}
 use Rattle.assembler.specs.Entered.{flat, enteredFrom, entered}
+use Rattle.assembler.specs.Feeds.{Fed}
 use Rattle.assembler.specs.Failures.{lineError, lineErrors}
 use Rattle.assembler.specs.Declarations.{undeclared, declare, declarations, declarationError, declarationErrors}
 use Rattle.assembler.specs.Finals.{nameAt, namesFrom, namesOf, finalError, finalErrors, finalsErrors, Interned, Laid, Kept}
@@ -44,6 +45,7 @@ use Rattle.assembler.proofs.Means.{AllMean, records-append, line-errors
 use Rattle.assembler.proofs.RulesMean.{RulesOf, rule-errors-mean, rule-count-mean}
 use Rattle.assembler.proofs.FinalsMean.{NamesIn, finals-mean}
 use Rattle.assembler.proofs.EntriesMean.{entries-mean}
+use Rattle.assembler.proofs.FeedLaws.{entered-fed}
 
 -- ---- rows and the words behind them
 length-entered-from : (ps : List Token) (i : ℕ) (ts : List Token) → length (enteredFrom ps i ts) ≡ length ts
@@ -170,6 +172,9 @@ module _ (text : List ℕ) (count : ℕ) (w₀ w₁ first : List ℕ) (l : Log)
     rules-few h =
         omega (arith, ap (λ (x : Log). x .count) finals, append-all-count l (finalsErrors text (rows count w₀) first), finals-few text (rows count w₀) first, row-size)
 
+    pub rules-fed : Fed (rows count w₀) → Fed (rows count w₁)
+    rules-fed f = subst Fed (sym row-kept) f
+
     pub rules-wrong : (k : ℕ) → k ≡ length (ruleErrors noRules (entries (rows count w₀))) → k ≡ length (ruleErrors noRules (entries (rows count w₁)))
     rules-wrong k e = e ∙ ap (λ (ts : List Token). length (ruleErrors noRules (entries ts))) (sym row-kept)
 
@@ -274,6 +279,9 @@ module _ (text : List ℕ) (count : ℕ) (w₀ w₁ : List ℕ) (p : S.Tokenized
     marks = omega (arith, p .many, tokens-of-bytes text, p .room, e .size);
     few = omega (arith, p .many, tokens-of-bytes text, p .short);
   }
+
+  pub passes-fed : Fed (rows count w₁)
+  passes-fed = subst Fed (sym (e .row)) (entered-fed (rows count w₀))
 
   pub outcome : (w₂ log₀ log : List ℕ) (r : Assembled) → S.Diagnosed text count w₁ w₂ log₀ log r → S.Outcome text count w₀ w₂ log₀ log r
   outcome w₂ log₀ log r d =

@@ -13,10 +13,12 @@ use Rattle.diag.specs.declared.Diagnostic.{Diagnostic}
 use Rattle.diag.specs.Log.{error, withRelated, Log, logged, appended, appendAll}
 use Rattle.tokens.specs.declared.Token.{Token}
 use Rattle.parser.specs.Row.{peek, ended}
+use Rattle.parser.specs.Lines.{lineLength}
 use Rattle.assembler.specs.Rows.{rows, placeOf}
 use Rattle.assembler.specs.Entries.{Entry, entryAt, behind, entries}
+use Rattle.assembler.specs.Feeds.{Fed}
 use Rattle.assembler.specs.Declarations.{declares, nameOf, declare, declarations, tapesError, declarationError, declarationErrors}
-use Rattle.assembler.proofs.Rows.{length-rows, entriesAt, entries-step, entries-end}
+use Rattle.assembler.proofs.Rows.{length-rows, entriesAt, entries-step, entries-end, fed-next}
 use Rattle.assembler.proofs.Passes.{at-most-one, Passing, passing-start, passing-step, passing-end}
 
 -- ---- the value of `tapes`
@@ -117,22 +119,22 @@ pub record Declaring (count : ℕ) (work : List ℕ) (all : List ℕ) (target : 
   pub declared : declarations count first (entriesAt (rows count work) i) ≡ all
   pub passing : Passing (rows count work) (declarationErrors (rows count work) first) target from w₀ w n i
 
-pub declaring-start : (count : ℕ) (work first w : List ℕ) (n : ℕ)
+pub declaring-start : (count : ℕ) (work first w : List ℕ) (n : ℕ) → Fed (rows count work)
     → Declaring count work (declarations count first (entries (rows count work))) (appendAll (logged w n) (declarationErrors (rows count work) first (entries (rows count work)))) n w first w n 0
 unfolding entries
-declaring-start count work first w n = record { declared = refl; passing = passing-start (rows count work) (declarationErrors (rows count work) first) w n }
+declaring-start count work first w n fed = record { declared = refl; passing = passing-start (rows count work) (declarationErrors (rows count work) first) w n fed }
 
 module _ (count : ℕ) (work all : List ℕ) (target : Log) (from : ℕ) (w₀ first w : List ℕ) (n i : ℕ) (d : Declaring count work all target from w₀ first w n i) (room : 4 * count ≤ length work) where
-  pub declaring-on : (first′ w′ : List ℕ) (n′ j : ℕ) (t : Token) → i < count → first′ ≡ declare count first (entryAt (rows count work) i)
-      → logged w′ n′ ≡ appendAll (logged w n) (declarationError (rows count work) first (entryAt (rows count work) i)) → t ≡ peek (rows count work) i → j ≡ i + 1 + behind i t
+  pub declaring-on : (first′ w′ : List ℕ) (n′ j : ℕ) → i < count → first′ ≡ declare count first (entryAt (rows count work) i)
+      → logged w′ n′ ≡ appendAll (logged w n) (declarationError (rows count work) first (entryAt (rows count work) i)) → j ≡ i + 1 + lineLength (drop i (rows count work))
       → Declaring count work all target from w₀ first′ w′ n′ j
   unfolding declarations declarationErrors
-  declaring-on first′ w′ n′ j t h ef ew q z =
+  declaring-on first′ w′ n′ j h ef ew z =
       let ts : List Token = rows count work in
       let many : length ts ≡ count = length-rows count work room in
       let here : i < length ts = omega arith in
       let e : Entry = entryAt ts i in
-      let next : i + 1 + behind i (peek ts i) ≡ j = ap (λ (t : Token). i + 1 + behind i t) (sym q) ∙ sym z in
+      let next : i + 1 + behind i (peek ts i) ≡ j = fed-next ts i (d .passing .fed) here j z in
       let ef′ : declare (length ts) first e ≡ first′ = ap (λ (c : ℕ). declare c first e) many ∙ sym ef in
       let lines : entriesAt ts i ≡ e ∷ entriesAt ts j = entries-step ts i here ∙ ap (λ (j : ℕ). e ∷ entriesAt ts j) next in
       record {

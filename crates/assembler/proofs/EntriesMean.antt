@@ -134,7 +134,7 @@ feed-there (w ∷ ws) h = go (eqb (w .kind) 13) refl h (feed-there ws)
     go true e h r = e
     go false e h r = r (le-of-suc-le-suc h)
 
-length-by : (w : Token) (ws : List Token) (b : Bool) → eqb (w .kind) 13 ≡ b → lineLength (w ∷ ws) ≡ elim b [ true ↦ 0 | false ↦ suc (lineLength ws) ]
+pub length-by : (w : Token) (ws : List Token) (b : Bool) → eqb (w .kind) 13 ≡ b → lineLength (w ∷ ws) ≡ elim b [ true ↦ 0 | false ↦ suc (lineLength ws) ]
 unfolding lineLength
 length-by w ws b e = ap (λ (b : Bool). elim b [ true ↦ 0 | false ↦ suc (lineLength ws) ]) e
 

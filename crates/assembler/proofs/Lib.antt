@@ -18,4 +18,5 @@ pub mod FinalsMean
 pub mod SetsMean
 pub mod NamesMean
 pub mod EntriesMean
+pub mod FeedLaws
 pub mod AssembledLaws

@@ -11,7 +11,8 @@ use Rattle.diag.proofs.Appended.{append-all-append, append-all-count, append-al
 use Rattle.tokens.specs.declared.Token.{Token}
 use Rattle.parser.specs.Row.{peek}
 use Rattle.assembler.specs.Entries.{Entry, entryAt, behind, entriesFrom, entries}
-use Rattle.assembler.proofs.Rows.{entriesAt, entries-step, entries-end}
+use Rattle.assembler.specs.Feeds.{AllFed, Fed}
+use Rattle.assembler.proofs.Rows.{entriesAt, entries-step, entries-end, fed-on}
 
 -- of two lists of at most one diagnostic, either
 pub at-most-one : (b : Bool) (x y : List Diagnostic) → length x ≤ 1 → length y ≤ 1 → length (cond b x y) ≤ 1
@@ -23,11 +24,12 @@ pub record Passing (ts : List Token) (left : List Entry → List Diagnostic) (ta
   pub whole : appendAll (logged w n) (left (entriesAt ts i)) ≡ target
   pub few : n ≤ from + i
   pub size : length w ≡ length w₀
+  pub fed : AllFed (entriesAt ts i)
 
-pub passing-start : (ts : List Token) (left : List Entry → List Diagnostic) (w : List ℕ) (n : ℕ)
+pub passing-start : (ts : List Token) (left : List Entry → List Diagnostic) (w : List ℕ) (n : ℕ) → Fed ts
     → Passing ts left (appendAll (logged w n) (left (entries ts))) n w w n 0
 unfolding entries
-passing-start ts left w n = record { whole = refl; few = omega arith; size = refl }
+passing-start ts left w n fed = record { whole = refl; few = omega arith; size = refl; fed = fed }
 
 module _ (ts : List Token) (target : Log) (from : ℕ) (w₀ w : List ℕ) (n i : ℕ) where
   pub passing-step : (f g : List Entry → List Diagnostic) (ds : List Diagnostic) (w′ : List ℕ) (n′ : ℕ) → Passing ts f target from w₀ w n i → i < length ts
@@ -43,6 +45,7 @@ module _ (ts : List Token) (target : Log) (from : ℕ) (w₀ w : List ℕ) (n i 
             ∙ ap (λ (es : List Entry). appendAll (logged w n) (f es)) (sym (entries-step ts i h)) ∙ p .whole;
         few = omega (arith, p .few);
         size = ap (λ (l : Log). length (l .row)) e ∙ append-all-length (logged w n) ds ∙ p .size;
+        fed = fed-on ts i (p .fed) h;
       }
 
   pub passing-end : (f : List Entry → List Diagnostic) → Passing ts f target from w₀ w n i → length ts ≤ i → f [] ≡ [] → logged w n ≡ target

@@ -1,15 +1,20 @@
 -- Laws of the tokens in a row of words, and of the lines that their entries part.
-use mathlib.Core.Path.{_≡_, refl, ap, _∙_}
+use mathlib.Core.Path.{_≡_, refl, sym, ap, subst, _∙_}
+use mathlib.Core.Bool.{Bool, true, false}
 use mathlib.Core.List.{List, [], _∷_}
-use Prim.Native.Nat.{ℕ, zero, suc, _+_, _≤_, _<_}
+use Prim.Native.Nat.{ℕ, zero, suc, _+_, _*_, _≤_, _<_}
 use native.Mathlib.Omega.{arith}
 use borrow.Author.Tests.{le-leb, lt-leb, eq-eqb, ne-eqb}
+use lib.Dec.{eqb}
 use lib.ListN.{length, drop, drop-of-length-le}
 use lib.Seq.{drop-cons, drop-drop}
 use Rattle.tokens.specs.declared.Token.{Token}
 use Rattle.parser.specs.Row.{ended, peek}
+use Rattle.parser.specs.Lines.{lineLength}
 pub use Rattle.equal_names.proofs.NameLaws.{length-rows, row-read, row-past}
+use Rattle.assembler.specs.Rows.{rows}
 use Rattle.assembler.specs.Entries.{Entry, entryAt, behind, entriesFrom, entries}
+use Rattle.assembler.specs.Feeds.{AllFed}
 
 -- ---- the lines
 pub entries-skip : (k i : ℕ) (ts : List Token) → entriesFrom k i ts ≡ entriesFrom 0 (i + k) (drop k ts)
@@ -55,3 +60,47 @@ module _ (t : Token) (i : ℕ) where
   pub next-other : t .kind < 16 → (t .kind ≡ 12 → ⊥) → i + 1 ≡ i + 1 + behind i t
   unfolding behind
   next-other h g = rw (lt-leb 16 (t .kind) h, ne-eqb (t .kind) 12 g) (omega arith)
+
+-- ---- lines that end at their line feeds
+module _ (ts : List Token) (i : ℕ) (f : AllFed (entriesAt ts i)) (h : i < length ts) where
+  both-fed : AllFed (entryAt ts i ∷ entriesAt ts (i + 1 + behind i (peek ts i)))
+  both-fed = subst AllFed (entries-step ts i h) f
+
+  pub fed-next : (j : ℕ) → j ≡ i + 1 + lineLength (drop i ts) → i + 1 + behind i (peek ts i) ≡ j
+  fed-next j e = ap (λ (n : ℕ). i + 1 + n) (both-fed .0 ∙ ap lineLength (sym (drop-cons ts i ended h))) ∙ sym e
+
+  pub fed-on : AllFed (entriesAt ts (i + 1 + behind i (peek ts i)))
+  fed-on = both-fed .1
+
+-- the search for a line feed from the index a on has come to the index i
+pub record Seeking (count : ℕ) (work : List ℕ) (a i : ℕ) : Type 0 where
+  pub left : i + lineLength (drop i (rows count work)) ≡ a + lineLength (drop a (rows count work))
+  pub within : i ≤ count
+
+pub seeking-start : (count : ℕ) (work : List ℕ) (a : ℕ) → a < count → Seeking count work a a
+seeking-start count work a h = record { left = refl; within = omega arith }
+
+module _ (count : ℕ) (work : List ℕ) (a i : ℕ) (s : Seeking count work a i) (room : 4 * count ≤ length work) where
+  here-by : (b : Bool) → i < count → eqb (peek (rows count work) i .kind) 13 ≡ b → lineLength (drop i (rows count work)) ≡ elim b [ true ↦ 0 | false ↦ suc (lineLength (drop (suc i) (rows count work))) ]
+  unfolding lineLength
+  here-by b h e =
+      ap lineLength (drop-cons (rows count work) i ended (omega (arith, length-rows count work room)))
+      ∙ ap (λ (b : Bool). elim b [ true ↦ 0 | false ↦ suc (lineLength (drop (suc i) (rows count work))) ]) e
+
+  module _ (t : Token) (h : i < count) (e : t ≡ peek (rows count work) i) where
+    pub seeking-on : (t .kind ≡ 13 → ⊥) → Seeking count work a (i + 1)
+    seeking-on n =
+        let z : i + 1 ≡ suc i = omega arith in
+        let one : lineLength (drop i (rows count work)) ≡ suc (lineLength (drop (suc i) (rows count work))) = here-by false h (ap (λ (t : Token). eqb (t .kind) 13) (sym e) ∙ ne-eqb (t .kind) 13 n) in
+        record { left = ap (λ (k : ℕ). k + lineLength (drop k (rows count work))) z ∙ omega (arith, one) ∙ s .left; within = omega arith }
+
+    pub seeking-here : t .kind ≡ 13 → i + 1 ≡ a + 1 + lineLength (drop a (rows count work))
+    seeking-here y =
+        let none : lineLength (drop i (rows count work)) ≡ 0 = here-by true h (ap (λ (t : Token). eqb (t .kind) 13) (sym e) ∙ eq-eqb (t .kind) 13 y) in
+        omega (arith, s .left, none)
+
+  pub seeking-end : count ≤ i → i + 1 ≡ a + 1 + lineLength (drop a (rows count work))
+  unfolding lineLength
+  seeking-end h =
+      let none : lineLength (drop i (rows count work)) ≡ 0 = ap lineLength (drop-of-length-le (rows count work) {i = i} (omega (arith, length-rows count work room))) in
+      omega (arith, s .left, none)

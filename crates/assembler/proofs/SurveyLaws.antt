@@ -3,23 +3,25 @@ use mathlib.Core.Path.{_≡_, refl, sym, ap, subst, _∙_}
 use mathlib.Core.List.{List, [], _∷_, _++_}
 use Prim.Native.Nat.{ℕ, zero, suc, _+_, _-_, _*_, _≤_, _<_}
 use native.Mathlib.Omega.{arith}
-use lib.ListN.{length, length-append}
+use lib.ListN.{length, drop, length-append}
 use Rattle.diag.specs.declared.Span.{Span}
 use Rattle.diag.specs.declared.Diagnostic.{Diagnostic}
 use Rattle.diag.specs.Log.{Log, logged, appendAll}
 use Rattle.diag.proofs.Appended.{append-all-count}
 use Rattle.tokens.specs.declared.Token.{Token}
 use Rattle.parser.specs.Row.{peek}
+use Rattle.parser.specs.Lines.{lineLength}
 use Rattle.assembler.specs.declared.rules.Tally.{Tally}
 use Rattle.assembler.specs.declared.rules.Verdict.{Verdict}
 use Rattle.assembler.specs.declared.survey.Counts.{Counts}
 use Rattle.assembler.specs.Rows.{rows, placeOf}
 use Rattle.assembler.specs.Entries.{Entry, entryAt, behind, entries}
+use Rattle.assembler.specs.Feeds.{AllFed, Fed}
 use Rattle.assembler.specs.Failures.{lineError, lineErrors}
 use Rattle.assembler.specs.Declarations.{declare, declarations, declarationError, declarationErrors}
 use Rattle.assembler.specs.Rules.{noRules, verdict, after, ruleError, ruleErrors, ruleCount}
 use Rattle.assembler.specs.Survey.{Surveyed}
-use Rattle.assembler.proofs.Rows.{length-rows, entriesAt, entries-step, entries-end}
+use Rattle.assembler.proofs.Rows.{length-rows, entriesAt, entries-step, entries-end, fed-next, fed-on}
 use Rattle.assembler.proofs.FailureLaws.{line-error-one}
 use Rattle.assembler.proofs.DeclarationLaws.{one-wrong}
 use Rattle.assembler.proofs.RuleLaws.{one-rule, verdict-within, after-within}
@@ -45,10 +47,11 @@ pub record Surveying (count : ℕ) (work first₀ first : List ℕ) (s : Tally) 
   pub few-failures : f ≤ i
   pub few-names : d ≤ i
   pub few-wrong : r ≤ i
+  pub fed : AllFed (entriesAt (rows count work) i)
 
-pub surveying-start : (count : ℕ) (work first : List ℕ) → Surveying count work first first noRules 0 0 0 0
+pub surveying-start : (count : ℕ) (work first : List ℕ) → Fed (rows count work) → Surveying count work first first noRules 0 0 0 0
 unfolding entries
-surveying-start count work first = record {
+surveying-start count work first fed = record {
   declared = refl;
   rules = refl;
   failures = omega arith;
@@ -58,6 +61,7 @@ surveying-start count work first = record {
   few-failures = omega arith;
   few-names = omega arith;
   few-wrong = omega arith;
+  fed = fed;
 }
 
 -- n before one line's diagnostics, and those behind it
@@ -70,14 +74,14 @@ module _ (count : ℕ) (work first₀ first : List ℕ) (s : Tally) (f d r i : �
 
   pub survey-on : (t : Token) (x y z : ℕ) (first′ : List ℕ) (v : Verdict) (q : Span) (s′ : Tally) (j : ℕ) → i < count → t ≡ peek (rows count work) i → x ≡ f + length (lineError t)
       → first′ ≡ declare count first (entryAt (rows count work) i) → y ≡ d + length (declarationError (rows count work) first (entryAt (rows count work) i))
-      → v ≡ verdict (s .rules) (entryAt (rows count work) i) → q ≡ placeOf t → z ≡ r + length (ruleError v (s .cut) q) → s′ ≡ after s v → j ≡ i + 1 + behind i t
+      → v ≡ verdict (s .rules) (entryAt (rows count work) i) → q ≡ placeOf t → z ≡ r + length (ruleError v (s .cut) q) → s′ ≡ after s v → j ≡ i + 1 + lineLength (drop i (rows count work))
       → Surveying count work first₀ first′ s′ x y z j
   unfolding declarations declarationErrors lineErrors ruleErrors ruleCount
   survey-on t x y z first′ v q s′ j h et ex ef ey ev eq ez es ej =
       let many : length ts ≡ count = length-rows count work room in
       let here : i < length ts = omega arith in
       let e : Entry = entryAt ts i in
-      let next : i + 1 + behind i (peek ts i) ≡ j = ap (λ (t : Token). i + 1 + behind i t) (sym et) ∙ sym ej in
+      let next : i + 1 + behind i (peek ts i) ≡ j = fed-next ts i (p .fed) here j ej in
       let v′ : Verdict = verdict (s .rules) e in
       let lines : entriesAt ts i ≡ e ∷ entriesAt ts j = entries-step ts i here ∙ ap (λ (j : ℕ). e ∷ entriesAt ts j) next in
       let rest : List Entry = entriesAt ts j in
@@ -101,6 +105,7 @@ module _ (count : ℕ) (work first₀ first : List ℕ) (s : Tally) (f d r i : �
         few-failures = omega (arith, p .few-failures, ex′, line-error-one (e .first), ej);
         few-names = omega (arith, p .few-names, ey, one-wrong ts first e, ej);
         few-wrong = omega (arith, p .few-wrong, ez′, one-rule v′ (s .cut) (placeOf (e .first)), ej);
+        fed = subst (λ (j : ℕ). AllFed (entriesAt ts j)) next (fed-on ts i (p .fed) here);
       }
 
   none-left : count ≤ i → entriesAt ts i ≡ []

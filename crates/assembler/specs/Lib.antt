@@ -1,5 +1,6 @@
 pub mod Rows
 pub mod Entries
+pub mod Feeds
 pub mod Failures
 pub mod Declarations
 pub mod Rules

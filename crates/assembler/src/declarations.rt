@@ -6,6 +6,7 @@ ghost use Rattle.diag.specs.Log.{error, withRelated, logged, appended, appendAl
 ghost use Rattle.parser.specs.Row.{peek};
 ghost use Rattle.assembler.specs.Rows.{rows, placeOf};
 ghost use Rattle.assembler.specs.Entries.{entryAt, entries};
+ghost use Rattle.assembler.specs.Feeds.{Fed};
 ghost use Rattle.assembler.specs.Declarations.{declare, declarations, tapesError, declarationError, declarationErrors};
 use crate::entry;
 use diag::Diagnostic;
@@ -93,14 +94,14 @@ pub fn declarations(
     log: &mut [u32],
     errors: usize,
 ) -> usize
-    requires { ⌜ (4 * count ≤ length (now work)) × (count < 2 ^ 32) × (errors + count < 2 ^ 64) ⌝ }
+    requires { ⌜ (4 * count ≤ length (now work)) × (count < 2 ^ 32) × (errors + count < 2 ^ 64) × Fed (rows count (now work)) ⌝ }
     ensures { λ r. ⌜ (now (first .exit) ≡ declarations count (now (first .entry)) (entries (rows count (now (work .entry))))) × (logged (now (log .exit)) r ≡ appendAll (logged (now (log .entry)) errors) (declarationErrors (rows count (now (work .entry))) (now (first .entry)) (entries (rows count (now (work .entry)))))) ⌝ }
 {
     let mut n = errors;
     let mut at = 0;
     while at < count {
         n = declaration(work, count, at, first, log, n);
-        at = entry::next_line(entry::token_at(work, count, at), at);
+        at = entry::behind_feed(work, count, at);
     }
     n
 }

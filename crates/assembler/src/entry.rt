@@ -1,8 +1,9 @@
 // The tokens in a row of words, and the lines whose first tokens are entries.
 ghost use mathlib.Core.Path.{_≡_};
 ghost use Prim.Native.Nat.{_+_, _*_, _≤_, _<_, _^_};
-ghost use lib.ListN.{length};
+ghost use lib.ListN.{length, drop};
 ghost use Rattle.parser.specs.Row.{peek};
+ghost use Rattle.parser.specs.Lines.{lineLength};
 ghost use Rattle.assembler.specs.Rows.{rows, placeOf};
 ghost use Rattle.assembler.specs.Entries.{behind};
 use diag::Span;
@@ -63,4 +64,21 @@ pub fn next_line(t: Token, at: usize) -> usize
         return at + 2;
     }
     at + 1
+}
+
+// The index behind the first line feed from an index on. A walk over all lines goes by this where memory is slow: the next place to read does not wait
+// for what was read last, as it does by next_line.
+pub fn behind_feed(work: &[u32], count: usize, at: usize) -> usize
+    requires { ⌜ (4 * count ≤ length (now work)) × (at < count) ⌝ }
+    ensures { λ r. ⌜ r ≡ at + 1 + lineLength (drop at (rows count (now (work .entry)))) ⌝ }
+{
+    let mut i = at;
+    while i < count {
+        let t = token_at(work, count, i);
+        if t.kind == kind::NEWLINE {
+            return i + 1;
+        }
+        i += 1;
+    }
+    i + 1
 }

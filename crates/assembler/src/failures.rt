@@ -6,6 +6,7 @@ ghost use Rattle.diag.specs.Log.{logged, appendAll};
 ghost use Rattle.parser.specs.Row.{tokensIn, peek};
 ghost use Rattle.assembler.specs.Rows.{rows};
 ghost use Rattle.assembler.specs.Entries.{entryAt, entries};
+ghost use Rattle.assembler.specs.Feeds.{Fed};
 ghost use Rattle.assembler.specs.Failures.{lineError, lineErrors};
 use crate::entry;
 use diag::Diagnostic;
@@ -25,7 +26,7 @@ pub fn line_error(t: Token, log: &mut [u32], errors: usize) -> usize
 
 // Of all lines.
 pub fn line_errors(work: &[u32], count: usize, log: &mut [u32], errors: usize) -> usize
-    requires { ⌜ (4 * count ≤ length (now work)) × (errors + count < 2 ^ 64) ⌝ }
+    requires { ⌜ (4 * count ≤ length (now work)) × (errors + count < 2 ^ 64) × Fed (rows count (now work)) ⌝ }
     ensures { λ r. ⌜ logged (now (log .exit)) r ≡ appendAll (logged (now (log .entry)) errors) (lineErrors (entries (rows count (now (work .entry))))) ⌝ }
 {
     let mut n = errors;
@@ -33,7 +34,7 @@ pub fn line_errors(work: &[u32], count: usize, log: &mut [u32], errors: usize) -
     while at < count {
         let t = entry::token_at(work, count, at);
         n = line_error(t, log, n);
-        at = entry::next_line(t, at);
+        at = entry::behind_feed(work, count, at);
     }
     n
 }

@@ -6,6 +6,7 @@ ghost use Rattle.diag.specs.Log.{logged};
 ghost use lib.ListN.{length};
 ghost use Rattle.assembler.specs.Rows.{rows};
 ghost use Rattle.assembler.specs.Entries.{entries};
+ghost use Rattle.assembler.specs.Feeds.{Fed};
 ghost use Rattle.assembler.specs.Finals.{Interned, Laid};
 ghost use Rattle.assembler.specs.Rules.{ruleErrors, noRules};
 ghost use Rattle.assembler.specs.Assembled.{Tokenized, Entered, FinalsAndRules, Diagnosed, Outcome, wordsFrom, marksFrom};
@@ -46,7 +47,7 @@ fn finals_and_rules(
     log: &mut [u32],
     m: usize,
 ) -> usize
-    requires { ⌜ Laid count (wordsFrom (length (now text))) (marksFrom (length (now text))) (now work) × Interned (now text) (rows count (now work)) (wordsFrom (length (now text))) (now work) × (m + 2 * count < 2 ^ 64) × (wrong ≡ length (ruleErrors noRules (entries (rows count (now work))))) ⌝ }
+    requires { ⌜ Laid count (wordsFrom (length (now text))) (marksFrom (length (now text))) (now work) × Interned (now text) (rows count (now work)) (wordsFrom (length (now text))) (now work) × (m + 2 * count < 2 ^ 64) × Fed (rows count (now work)) × (wrong ≡ length (ruleErrors noRules (entries (rows count (now work))))) ⌝ }
     ensures { λ r. ⌜ FinalsAndRules (now (text .entry)) count (now (work .entry)) (now (work .exit)) (now (first .entry)) (logged (now (log .entry)) m) (now (log .exit)) r ⌝ }
 {
     let base = text.len() + 1;
@@ -56,7 +57,7 @@ fn finals_and_rules(
 
 // The lines that were entered: one walk counts, and the passes that have diagnostics follow.
 fn diagnose(text: &[u8], work: &mut [u32], count: usize, log: &mut [u32]) -> Assembled
-    requires { ⌜ Laid count (wordsFrom (length (now text))) (marksFrom (length (now text))) (now work) × Interned (now text) (rows count (now work)) (wordsFrom (length (now text))) (now work) ⌝ }
+    requires { ⌜ Laid count (wordsFrom (length (now text))) (marksFrom (length (now text))) (now work) × Interned (now text) (rows count (now work)) (wordsFrom (length (now text))) (now work) × Fed (rows count (now work)) ⌝ }
     ensures { λ r. ⌜ Diagnosed (now (text .entry)) count (now (work .entry)) (now (work .exit)) (now (log .entry)) (now (log .exit)) r ⌝ }
 {
     let mut first = [0xffff_ffffu32; 11];

@@ -5,6 +5,7 @@ ghost use lib.ListN.{length};
 ghost use Rattle.diag.specs.Log.{logged, appendAll};
 ghost use Rattle.assembler.specs.Rows.{rows};
 ghost use Rattle.assembler.specs.Entries.{entries};
+ghost use Rattle.assembler.specs.Feeds.{Fed};
 ghost use Rattle.assembler.specs.Failures.{lineErrors};
 ghost use Rattle.assembler.specs.Declarations.{undeclared, declarationErrors};
 ghost use Rattle.assembler.specs.Rules.{ruleErrors, noRules};
@@ -14,7 +15,7 @@ use crate::rules;
 
 // Of the lines that failed.
 pub fn failed(work: &[u32], count: usize, k: usize, log: &mut [u32], errors: usize) -> usize
-    requires { ⌜ (4 * count ≤ length (now work)) × (errors + count < 2 ^ 64) × (k ≡ length (lineErrors (entries (rows count (now work))))) ⌝ }
+    requires { ⌜ (4 * count ≤ length (now work)) × (errors + count < 2 ^ 64) × Fed (rows count (now work)) × (k ≡ length (lineErrors (entries (rows count (now work))))) ⌝ }
     ensures { λ r. ⌜ logged (now (log .exit)) r ≡ appendAll (logged (now (log .entry)) errors) (lineErrors (entries (rows count (now (work .entry))))) ⌝ }
 {
     if k == 0 {
@@ -25,7 +26,7 @@ pub fn failed(work: &[u32], count: usize, k: usize, log: &mut [u32], errors: usi
 
 // Of the declarations.
 pub fn declared(work: &[u32], count: usize, k: usize, log: &mut [u32], errors: usize) -> usize
-    requires { ⌜ (4 * count ≤ length (now work)) × (count < 2 ^ 32) × (errors + count < 2 ^ 64) × (k ≡ length (declarationErrors (rows count (now work)) undeclared (entries (rows count (now work))))) ⌝ }
+    requires { ⌜ (4 * count ≤ length (now work)) × (count < 2 ^ 32) × (errors + count < 2 ^ 64) × Fed (rows count (now work)) × (k ≡ length (declarationErrors (rows count (now work)) undeclared (entries (rows count (now work))))) ⌝ }
     ensures { λ r. ⌜ logged (now (log .exit)) r ≡ appendAll (logged (now (log .entry)) errors) (declarationErrors (rows count (now (work .entry))) undeclared (entries (rows count (now (work .entry))))) ⌝ }
 {
     if k == 0 {
@@ -37,7 +38,7 @@ pub fn declared(work: &[u32], count: usize, k: usize, log: &mut [u32], errors: u
 
 // Of the rules.
 pub fn ruled(work: &[u32], count: usize, k: usize, log: &mut [u32], errors: usize) -> usize
-    requires { ⌜ (4 * count ≤ length (now work)) × (count < 2 ^ 32) × (errors + count < 2 ^ 64) × (k ≡ length (ruleErrors noRules (entries (rows count (now work))))) ⌝ }
+    requires { ⌜ (4 * count ≤ length (now work)) × (count < 2 ^ 32) × (errors + count < 2 ^ 64) × Fed (rows count (now work)) × (k ≡ length (ruleErrors noRules (entries (rows count (now work))))) ⌝ }
     ensures { λ r. ⌜ logged (now (log .exit)) r ≡ appendAll (logged (now (log .entry)) errors) (ruleErrors noRules (entries (rows count (now (work .entry))))) ⌝ }
 {
     if k == 0 {

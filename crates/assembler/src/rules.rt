@@ -7,6 +7,7 @@ ghost use Rattle.diag.specs.declared.Span.{Span};
 ghost use Rattle.parser.specs.Row.{peek};
 ghost use Rattle.assembler.specs.Rows.{rows, placeOf};
 ghost use Rattle.assembler.specs.Entries.{entryAt, entries};
+ghost use Rattle.assembler.specs.Feeds.{Fed};
 ghost use Rattle.assembler.specs.Rules.{counted, combinations, sameArity, verdict, after, ruleError, ruleErrors, noRules};
 use crate::entry;
 use diag::Diagnostic;
@@ -172,7 +173,7 @@ pub fn rule_error(v: Verdict, cut: bool, place: Span, log: &mut [u32], errors: u
 
 // Of all lines.
 pub fn rules(work: &[u32], count: usize, log: &mut [u32], errors: usize) -> usize
-    requires { ⌜ (4 * count ≤ length (now work)) × (count < 2 ^ 32) × (errors + count < 2 ^ 64) ⌝ }
+    requires { ⌜ (4 * count ≤ length (now work)) × (count < 2 ^ 32) × (errors + count < 2 ^ 64) × Fed (rows count (now work)) ⌝ }
     ensures { λ r. ⌜ logged (now (log .exit)) r ≡ appendAll (logged (now (log .entry)) errors) (ruleErrors noRules (entries (rows count (now (work .entry))))) ⌝ }
 {
     let mut s = Tally {
@@ -186,7 +187,7 @@ pub fn rules(work: &[u32], count: usize, log: &mut [u32], errors: usize) -> usiz
         let v = verdict_at(work, count, at, s.rules);
         n = rule_error(v, s.cut, entry::place_of(t), log, n);
         s = after(s, v);
-        at = entry::next_line(t, at);
+        at = entry::behind_feed(work, count, at);
     }
     n
 }

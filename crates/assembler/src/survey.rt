@@ -4,6 +4,7 @@ ghost use Prim.Native.Nat.{_+_, _*_, _<_, _≤_, _^_};
 ghost use lib.ListN.{length};
 ghost use Rattle.assembler.specs.Rows.{rows};
 ghost use Rattle.assembler.specs.Entries.{entryAt};
+ghost use Rattle.assembler.specs.Feeds.{Fed};
 ghost use Rattle.assembler.specs.Failures.{lineError};
 ghost use Rattle.assembler.specs.Declarations.{declare, declarationError};
 ghost use Rattle.assembler.specs.Rules.{ruleError};
@@ -54,7 +55,7 @@ fn ruled(v: Verdict, cut: bool, place: Span, n: usize) -> usize
 
 // Of all lines.
 pub fn survey(work: &[u32], count: usize, first: &mut [u32; 11]) -> Counts
-    requires { ⌜ (4 * count ≤ length (now work)) × (count < 2 ^ 32) ⌝ }
+    requires { ⌜ (4 * count ≤ length (now work)) × (count < 2 ^ 32) × Fed (rows count (now work)) ⌝ }
     ensures { λ r. ⌜ Surveyed count (now (work .entry)) (now (first .entry)) (now (first .exit)) r ⌝ }
 {
     let mut s = Tally {
@@ -72,7 +73,7 @@ pub fn survey(work: &[u32], count: usize, first: &mut [u32; 11]) -> Counts
         let v = rules::verdict_at(work, count, at, s.rules);
         wrong = ruled(v, s.cut, entry::place_of(t), wrong);
         s = rules::after(s, v);
-        at = entry::next_line(t, at);
+        at = entry::behind_feed(work, count, at);
     }
     Counts {
         rules: s.rules,

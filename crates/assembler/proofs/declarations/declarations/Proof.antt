@@ -25,8 +25,7 @@ declarations-spec =
     (tie.spec
     Inv-loop
     μ-loop
-    (λ c. declaring-start _ _ _ _ _)
-    (λ c κs. search laws)
+    (λ c. declaring-start _ _ _ _ _ (search needs))
     (λ c κs. search laws)
     (λ c κs. search laws)
     (λ c. search laws)

@@ -24,7 +24,7 @@ line-errors-spec =
     (tie.spec
     Inv-loop
     μ-loop
-    (λ c. passing-start _ lineErrors _ _)
+    (λ c. passing-start _ lineErrors _ _ (search needs))
     (λ c κs. search laws)
     (λ c κs. search laws)
     (λ c κs. search laws)

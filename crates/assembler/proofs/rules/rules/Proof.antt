@@ -24,7 +24,7 @@ rules-spec =
     (tie.spec
     Inv-loop
     μ-loop
-    (λ c. tallying-start _ _ _ _)
+    (λ c. tallying-start _ _ _ _ (search needs))
     (λ c κs. search laws)
     (λ c κs. search laws)
     (λ c κs. search laws)

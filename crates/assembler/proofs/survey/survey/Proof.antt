@@ -19,7 +19,7 @@ survey-spec =
     (tie.spec
     Inv-loop
     μ-loop
-    (λ c. surveying-start _ _ _)
+    (λ c. surveying-start _ _ _ (search needs))
     (λ c κs. search laws)
     (λ c κs. search laws)
     (λ c κs. search laws)
