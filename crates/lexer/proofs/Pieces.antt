@@ -3,22 +3,25 @@ use mathlib.Core.Path.{_≡_, refl, sym, ap, subst, _∙_}
 use Prim.Native.Nat.{ℕ, zero, suc, _+_, _-_, _*_, _≤_, _<_, min}
 use native.Mathlib.Omega.{arith}
 use mathlib.Core.Bool.{Bool, true, false, cond, _&&_, _||_, not}
+use mathlib.Core.Logic.{_⊎_, ⊎-elim}
 use mathlib.Core.List.{List, [], _∷_, _++_, map}
 use lib.Dec.{eqb}
-use lib.ListN.{length, take, drop, take-append-drop}
+use lib.ListN.{length, getD, take, drop, take-append-drop}
 use borrow.Author.Tests.{eq-eqb, ne-eqb, eqb-true, eqb-false}
 use mir.Syntax.{w32, w64}
 use mir.Val.{Fits}
-use Rattle.chars.specs.Utf8.{size, sizes, scalars, Front, front, decodedAt, decode, encode}
+use Rattle.chars.specs.Utf8.{size, sizes, scalars, Front, one, bad, none, front, decodedAt, decode, encode}
 use Rattle.chars.specs.Class.{classOf}
 use Rattle.chars.specs.declared.Class.{Class}
 use Rattle.chars.specs.declared.Class.the-variants.{Letter, Digit, Space, Sign, Other}
 use Rattle.chars.specs.declared.Decoded.{Decoded}
 use Rattle.chars.specs.declared.Decoded.the-variants.{Char, Invalid}
 use Rattle.chars.specs.declared.Decoded
-use Rattle.chars.proofs.Tests.{and-both}
+use Rattle.chars.proofs.Tests.{and-both, lt-or-ge}
+use Rattle.chars.proofs.Blocks.{ascii-decode}
+use Rattle.chars.proofs.Short.{high-char}
 use Rattle.chars.proofs.Encoding.{size-range}
-use Rattle.chars.proofs.Laws.{char-next, char-decode, char-le, invalid-decode, end-decode, points-next, points-le}
+use Rattle.chars.proofs.Laws.{decode-end, decode-bad, decode-none, front-decode, char-next, char-decode, char-le, invalid-decode, end-decode, points-next, points-le}
 use Rattle.chars.proofs.Theorems.{part-bytes, part-scalars, encode-injective}
 use Rattle.lexer.specs.Text.{same}
 use Rattle.lexer.specs.Tokens.{TokenKind, word, number, quoted, str, sign, comment, newline, unterminatedString, unterminatedQuote, Span, Token, tokenAt, isLetter, isDigit, isWordStart, isAsciiDigit, isWordContinue, isWhitespace, run, line, trimCons, trimEnd, indent, commentText, Inside, closed, unclosed, inside, Step, gap, tok, wordStep, numberStep, stringStep, quotedStep, commentStep, slashStep, otherStep, step}
@@ -33,18 +36,26 @@ use Rattle.lexer.proofs.Scans.{byTest, run-true, run-false, sizes-nil, 
 use Rattle.lexer.proofs.Keywords.{same-true, same-refl, tests-equal, part-inside}
 
 -- ---- the first character
-module _ (t : List ℕ) (i c : ℕ) (r : Decoded) (s : r ≡ decodedAt i (front (drop i t))) where
-  pub first-char : (x n : ℕ) (b : Bool) → r ≡ Char x n → b ≡ eqb x c → b ≡ startsWith c (decode (drop i t))
-  unfolding startsWith
-  first-char x n b e p = p ∙ sym (ap (startsWith c) (char-decode t i r s x n e))
+-- a text whose first byte is above ASCII begins with no ASCII character
+starts-high : (t : List ℕ) (i c : ℕ) → i < length t → 0x80 ≤ getD t i 0 → c < 0x80 → false ≡ startsWith c (decode (drop i t))
+unfolding startsWith
+starts-high t i c h l u = go (front (drop i t)) refl
+  where
+    go : (f : Front) → front (drop i t) ≡ f → false ≡ startsWith c (decode (drop i t))
+    go (one x) e = sym (ap (startsWith c) (front-decode t i x e) ∙ ne-eqb x c (λ (z : x ≡ c). omega (arith, high-char t i h l x e)))
+    go bad e = sym (ap (startsWith c) (decode-bad (drop i t) e))
+    go none e = sym (ap (startsWith c) (decode-none (drop i t) e))
 
-  pub first-invalid : r ≡ Invalid → false ≡ startsWith c (decode (drop i t))
-  unfolding startsWith
-  first-invalid e = sym (ap (startsWith c) (invalid-decode t i r s e))
+pub first-byte : (t : List ℕ) (i c x : ℕ) (b : Bool) → i < length t → c < 0x80 → x ≡ getD t i 0 → b ≡ eqb x c → b ≡ startsWith c (decode (drop i t))
+unfolding startsWith
+first-byte t i c x b h u e p =
+    ⊎-elim (λ (l : getD t i 0 < 0x80). p ∙ ap (λ (y : ℕ). eqb y c) e ∙ sym (ap (startsWith c) (ascii-decode t i h l)))
+    (λ (l : 0x80 ≤ getD t i 0). p ∙ ne-eqb x c (λ (z : x ≡ c). omega arith) ∙ starts-high t i c h l u)
+    (lt-or-ge (getD t i 0) 0x80)
 
-  pub first-end : r ≡ Decoded.End → false ≡ startsWith c (decode (drop i t))
-  unfolding startsWith
-  first-end e = sym (ap (startsWith c) (end-decode t i r s e))
+pub first-none : (t : List ℕ) (i c : ℕ) → length t ≤ i → false ≡ startsWith c (decode (drop i t))
+unfolding startsWith
+first-none t i c h = sym (ap (startsWith c) (decode-end t i h))
 
 starts-inv : (c : ℕ) (cs : List ℕ) → startsWith c cs ≡ true → (r : List ℕ) × (cs ≡ c ∷ r)
 unfolding startsWith
@@ -515,6 +526,16 @@ pub class-by : (c : ℕ) (k x : Class) → k ≡ classOf c → k ≡ x → class
 class-by c k x e p = sym e ∙ p
 
 -- ---- the piece at a place
+-- a quote
+module _ (t : List ℕ) (at : ℕ) (b : Bool) (e : b ≡ startsWith 0x27 (decode (drop at t))) where
+  pub quote-in : b ≡ true → at < length t
+  unfolding size
+  quote-in p = omega (arith, starts-in t at 0x27 b e p)
+
+  pub piece-quoted : (y : Piece) → b ≡ true → y ≡ pieceOf at (at + 1) (decode (drop (at + 1) t)) (quotedStep (decode (drop (at + 1) t))) → y ≡ piece at (decode (drop at t))
+  unfolding piece size step
+  piece-quoted y p q = q ∙ sym (ap (piece at) (starts-rest t at 0x27 b e p))
+
 module _ (t : List ℕ) (at : ℕ) (r : Decoded) (s : r ≡ decodedAt at (front (drop at t))) where
   pub piece-char : (c n : ℕ) (y : Piece) → r ≡ Char c n → y ≡ pieceOf at n (decode (drop n t)) (step c (decode (drop n t))) → y ≡ piece at (decode (drop at t))
   unfolding piece

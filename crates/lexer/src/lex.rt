@@ -76,7 +76,7 @@ fn quoted(text: &[u8], at: usize) -> Piece
     ensures { λ r. ⌜ r ≡ pieceOf at (at + 1) (rest (now (text .entry)) (at + 1)) (quotedStep (rest (now (text .entry)) (at + 1))) ⌝ }
 {
     let lone = Piece::Token(kind::UNTERMINATED_QUOTE, at + 1, 0, at + 1);
-    let s = chars::char_at(text, at + 1);
+    let s = chars::glyph_at(text, at + 1);
     match s {
         Decoded::Char(c, next) => {
             if c == 10 {
@@ -167,10 +167,13 @@ fn piece_from(text: &[u8], at: usize, c: u32, next: usize) -> Piece
     unmarked(text, at, c, next)
 }
 
-// What stands at a place.
+// What stands at a place. Quoted characters first, which are told by their first byte: lists of symbols are full of them.
 pub(crate) fn piece_at(text: &[u8], at: usize) -> Piece
     ensures { λ r. ⌜ r ≡ piece at (rest (now (text .entry)) at) ⌝ }
 {
+    if scan::starts_with(text, at, 0x27) {
+        return quoted(text, at);
+    }
     let s = chars::char_at(text, at);
     match s {
         Decoded::Char(c, next) => piece_from(text, at, c, next),

@@ -1,7 +1,7 @@
 // Scans: how far a word, a number, a line or a string goes.
 ghost use mathlib.Core.Path.{_≡_};
 ghost use mathlib.Core.Bool.{true, false};
-ghost use Prim.Native.Nat.{_+_, _-_, _*_, _≤_, min};
+ghost use Prim.Native.Nat.{_+_, _-_, _*_, _<_, _≤_, min};
 ghost use Rattle.chars.specs.Utf8.{sizes};
 ghost use Rattle.chars.specs.Class.{classOf};
 ghost use Rattle.chars.specs.declared.Class.the-variants.{Letter};
@@ -85,16 +85,22 @@ pub(crate) fn is_whitespace(c: u32) -> bool
     }
 }
 
-// Whether the character at a place is c.
+// A byte as a number to count with.
+fn wide(b: u8) -> u32
+    ensures { λ r. ⌜ r ≡ b ⌝ }
+{
+    b as u32
+}
+
+// Whether the character at a place is c, an ASCII character.
 pub(crate) fn starts_with(text: &[u8], at: usize, c: u32) -> bool
+    requires { ⌜ c < 0x80 ⌝ }
     ensures { λ r. ⌜ r ≡ startsWith c (rest (now (text .entry)) at) ⌝ }
 {
-    let s = chars::char_at(text, at);
-    match s {
-        Decoded::Char(x, _) => x == c,
-        Decoded::Invalid => false,
-        Decoded::End => false,
+    if at < text.len() {
+        return wide(text[at]) == c;
     }
+    false
 }
 
 // Where the characters that continue a word end.
@@ -212,7 +218,7 @@ pub(crate) fn string_end(text: &[u8], at: usize) -> StringEnd
     let mut i = block::string_part(text, at);
     let mut escaped = false;
     loop {
-        let s = chars::char_at(text, i);
+        let s = chars::glyph_at(text, i);
         match s {
             Decoded::Char(c, next) => {
                 if c == 10 {

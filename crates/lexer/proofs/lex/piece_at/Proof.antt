@@ -1,19 +1,24 @@
--- `lexer::lex::piece_at` meets its contract: one law for each answer of `char_at`. Assumes nothing.
+-- `lexer::lex::piece_at` meets its contract: a quote by its test, and the character at the place begins any other piece.
 use Rattle.chars.proofs.Laws.{char-next, char-decode, char-here, char-le}
-use Rattle.lexer.proofs.Pieces.{piece-char, piece-invalid, piece-end}
+use Rattle.lexer.proofs.Pieces.{quote-in, piece-quoted, piece-char, piece-invalid, piece-end}
 use borrow.Author.Needs.{needs}
 use Rattle.lexer.proofs.lex.piece_at.Statement.{statement}
 use Rattle.lexer.proofs.lex.piece_at.Tie as tie
+
+ruleset laws = (needs, char-next, char-decode, char-here, char-le, quote-in, piece-quoted, piece-char, piece-invalid, piece-end)
 
 pub piece-at-spec : {M : Type 1} → statement M
 piece-at-spec =
     tie.close
     (tie.spec
-    (λ c κs. search (needs, char-next, char-decode, char-here, char-le, piece-char, piece-invalid, piece-end))
-    (λ c. search (needs, char-next, char-decode, char-here, char-le, piece-char, piece-invalid, piece-end))
-    (λ c κs. search (needs, char-next, char-decode, char-here, char-le, piece-char, piece-invalid, piece-end))
-    (λ c. search (needs, char-next, char-decode, char-here, char-le, piece-char, piece-invalid, piece-end))
-    (λ c. search (needs, char-next, char-decode, char-here, char-le, piece-char, piece-invalid, piece-end))
-    (λ c. search (needs, char-next, char-decode, char-here, char-le, piece-char, piece-invalid, piece-end))
-    (λ c. search (needs, char-next, char-decode, char-here, char-le, piece-char, piece-invalid, piece-end))
-    (λ c. search (needs, char-next, char-decode, char-here, char-le, piece-char, piece-invalid, piece-end)))
+    (λ c κs. search laws)
+    (λ c κs. search laws)
+    (λ c. search laws)
+    (λ c κs. search laws)
+    (λ c. search laws)
+    (λ c κs. search laws)
+    (λ c. search laws)
+    (λ c. search laws)
+    (λ c. search laws)
+    (λ c. search laws)
+    (λ c. search laws))
