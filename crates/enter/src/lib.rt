@@ -7,10 +7,10 @@ ghost use Rattle.language.specs.Outcome.{refusalOf, zeros, readMachine, diagnos
 ghost use Rattle.answered.specs.Ready.{linesOf};
 ghost use Rattle.answer.specs.Answer.{replyIn, readIn};
 ghost use Rattle.enter.specs.Begun.{Begun};
-use assembler::Assembled;
-use diagnostics::Search;
 use answer::Answer;
 use answer::Refusal;
+use assembler::Assembled;
+use diagnostics::Search;
 use reader::written;
 
 // Enters an admitted text: its tokens stand in work, its lines are assembled, and the search for its diagnostics is at its beginning.

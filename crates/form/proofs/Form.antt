@@ -13,7 +13,8 @@ use Rattle.emit.proofs.Appends.{appended-nil}
 use Rattle.pieces.specs.Writes.{Writes}
 use Rattle.lists.specs.Places.{Every, NameIn}
 use Rattle.form.specs.Sections.{headLines, statesLine, symbolsLine, blankLine, startLine, finalsLine, declaredLines}
-use Rattle.form.specs.WellFormed.{RuleFormed, DeclaredFormed, sigmaFrom, gammaFrom, headerFrom, trailingFrom, rulesFrom, WellFormed}
+use Rattle.rule_form.specs.Formed.{RuleFormed}
+use Rattle.form.specs.WellFormed.{DeclaredFormed, sigmaFrom, gammaFrom, headerFrom, trailingFrom, rulesFrom, WellFormed}
 use Rattle.pieces.proofs.Chain.{same, _▹_}
 
 -- the letters Σ and Γ

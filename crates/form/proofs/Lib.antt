@@ -1,3 +1,2 @@
-pub mod RuleWords
 pub mod HeadWords
 pub mod Form

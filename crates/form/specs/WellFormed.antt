@@ -8,17 +8,9 @@ use Rattle.chars.specs.Utf8.{scalar, scalars}
 use Rattle.pieces.specs.Strings.{Whole}
 use Rattle.language.specs.Machine.{Decoder, asWord, asUnary, asBinary}
 use Rattle.language.specs.Layout.{Counts, Head}
-use Rattle.language.specs.Agreement.{Answer, groups, records, at, placeAt, charactersAt}
+use Rattle.language.specs.Agreement.{Answer, groups, records, charactersAt}
 use Rattle.lists.specs.Places.{Every, Utf8At, NameIn, column}
-
--- a rule of the sheet
-pub record RuleFormed (text ws : List ℕ) : Type 0 where
-  pub from : Utf8At text (placeAt ws 1)
-  pub to : Utf8At text (placeAt ws 3)
-  pub comment : Utf8At text (placeAt ws 7)
-  pub reads : scalars (column 7 0 (at ws 9) (drop 11 ws)) ≡ true
-  pub writes : scalars (column 7 3 (at ws 9) (drop 11 ws)) ≡ true
-  pub leading : Every (NameIn text) (groups 2 (at ws 10) (drop (11 + 7 * at ws 9) ws))
+use Rattle.rule_form.specs.Formed.{RuleFormed}
 
 -- the symbol that a decoder counts
 abbrev pub DecoderFormed : Decoder → Type 0

@@ -1,6 +1,5 @@
 pub mod Samples
 pub mod Chain
 pub mod Lists
-pub mod Offsets
 pub mod Lines
 pub mod Alone

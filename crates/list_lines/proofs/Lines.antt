@@ -14,8 +14,8 @@ use Rattle.language.specs.Plain.{Piece, _⨾_, say, each, verbatim}
 use Rattle.language.specs.Agreement.{groups, records}
 use Rattle.sheet_words.proofs.Records.{left, left-all, left-next, left-none, recordsLeft, records-all, records-none, records-next}
 use Rattle.emit.specs.Output.{Output}
-use Rattle.list_lines.specs.declared.Position.{Position}
-use Rattle.list_lines.specs.Positions.{lineColumn}
+use Rattle.positions.specs.declared.Position.{Position}
+use Rattle.positions.specs.Positions.{lineColumn}
 use Rattle.list_lines.specs.Listing.{number, named, parted, names, codes, moves, place, related, position, diagnostic, diagnosticLines, transition, stateLines, symbolLines, transitionLines, machineLines, refusedLine, bytesLine}
 use Rattle.list_lines.specs.Puts.{Puts}
 use Rattle.list_lines.proofs.Chain.{_▹_, Goes, goes-start, goes-on, goes-end}

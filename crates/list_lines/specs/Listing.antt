@@ -12,7 +12,7 @@ use Rattle.language.specs.Outcome.{refusalNumber, refusalValue, machine, diagno
 use Rattle.language.specs.Agreement.{groups, records, at, placeAt, dirOf}
 use Rattle.language.specs.Plain.{Piece, _⨾_, nothing, say, verbatim, end, each, direction}
 use Rattle.emit.specs.Decimal.{digitsFrom}
-use Rattle.list_lines.specs.Positions.{lineColumn}
+use Rattle.positions.specs.Positions.{lineColumn}
 
 -- ---- numbers, names and lists
 

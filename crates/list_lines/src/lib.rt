@@ -3,6 +3,7 @@
 use lexer::names::part_of;
 use machine::Counts;
 use machine::Span;
+use positions::line_column;
 use sheet_words::after;
 use sheet_words::record_at;
 use sheet_words::word;
@@ -17,7 +18,6 @@ ghost use Rattle.language.specs.Plain.{_⨾_, only, each, verbatim, direction};
 ghost use Rattle.language.specs.Agreement.{groups, records, placeAt, dirOf};
 ghost use Rattle.machine.specs.Head.{spanIn, countsIn};
 ghost use Rattle.emit.specs.Output.{output};
-ghost use Rattle.list_lines.specs.Positions.{next, lineColumn};
 ghost use Rattle.list_lines.specs.Listing.{number, named, parted, names, codes, moves, place, related, position, diagnostic, diagnosticLines, transition, stateLines, symbolLines, transitionLines, machineLines, refusedLine, bytesLine};
 ghost use Rattle.list_lines.specs.Puts.{Puts, NamePut};
 
@@ -162,43 +162,6 @@ fn directions(out: &mut [u8], at: usize, words: &[u32], n: u32) -> usize
 }
 
 // ---- diagnostics
-
-// A line and a column, both counted from 1.
-pub struct Position {
-    pub line: usize,
-    pub column: usize,
-}
-
-// The position behind a byte.
-fn next(p: Position, b: u8) -> Position
-    requires { ⌜ (p .line < 18446744073709551615) × (p .column < 18446744073709551615) ⌝ }
-    ensures { λ r. ⌜ r ≡ next p b ⌝ }
-{
-    if b == b'\n' {
-        return Position {
-            line: p.line + 1,
-            column: 1,
-        };
-    }
-    Position {
-        line: p.line,
-        column: p.column + 1,
-    }
-}
-
-// Line and column of an offset.
-pub fn line_column(text: &[u8], offset: u32) -> Position
-    ensures { λ r. ⌜ r ≡ lineColumn (now (text .entry)) offset ⌝ }
-{
-    let n = emit::least(offset as usize, text.len());
-    let mut p = Position { line: 1, column: 1 };
-    let mut i = 0;
-    while i < n {
-        p = next(p, text[i]);
-        i += 1;
-    }
-    p
-}
 
 // The position of an offset.
 fn position_of(out: &mut [u8], at: usize, text: &[u8], offset: u32) -> usize

@@ -5,10 +5,10 @@ ghost use mathlib.Core.Option.{none};
 ghost use lib.ListN.{length};
 ghost use Rattle.language.specs.Outcome.{refusalOf};
 ghost use Rattle.opening.specs.Opens.{refusedBy, Opens};
-use diagnostics::Search;
+use admission::Admission;
 use answer::Answer;
 use answer::Refusal;
-use admission::Admission;
+use diagnostics::Search;
 
 // Whether the text was admitted; how many diagnostics the log takes: none where it has too few records; the search for them, at its beginning; and the
 // answer.

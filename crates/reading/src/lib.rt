@@ -8,10 +8,10 @@ ghost use Rattle.reader.specs.Reading.{leavesWorkNumber};
 ghost use Rattle.enter.specs.Records.{readIn, readRecords};
 ghost use Rattle.opening.specs.Opens.{Reports, reported};
 ghost use Rattle.reading.specs.Given.{given, givenBy};
-use diag::Diagnostic;
-use diagnostics::Search;
 use answer::Answer;
 use answer::words;
+use diag::Diagnostic;
+use diagnostics::Search;
 
 // The log of an admitted text: its first `errors` diagnostics, sorted, and unused records behind them.
 fn report(text: &[u8], work: &mut [u32], log: &mut [Diagnostic], search: Search, errors: usize)

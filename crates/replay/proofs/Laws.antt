@@ -17,7 +17,8 @@ use Rattle.answer.specs.declared.Answer.{Answer}
 use Rattle.answer.specs.declared.Answer.the-variants.{Machine, Diagnostics, Refused}
 use Rattle.answer.specs.Answer.{replyIn, readIn, leavesWork}
 use Rattle.reader.specs.Reading.{leavesWorkNumber}
-use Rattle.writer.specs.Given.{Given, given, givenBy, answerRow}
+use Rattle.writer.specs.Given.{Given, given, givenBy}
+use Rattle.reply.specs.Words.{answerRow}
 use Rattle.replay.specs.Case.{wordAt, marked, wanted, leftFrom, left, rowsLeft, workLeft, byteWanted, outputFrom, outputLeft, outputAt, agrees, formAgrees, readingAgrees, writingAgrees}
 
 -- ---- a word

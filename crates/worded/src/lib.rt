@@ -4,9 +4,9 @@ ghost use lib.ListN.{length, replicate};
 ghost use Rattle.language.specs.Outcome.{readOutcome};
 ghost use Rattle.records.specs.Unused.{unused};
 ghost use Rattle.answer.specs.Answer.{readIn};
+use answer::Answer;
 use diag::Diagnostic;
 use diag::Span;
-use answer::Answer;
 
 // The number of records.
 pub const RECORDS: usize = 1024;

@@ -24,7 +24,7 @@ use Rattle.machine.specs.declared.Kind.the-variants.{Transducer}
 use Rattle.machine.specs.declared.Decoder.the-variants.{Word}
 use Rattle.machine.specs.Meaning.{headIn}
 use Rattle.answer.specs.declared.Answer.the-variants.{Machine}
-use Rattle.writer.specs.declared.WriteAnswer.the-variants.{Written}
+use Rattle.reply.specs.declared.WriteAnswer.the-variants.{Written}
 use Rattle.writer.specs.Claim.{ReadCall, WriteCall, form, answered, Claim}
 use Rattle.writer.proofs.Claim.{claim}
 

@@ -1,5 +1,3 @@
-pub mod AnswerWords
-pub mod Forms
 pub mod Calls
 pub mod Claim
 pub mod Inhabited

@@ -12,8 +12,8 @@ use Rattle.language.specs.Outcome.{workNeeded, wordsNeeded, readOutcome}
 use Rattle.language.specs.Claim.{Lent, writing, Enough, Writable, formLeft, answerGiven, BothAgree}
 use Rattle.answer.specs.declared.Answer.{Answer}
 use Rattle.answer.specs.Answer.{readIn}
-use Rattle.writer.specs.declared.WriteAnswer.{WriteAnswer}
-use Rattle.writer.specs.Answer.{writeIn}
+use Rattle.reply.specs.declared.WriteAnswer.{WriteAnswer}
+use Rattle.reply.specs.Answer.{writeIn}
 
 -- a call of `read` on a text, lent work and a sheet long enough: what it was lent, and what it left, as its contract says
 pub record ReadCall (t : List ℕ) : Type 0 where

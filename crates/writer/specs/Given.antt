@@ -1,14 +1,8 @@
 -- What the exported call gives.
 use Prim.Native.Nat.{ℕ}
-use mathlib.Core.Bool.{true, false}
-use mathlib.Core.List.{List, _++_}
-use lib.Dec.{leb}
-use lib.ListN.{length, drop}
-use Rattle.language.specs.Outcome.{WriteReply, writeNumber, writeWords, WriteOutcome}
-
--- a row that is lent for the answer: its 36 words at the front where there is room for all of them, else nothing changed
-unfoldable pub answerRow : WriteReply → List ℕ → List ℕ
-answerRow r row = elim (leb 36 (length row)) [ true ↦ writeWords r ++ drop 36 row | false ↦ row ]
+use mathlib.Core.List.{List}
+use Rattle.language.specs.Outcome.{writeNumber, WriteOutcome}
+use Rattle.reply.specs.Words.{answerRow}
 
 -- its number, the row that is lent for the answer, the log, the sheet and the output
 pub record Given : Type 0 where

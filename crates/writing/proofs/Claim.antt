@@ -8,7 +8,7 @@ use Rattle.writing.specs.Claim.{ReadCall, WriteCall, Demand3}
 use Rattle.writing.proofs.Outcomes.{on-words}
 use Rattle.language.specs.Outcome as O
 use Rattle.language.specs.Claim as L
-use Rattle.writer.specs.Answer as W
+use Rattle.reply.specs.Answer as W
 use Rattle.writer.specs.Claim as Words
 use Rattle.writer.proofs.Claim as Known
 

@@ -17,10 +17,10 @@ use Rattle.reader.specs.Reading.{leavesWorkNumber}
 use Rattle.enter.specs.Records as Q
 use Rattle.enter.specs.Records.{readRecords}
 use Rattle.formed.specs.Read.{ReadAs}
-use Rattle.writer.specs.declared.WriteAnswer.{WriteAnswer}
-use Rattle.writer.specs.Answer as W
-use Rattle.writer.specs.Answer.{writeReplyIn, leavesWork}
-use Rattle.writer.specs.Given.{answerRow}
+use Rattle.reply.specs.declared.WriteAnswer.{WriteAnswer}
+use Rattle.reply.specs.Answer as W
+use Rattle.reply.specs.Answer.{writeReplyIn, leavesWork}
+use Rattle.reply.specs.Words.{answerRow}
 use Rattle.writer.proofs.Calls.{machine-was-read, answer-written, number-keeps}
 use Rattle.writing.specs.Records.{RecordsOutcome, writeIn, inRecords, writeRecords}
 use Rattle.writing.specs.Given.{given, givenBy}

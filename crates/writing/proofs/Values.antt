@@ -12,9 +12,9 @@ use denote.Enum.Laws as EL
 use Rattle.answer.specs.declared.Answer.{Answer}
 use Rattle.answer.proofs.Answer as RA
 use Rattle.answer.proofs.Answer.Laws as RA′
-use Rattle.writer.specs.declared.WriteAnswer.{WriteAnswer}
-use Rattle.writer.proofs.WriteAnswer as WA
-use Rattle.writer.proofs.WriteAnswer.Laws as WA′
+use Rattle.reply.specs.declared.WriteAnswer.{WriteAnswer}
+use Rattle.reply.proofs.WriteAnswer as WA
+use Rattle.reply.proofs.WriteAnswer.Laws as WA′
 
 -- the answers of the two calls, as types
 abbrev pub Aᵀ : RattleType

@@ -14,8 +14,8 @@ use Rattle.language.specs.Claim.{Writable, BothAgree}
 use Rattle.answer.specs.declared.Answer.{Answer}
 use Rattle.answer.specs.Answer.{replyIn}
 use Rattle.enter.specs.Records.{readIn, readRecords}
-use Rattle.writer.specs.declared.WriteAnswer.{WriteAnswer}
-use Rattle.writer.specs.Answer.{writeReplyIn}
+use Rattle.reply.specs.declared.WriteAnswer.{WriteAnswer}
+use Rattle.reply.specs.Answer.{writeReplyIn}
 use Rattle.writing.specs.Records.{writeIn, writeRecords}
 
 -- a call of `read` on a text, lent work and a sheet long enough: what it was lent, and what it left, as its contract says

@@ -3,7 +3,7 @@ use Prim.Native.Nat.{ℕ}
 use mathlib.Core.List.{List}
 use Rattle.diag.specs.declared.Diagnostic.{Diagnostic}
 use Rattle.language.specs.Outcome.{writeNumber}
-use Rattle.writer.specs.Given.{answerRow}
+use Rattle.reply.specs.Words.{answerRow}
 use Rattle.writing.specs.Records.{RecordsOutcome}
 
 -- its number, the row that is lent for the answer, the log, the sheet and the output

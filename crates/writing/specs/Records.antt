@@ -5,8 +5,8 @@ use lib.ListN.{length}
 use Rattle.language.specs.Outcome as O
 use Rattle.diag.specs.declared.Diagnostic.{Diagnostic}
 use Rattle.diag.specs.Log.{records, flat}
-use Rattle.writer.specs.declared.WriteAnswer.{WriteAnswer}
-use Rattle.writer.specs.Answer.{writeReplyIn}
+use Rattle.reply.specs.declared.WriteAnswer.{WriteAnswer}
+use Rattle.reply.specs.Answer.{writeReplyIn}
 
 -- what a writing call answers, and the log, the sheet and the output as it leaves them
 pub record RecordsOutcome : Type 0 where

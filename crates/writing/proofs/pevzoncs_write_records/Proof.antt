@@ -1,4 +1,4 @@
--- A walk of the MIR: the slices are handed on to `write` for good, and the row of the answer to `writer::words::give`.
+-- A walk of the MIR: the slices are handed on to `write` for good, and the row of the answer to `reply::words::give`.
 use mathlib.Core.Path.{_≡_, refl, sym, ap, subst}
 use Prim.Native.Nat.{ℕ}
 use mathlib.Core.Bool.{true}
@@ -37,13 +37,13 @@ use Rattle.records.proofs.Rows.{D}
 use Rattle.records.proofs.Asked.{asks}
 use Rattle.records.proofs.Taken.{retakes}
 use Rattle.records.proofs.Packed.{lent, seen, held, endsOf, Packed, packs, unpacks, hands-back}
-use Rattle.writer.specs.declared.WriteAnswer.{WriteAnswer}
-use Rattle.writer.specs.Answer.{writeReplyIn, leavesWork}
-use Rattle.writer.specs.Given.{answerRow}
+use Rattle.reply.specs.declared.WriteAnswer.{WriteAnswer}
+use Rattle.reply.specs.Answer.{writeReplyIn, leavesWork}
+use Rattle.reply.specs.Words.{answerRow}
 use Rattle.writer.proofs.Calls.{number-keeps}
-use Rattle.writer.proofs.words.give as giv
-use Rattle.writer.proofs.words.give.Symbol as giv-def
-use Rattle.writer.proofs.words.give.Met as giv-met
+use Rattle.reply.proofs.words.give as giv
+use Rattle.reply.proofs.words.give.Symbol as giv-def
+use Rattle.reply.proofs.words.give.Met as giv-met
 use Rattle.reading.proofs.HandedOn.{told}
 use Rattle.writing.specs.Records.{writeIn, writeRecords}
 use Rattle.writing.proofs.Outcomes.{given-back}
@@ -188,4 +188,4 @@ pevzoncs-write-records-spec 𝓤 H 𝓜 𝓖 𝓡 =
     (tables 𝓤 H 𝓜 𝓡 code.env .C) (tables 𝓤 H 𝓜 𝓡 code.env .Λ) key code.function (code.unfolded 𝓤 H 𝓜 𝓡)
     (meets 𝓤 H (𝓖 .A) (givenOf 𝓤 H 𝓜 𝓖) (𝓜 .mem) (𝓡 .run) (tablesOf 𝓤 H 𝓜 (tables 𝓤 H 𝓜 𝓡 code.env))
     (cited 𝓤 H (tripleOf 𝓤 H (𝓖 .A) wrt.signature (wrt.spec 𝓤 H (𝓖 .A) (𝓜 .mem) (𝓡 .run))) 𝓜 𝓡 code.env wrt-def.name wrt-def.routine code.calls-writing·write (wrt-met.met 𝓤 H 𝓜 𝓖 𝓡))
-    (cited 𝓤 H (tripleOf 𝓤 H (𝓖 .A) giv.signature (giv.spec 𝓤 H (𝓖 .A) (𝓜 .mem) (𝓡 .run))) 𝓜 𝓡 code.env giv-def.name giv-def.routine code.calls-writer·words·give (giv-met.met 𝓤 H 𝓜 𝓖 𝓡)))
+    (cited 𝓤 H (tripleOf 𝓤 H (𝓖 .A) giv.signature (giv.spec 𝓤 H (𝓖 .A) (𝓜 .mem) (𝓡 .run))) 𝓜 𝓡 code.env giv-def.name giv-def.routine code.calls-reply·words·give (giv-met.met 𝓤 H 𝓜 𝓖 𝓡)))

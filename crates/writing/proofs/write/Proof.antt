@@ -41,11 +41,11 @@ use Rattle.records.proofs.Packed.{lent, seen, held, endsOf, Packed, packs, unpa
 use Rattle.answer.specs.declared.Answer.{Answer}
 use Rattle.answer.specs.Answer as R
 use Rattle.enter.specs.Records.{readIn, readRecords}
-use Rattle.writer.specs.declared.WriteAnswer.{WriteAnswer}
-use Rattle.writer.specs.Answer as W′
-use Rattle.writer.proofs.write_answer as ans
-use Rattle.writer.proofs.write_answer.Symbol as ans-def
-use Rattle.writer.proofs.write_answer.Met as ans-met
+use Rattle.reply.specs.declared.WriteAnswer.{WriteAnswer}
+use Rattle.reply.specs.Answer as W′
+use Rattle.fit.proofs.write_answer as ans
+use Rattle.fit.proofs.write_answer.Symbol as ans-def
+use Rattle.fit.proofs.write_answer.Met as ans-met
 use Rattle.reading.proofs.HandedOn.{told, shares-on}
 use Rattle.reading.proofs.read as red
 use Rattle.reading.proofs.read.Symbol as red-def
@@ -176,4 +176,4 @@ write-spec 𝓤 H 𝓜 𝓖 𝓡 =
     (tables 𝓤 H 𝓜 𝓡 code.env .C) (tables 𝓤 H 𝓜 𝓡 code.env .Λ) key code.function (code.unfolded 𝓤 H 𝓜 𝓡)
     (meets 𝓤 H (𝓖 .A) (givenOf 𝓤 H 𝓜 𝓖) (𝓜 .mem) (𝓡 .run) (tablesOf 𝓤 H 𝓜 (tables 𝓤 H 𝓜 𝓡 code.env))
     (cited 𝓤 H (tripleOf 𝓤 H (𝓖 .A) red.signature (red.spec 𝓤 H (𝓖 .A) (𝓜 .mem) (𝓡 .run))) 𝓜 𝓡 code.env red-def.name red-def.routine code.calls-reading·read (red-met.met 𝓤 H 𝓜 𝓖 𝓡))
-    (cited 𝓤 H (tripleOf 𝓤 H (𝓖 .A) ans.signature (ans.spec 𝓤 H (𝓖 .A) (𝓜 .mem) (𝓡 .run))) 𝓜 𝓡 code.env ans-def.name ans-def.routine code.calls-writer·write-answer (ans-met.met 𝓤 H 𝓜 𝓖 𝓡)))
+    (cited 𝓤 H (tripleOf 𝓤 H (𝓖 .A) ans.signature (ans.spec 𝓤 H (𝓖 .A) (𝓜 .mem) (𝓡 .run))) 𝓜 𝓡 code.env ans-def.name ans-def.routine code.calls-fit·write-answer (ans-met.met 𝓤 H 𝓜 𝓖 𝓡)))
