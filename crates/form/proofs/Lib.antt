@@ -1,3 +1,4 @@
 pub mod RuleWords
 pub mod HeadWords
 pub mod Form
+pub mod Samples

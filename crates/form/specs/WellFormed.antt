@@ -9,7 +9,7 @@ use Rattle.pieces.specs.Strings.{Whole}
 use Rattle.language.specs.Machine.{Decoder, asWord, asUnary, asBinary}
 use Rattle.language.specs.Layout.{Counts, Head}
 use Rattle.language.specs.Agreement.{Answer, groups, records, at, placeAt, charactersAt}
-use Rattle.lists.specs.Places.{Every, Utf8At, NameIn, column}
+use Rattle.form_parts.specs.Places.{Every, Utf8At, NameIn, column}
 
 -- a rule of the sheet
 pub record RuleFormed (text ws : List ℕ) : Type 0 where
