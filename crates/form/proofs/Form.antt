@@ -11,7 +11,7 @@ use Rattle.language.specs.Agreement.{Answer, groups, records, stateIn, textIn, 
 use Rattle.emit.specs.Output.{Output, appended}
 use Rattle.emit.proofs.Appends.{appended-nil}
 use Rattle.pieces.specs.Writes.{Writes}
-use Rattle.lists.specs.Places.{Every, NameIn}
+use Rattle.form_parts.specs.Places.{Every, NameIn}
 use Rattle.form.specs.Sections.{headLines, statesLine, symbolsLine, blankLine, startLine, finalsLine, declaredLines}
 use Rattle.rule_form.specs.Formed.{RuleFormed}
 use Rattle.form.specs.WellFormed.{DeclaredFormed, sigmaFrom, gammaFrom, headerFrom, trailingFrom, rulesFrom, WellFormed}

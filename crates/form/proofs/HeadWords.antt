@@ -26,7 +26,7 @@ use Rattle.emit.proofs.Digits.{digits-rest, digits-any}
 use Rattle.pieces.specs.Writes.{Adds, Writes}
 use Rattle.machine.specs.Head.{spanIn, kindIn, orderIn, decoderIn}
 use Rattle.form.specs.Sections.{headLines, statesLine, symbolsLine, blankLine, startLine, finalsLine}
-use Rattle.lists.specs.Places.{column}
+use Rattle.form_parts.specs.Places.{column}
 use Rattle.form.specs.WellFormed.{DecoderFormed}
 use Rattle.pieces.proofs.Chain.{adds, known, spoken, same, none, _▹_}
 

@@ -1,2 +1,3 @@
 pub mod HeadWords
 pub mod Form
+pub mod Samples

@@ -6,7 +6,7 @@ use Rattle.lexer.specs.Tokens.{Span}
 use Rattle.language.specs.Layout.{Head}
 use Rattle.language.specs.Plain.{Piece, _⨾_, say, end, only, verbatim, symbol, string, decimal, kindName, decoder, nameSet, symbolSet, finalNames}
 use Rattle.language.specs.Agreement.{groups, charactersAt, stringAt, stateIn, textIn}
-use Rattle.lists.specs.Places.{column}
+use Rattle.form_parts.specs.Places.{column}
 
 -- machine, kind, input, output and tapes
 unfoldable pub headLines : List ℕ → Head → Piece

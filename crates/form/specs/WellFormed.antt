@@ -9,7 +9,7 @@ use Rattle.pieces.specs.Strings.{Whole}
 use Rattle.language.specs.Machine.{Decoder, asWord, asUnary, asBinary}
 use Rattle.language.specs.Layout.{Counts, Head}
 use Rattle.language.specs.Agreement.{Answer, groups, records, charactersAt}
-use Rattle.lists.specs.Places.{Every, Utf8At, NameIn, column}
+use Rattle.form_parts.specs.Places.{Every, Utf8At, NameIn, column}
 use Rattle.rule_form.specs.Formed.{RuleFormed}
 
 -- the symbol that a decoder counts

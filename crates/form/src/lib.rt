@@ -1,11 +1,11 @@
 // The plain form of a machine (paper 01), from the head, the sheet and the text that a reading call answered with.
 // Each function appends one piece of the form to a lent output, as crate `emit` does: stored where there is room, counted in any case.
-use lists::comment_lines;
-use lists::final_names;
-use lists::names;
-use lists::string;
-use lists::symbols;
-use lists::verbatim;
+use form_parts::comment_lines;
+use form_parts::final_names;
+use form_parts::names;
+use form_parts::string;
+use form_parts::symbols;
+use form_parts::verbatim;
 use machine::BitOrder;
 use machine::Decoder;
 use machine::Head;
@@ -26,7 +26,7 @@ ghost use Rattle.language.specs.Agreement.{groups, records, ruleIn, contentOfAn
 ghost use Rattle.machine.specs.Head.{spanIn, kindIn, orderIn, decoderIn, headIn};
 ghost use Rattle.emit.specs.Output.{output, appended};
 ghost use Rattle.pieces.specs.Writes.{Writes};
-ghost use Rattle.lists.specs.Places.{Every, Utf8At, NameIn, column};
+ghost use Rattle.form_parts.specs.Places.{Every, Utf8At, NameIn, column};
 ghost use Rattle.form.specs.Answers.{answer};
 ghost use Rattle.form.specs.Sections.{headLines, statesLine, symbolsLine, blankLine, startLine, finalsLine, declaredLines};
 ghost use Rattle.form.specs.WellFormed.{DecoderFormed, HeadFormed, DeclaredFormed, WellFormed};
@@ -189,34 +189,15 @@ fn declared_lines(
     requires { ⌜ DeclaredFormed (now text) (headIn head) (now states) (now sigma) (now gamma) ⌝ }
     ensures { λ r. ⌜ Writes (declaredLines (now (text .entry)) (headIn head) (now (states .entry)) (now (sigma .entry)) (now (gamma .entry))) (output (now (out .entry)) at) (output (now (out .exit)) r) ⌝ }
 {
-    let a = states_line(
-        out,
-        at,
-        text,
-        head.declared.states,
-        head.counts.states,
-        states,
-    );
-    let b = symbols_line(
-        out,
-        a,
-        0x3A3,
-        head.declared.input_alphabet,
-        head.counts.sigma,
-        sigma,
-    );
-    let c = symbols_line(
-        out,
-        b,
-        0x393,
-        head.declared.tape_alphabet,
-        head.counts.gamma,
-        gamma,
-    );
-    let d = blank_line(out, c, head.declared.blank, head.blank);
+    let said = head.declared;
+    let n = head.counts;
+    let a = states_line(out, at, text, said.states, n.states, states);
+    let b = symbols_line(out, a, 0x3A3, said.input_alphabet, n.sigma, sigma);
+    let c = symbols_line(out, b, 0x393, said.tape_alphabet, n.gamma, gamma);
+    let d = blank_line(out, c, said.blank, head.blank);
     let p = head.start;
-    let e = start_line(out, d, text, head.declared.start, p);
-    finals_line(out, e, text, head.counts.states, states)
+    let e = start_line(out, d, text, said.start, p);
+    finals_line(out, e, text, n.states, states)
 }
 
 // ---- the whole form

@@ -33,7 +33,7 @@ use Rattle.machine.specs.declared.Head as D
 use Rattle.machine.specs.Head.{headIn}
 use Rattle.pieces.specs.Strings.{Whole}
 use Rattle.form.specs.Answers.{answer}
-use Rattle.lists.specs.Places.{Every, Utf8At, NameIn}
+use Rattle.form_parts.specs.Places.{Every, Utf8At, NameIn}
 use Rattle.rule_form.specs.Formed.{RuleFormed}
 use Rattle.form.specs.WellFormed.{DecoderFormed, WellFormed}
 use Rattle.formed.specs.Read.{machineIn, ReadAs}

@@ -14,7 +14,7 @@ use Rattle.machine.specs.Head.{spanOf, spanIn}
 use Rattle.emit.specs.Output.{Output}
 use Rattle.pieces.specs.Writes.{Adds, Writes}
 use Rattle.rule_form.specs.Rules.{ruleLeft, ruleRight}
-use Rattle.lists.specs.Places.{Every, Utf8At, NameIn, column}
+use Rattle.form_parts.specs.Places.{Every, Utf8At, NameIn, column}
 use Rattle.rule_form.specs.Formed.{RuleFormed}
 use Rattle.sheet_words.proofs.Records.{recordsLeft, records-all, records-none, records-next}
 use Rattle.pieces.proofs.Chain.{known, same, _▹_, Goes, goes-start, goes-on, goes-end}

@@ -6,7 +6,7 @@ use mathlib.Core.Path.{_≡_}
 use lib.ListN.{drop}
 use Rattle.chars.specs.Utf8.{scalars}
 use Rattle.language.specs.Agreement.{groups, at, placeAt}
-use Rattle.lists.specs.Places.{Every, Utf8At, NameIn, column}
+use Rattle.form_parts.specs.Places.{Every, Utf8At, NameIn, column}
 
 -- a rule of the sheet
 pub record RuleFormed (text ws : List ℕ) : Type 0 where

@@ -1,10 +1,10 @@
 // The rules of a plain form, from the words of the sheet and the text. Each function appends one piece to a lent output, as crate `emit` does.
-use lists::comment_lines;
-use lists::directions;
-use lists::own_comment;
-use lists::place_at;
-use lists::symbols;
-use lists::verbatim;
+use form_parts::comment_lines;
+use form_parts::directions;
+use form_parts::own_comment;
+use form_parts::place_at;
+use form_parts::symbols;
+use form_parts::verbatim;
 use pieces::say;
 use sheet_words::after;
 use sheet_words::record_at;
@@ -14,7 +14,7 @@ ghost use Rattle.language.specs.Plain.{each, ruleLines};
 ghost use Rattle.language.specs.Agreement.{records, ruleIn};
 ghost use Rattle.emit.specs.Output.{output};
 ghost use Rattle.pieces.specs.Writes.{Writes};
-ghost use Rattle.lists.specs.Places.{Every};
+ghost use Rattle.form_parts.specs.Places.{Every};
 ghost use Rattle.rule_form.specs.Rules.{ruleLeft, ruleRight};
 ghost use Rattle.rule_form.specs.Formed.{RuleFormed};
 

@@ -48,12 +48,11 @@ pub writable : Writable text
 unfolding admitted diagnostics readLines decode formOf
 writable = record { is-admitted = refl; no-diagnostic = refl; form-short = omega arith }
 
-none : Span
+abbrev none : Span
 none = record { start = 4294967295; end = 4294967295 }
 
 -- the head that a call answers with
-head : Head
-unfolding none
+abbrev pub head : Head
 head = record {
   output = Word;
   name = none;
@@ -68,7 +67,7 @@ head = record {
 }
 
 -- and the sheet that it leaves
-abbrev sheet : List ℕ
+abbrev pub sheet : List ℕ
 sheet =
     3 ∷ 4 ∷ 0 ∷ 13 ∷ 14 ∷ 0 ∷
     48 ∷ 0 ∷ 0 ∷ 49 ∷ 0 ∷ 0 ∷
@@ -78,7 +77,7 @@ sheet =
 
 -- a call of `read`, lent a log of 7 words and a sheet of two words more than it needs
 pub read-call : ReadCall text
-unfolding wordsNeeded readLines decode readOutcome head headIn
+unfolding wordsNeeded readLines decode readOutcome headIn
 read-call = record {
   work = 126;
   logLent = replicate 7 7;
@@ -123,12 +122,12 @@ decoder-back (L.asBinary L.lsb) = refl
 decoder-back (L.asBinary L.msb) = refl
 
 -- each head of the definition is that of a head by value
-head-back : (h : Layout.Head) → headIn (M.headOf h) ≡ h
+pub head-back : (h : Layout.Head) → headIn (M.headOf h) ≡ h
 unfolding headIn M.headOf
 head-back h = rw (kind-back (h .kind), decoder-back (h .output)) refl
 
 -- has a call of `read`, so that the claim's last part is not empty either
-pub reads : (t : List ℕ) → Writable t → ReadCall t
+unfoldable pub reads : (t : List ℕ) → Writable t → ReadCall t
 reads t good =
     let m = machineOf (readLines (decode t)) in
     let rows = replicate {A = ℕ} (wordsNeeded (readLines (decode t))) 7 in

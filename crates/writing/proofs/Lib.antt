@@ -1,3 +1,4 @@
 pub mod Outcomes
 pub mod Values
 pub mod Claim
+pub mod Inhabited

@@ -1,8 +1,7 @@
 -- A writing call on records by the reading call on records in it: both are the calls on words, the log's words taken as records.
 use Prim.Native.Nat.{ℕ}
-use mathlib.Core.Bool.{true}
 use mathlib.Core.List.{List}
-use mathlib.Core.Path.{_≡_, sym, ap, ap₂, _∙_}
+use mathlib.Core.Path.{_≡_, ap, ap₂, _∙_}
 use lib.ListN.{length}
 use Rattle.diag.specs.declared.Diagnostic.{Diagnostic}
 use Rattle.diag.specs.Log.{records, flat}
@@ -13,15 +12,14 @@ use Rattle.machine.specs.Head.{headIn}
 use Rattle.answer.specs.declared.Answer.{Answer}
 use Rattle.answer.specs.declared.Answer.the-variants.{Machine}
 use Rattle.answer.specs.Answer as R
-use Rattle.reader.specs.Reading.{leavesWorkNumber}
 use Rattle.enter.specs.Records as Q
 use Rattle.enter.specs.Records.{readRecords}
 use Rattle.formed.specs.Read.{ReadAs}
 use Rattle.reply.specs.declared.WriteAnswer.{WriteAnswer}
 use Rattle.reply.specs.Answer as W
-use Rattle.reply.specs.Answer.{writeReplyIn, leavesWork}
+use Rattle.reply.specs.Answer.{writeReplyIn}
 use Rattle.reply.specs.Words.{answerRow}
-use Rattle.writer.proofs.Calls.{machine-was-read, answer-written, number-keeps}
+use Rattle.writer.proofs.Calls.{machine-was-read, answer-written}
 use Rattle.writing.specs.Records.{RecordsOutcome, writeIn, inRecords, writeRecords}
 use Rattle.writing.specs.Given.{given, givenBy}
 

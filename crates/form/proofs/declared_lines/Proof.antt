@@ -10,15 +10,15 @@ declared-lines-spec =
     (tie.spec
     (λ c κs. search needs)
     (λ c κs.
-    let start = c .before .before .before .before .before .before .before .before .before .before in
+    let start = c .before .before .before .before .before .before .before .before .before .before .before .before in
     (search (sigma-scalar, gamma-scalar), start .pre .sigmaCodes))
     (λ c κs.
-    let start = c .before .before .before .before .before .before .before .before .before .before .before .before .before .before in
+    let start = c .before .before .before .before .before .before .before .before .before .before .before .before .before .before .before .before in
     (search (sigma-scalar, gamma-scalar), start .pre .gammaCodes))
     (λ c κs. search needs)
     (λ c κs. search needs)
     (λ c κs.
-    let start = c .before .before .before .before .before .before .before .before .before .before .before .before .before .before .before .before .before .before .before .before .before .before .before .before .before .before .before in
+    let start = c .before .before .before .before .before .before .before .before .before .before .before .before .before .before .before .before .before .before .before .before .before .before .before .before .before .before .before .before .before in
     start .pre .names)
     (λ c. search needs)
     (λ c.

@@ -14,7 +14,7 @@ use prog.Memory.{Memory}
 use prog.Routine.{Routine}
 use prog.Wp.{Heap, WpFn, Tables}
 use ghost.Atoms.{Atoms}
-use contract.Monad.{Fun, factI}
+use contract.Monad.{Fun}
 use contract.Lifetimes.{Lfts, Shares}
 use contract.Running.{givenOf, tables, tablesOf}
 use types.Kit.{Given, Item, ‵, ⋆, _$_, _∵_, !, qed, by, move, join, fjoin, suffices, frame, done}
