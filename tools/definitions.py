@@ -15,9 +15,9 @@ import sys
 
 ROOT = os.path.dirname(os.path.dirname(os.path.abspath(__file__)))
 OUT = os.path.join(ROOT, "target", "definitions")
-HEAD_WORDS = 33
+ANSWER_WORDS = 36
+CASE_WORDS = 9 + ANSWER_WORDS + 3  # in front of what the calls leave
 UNTOUCHED = 0xFFFFFFFF
-DIAGNOSTICS = 0xFFFFFFFF  # the oracle's number for a count of diagnostics
 DIRTY = 7  # what every word and byte lent holds
 MAX_TEXT = 160
 MAX_LENT = 1500
@@ -66,53 +66,47 @@ def row(numbers):
 
 
 def stored(data):
-    """The cases of `oracle store` (oracle/src/store.rs has the layout)."""
-    words = struct.unpack("<%dI" % (len(data) // 4), data)
-    at = 1
-    for _ in range(words[0]):
-        end = at + 1 + words[at]
-        yield words[at + 1:end]
-        at = end
+    """The cases of `oracle store` (oracle/src/store.rs has the layout): the words in front, and the bytes behind them."""
+    at = 4
+    for _ in range(struct.unpack_from("<I", data)[0]):
+        head = struct.unpack_from("<%dI" % CASE_WORDS, data, at)
+        at += 4 * CASE_WORDS
+        yield head, data[at:at + head[0]]
+        at += head[0]
 
 
-def left(words, at, length):
-    """What a row of words holds after the call, and the index behind it in the case."""
-    n = words[at]
+def left(n, length, rest, at):
+    """What a row of words holds after the call, n of them stored, and the place behind these in the case."""
     if n == UNTOUCHED:
-        return [DIRTY] * length, at + 1
-    return list(words[at + 1:at + 1 + n]) + [0] * (length - n), at + 1 + n
+        return [DIRTY] * length, at
+    return list(struct.unpack_from("<%dI" % n, rest, at)) + [0] * (length - n), at + 4 * n
 
 
-def left_bytes(words, at, length):
+def left_bytes(n, length, rest, at):
     """The same for bytes; what is not written is untouched."""
-    n = words[at]
     if n == UNTOUCHED:
-        return [DIRTY] * length, at + 1
-    k = (n + 3) // 4
-    data = struct.pack("<%dI" % k, *words[at + 1:at + 1 + k])[:n]
-    return list(data) + [DIRTY] * (length - n), at + 1 + k
+        return [DIRTY] * length, at
+    return list(rest[at:at + n]) + [DIRTY] * (length - n), at + n
 
 
-def case(words):
-    """A call and its expected outcome as antt terms; None where it is too long."""
-    writes, size, work, log, sheet, output = words[:6]
+def calls(head, rest):
+    """The reading and the writing call of a case, each with its answer's number, as antt terms: the call and its outcome. None where it is too long."""
+    _, size, work, log, sheet, output = head[:6]
     if size > MAX_TEXT or max(log, sheet, output) > MAX_LENT:
-        return None
-    answer = words[6:6 + 3 + HEAD_WORDS]
-    number, value = answer[0], answer[1] + (answer[2] << 32)
-    at = 6 + 3 + HEAD_WORDS
-    log_left, at = left(words, at, log)
-    sheet_left, at = left(words, at, sheet)
-    output_left, at = left_bytes(words, at, output)
-    text = struct.pack("<%dI" % (len(words) - at), *words[at:])[:size]
-    expected = [number, value]
-    if writes:
-        call = "writes (%s) %d %d %d %d" % (row(text), work, log, sheet, output)
-        return call, row(expected + log_left + sheet_left + output_left)
-    if number == 0:
-        expected += answer[3:]
-    call = "reads (%s) %d %d %d" % (row(text), work, log, sheet)
-    return call, row(expected + log_left + sheet_left)
+        return []
+    log_left, at = left(head[6], log, rest, 0)
+    sheet_left, at = left(head[7], sheet, rest, at)
+    output_left, at = left_bytes(head[8], output, rest, at)
+    text = rest[at:at + size]
+    read, write = head[9:9 + ANSWER_WORDS], head[9 + ANSWER_WORDS:]
+    reads = [read[0], read[1] + (read[2] << 32)]
+    if read[0] == 0:
+        reads += read[3:]
+    writes = [write[0], write[1] + (write[2] << 32)]
+    return [
+        (read[0], "reads (%s) %d %d %d" % (row(text), work, log, sheet), row(reads + log_left + sheet_left)),
+        (write[0], "writes (%s) %d %d %d %d" % (row(text), work, log, sheet, output), row(writes + log_left + sheet_left + output_left)),
+    ]
 
 
 def write_crate(name, cases):
@@ -156,12 +150,11 @@ def main():
     data = subprocess.run([os.path.join(oracle, "target", "release", "oracle"), "store", count, seed],
                           capture_output=True, check=True).stdout
     cases, texts, machines = [], set(), 0
-    for words in stored(data):
-        made = case(words)
-        if made:
-            cases.append(made)
-            texts.add(made[0].split("(")[1].split(")")[0])
-            machines += words[6] == 0
+    for head, rest in stored(data):
+        for number, call, expected in calls(head, rest):
+            cases.append((call, expected))
+            texts.add(call.split("(")[1].split(")")[0])
+            machines += number == 0
     failed = 0
     for i in range(0, len(cases), CASES_A_FILE):
         folder = write_crate("cases_%d" % (i // CASES_A_FILE), cases[i:i + CASES_A_FILE])
