@@ -396,36 +396,35 @@ module _ (size count s f : ℕ) (w o : List ℕ) (n : ℕ) (scratch : Scratch si
         ∙ sym (named-append size ts false (namedAll size ts false (page w o n) a) b c)
         ∙ sym (named-append size ts false (page w o n) a (b ++ c))
 
--- ---- the second row cleared, and F marked in it
-module _ (size count : ℕ) (w : List ℕ) (s : Scratch size count w) (p : List ℕ) (zeros : p ≡ replicate (length (take (6 * size - 5 * size) (drop (5 * size) w))) 0) where
-  abbrev cleared : List ℕ
-  cleared = take (5 * size) w ++ (p ++ drop (6 * size - 5 * size) (drop (5 * size) w))
+-- ---- the second row cleared as far as there are tokens, and F marked in it
+pub unmarked-kept : (size n : ℕ) (w : List ℕ) → 5 * size + n ≤ length w → Kept (5 * size) w (unmarked size n w)
+unfolding unmarked
+unmarked-kept size n w h =
+    let rest : List ℕ = replicate n 0 ++ drop (5 * size + n) w in
+    let e : length (take (5 * size) w) ≡ 5 * size = length-take-le (5 * size) w (omega arith) in
+    record {
+      below = take-at (take (5 * size) w) rest (5 * size) e;
+      size = omega (arith, e, length-append (take (5 * size) w) rest, length-append (replicate n 0) (drop (5 * size + n) w), length-drop (5 * size + n) w, length-replicate {A = ℕ} n 0);
+    }
 
-  cleared-is : cleared ≡ unmarked size w
+module _ (size count : ℕ) (w : List ℕ) (s : Scratch size count w) (p : List ℕ) (zeros : p ≡ replicate (length (take (5 * size + count - 5 * size) (drop (5 * size) w))) 0) where
+  abbrev cleared : List ℕ
+  cleared = take (5 * size) w ++ (p ++ drop (5 * size + count - 5 * size) (drop (5 * size) w))
+
+  marks-room : 5 * size + length (rows count w) ≤ length w
+  marks-room = omega (arith, s .few, s .room, scratch-length size count w s)
+
+  cleared-is : cleared ≡ unmarked size (length (rows count w)) w
   unfolding unmarked
   cleared-is =
-      let n : length (take (6 * size - 5 * size) (drop (5 * size) w)) ≡ size = omega (arith, length-take (6 * size - 5 * size) (drop (5 * size) w), length-drop (5 * size) w, s .room) in
-      let e : 5 * size + (6 * size - 5 * size) ≡ 6 * size = omega arith in
-      ap (λ (l : List ℕ). take (5 * size) w ++ (l ++ drop (6 * size - 5 * size) (drop (5 * size) w))) (zeros ∙ ap (λ (k : ℕ). replicate k 0) n)
-      ∙ ap (λ (l : List ℕ). take (5 * size) w ++ (replicate size 0 ++ l)) (drop-drop (6 * size - 5 * size) (5 * size) w ∙ ap (λ (k : ℕ). drop k w) e)
+      let k : ℕ = 5 * size + count - 5 * size in
+      let n : length (take k (drop (5 * size) w)) ≡ length (rows count w) = omega (arith, length-take k (drop (5 * size) w), length-drop (5 * size) w, marks-room, scratch-length size count w s) in
+      let e : 5 * size + k ≡ 5 * size + length (rows count w) = omega (arith, scratch-length size count w s) in
+      ap (λ (l : List ℕ). take (5 * size) w ++ (l ++ drop k (drop (5 * size) w))) (zeros ∙ ap (λ (k : ℕ). replicate k 0) n)
+      ∙ ap (λ (l : List ℕ). take (5 * size) w ++ (replicate (length (rows count w)) 0 ++ l)) (drop-drop k (5 * size) w ∙ ap (λ (k : ℕ). drop k w) e)
 
   cleared-kept : Kept (5 * size) w cleared
-  cleared-kept =
-      let n : length (take (5 * size) w) ≡ 5 * size = length-take-le (5 * size) w (omega (arith, s .room)) in
-      record {
-        below = take-at (take (5 * size) w) (p ++ drop (6 * size - 5 * size) (drop (5 * size) w)) (5 * size) n;
-        size = omega (
-          arith,
-          n,
-          s .room,
-          length-append (take (5 * size) w) (p ++ drop (6 * size - 5 * size) (drop (5 * size) w)),
-          length-append p (drop (6 * size - 5 * size) (drop (5 * size) w)),
-          length-drop (6 * size - 5 * size) (drop (5 * size) w),
-          length-drop (5 * size) w,
-          length-take (6 * size - 5 * size) (drop (5 * size) w),
-          ap length zeros ∙ length-replicate (length (take (6 * size - 5 * size) (drop (5 * size) w))) 0,
-        );
-      }
+  cleared-kept = subst (λ (v : List ℕ). Kept (5 * size) w v) (sym cleared-is) (unmarked-kept size (length (rows count w)) w marks-room)
 
   pub finals-scratch : Scratch size count cleared
   finals-scratch = scratch-kept size count w s cleared cleared-kept
@@ -436,7 +435,7 @@ module _ (size count : ℕ) (w : List ℕ) (s : Scratch size count w) (p : List 
       let row : rows count cleared ≡ rows count w = scratch-rows size count w s cleared cleared-kept in
       g ∙ ap (λ (ts : List Token). listFinals size ts cleared (indicesIn ts f)) row
       ∙ ap (λ (l : List ℕ). listFinals size (rows count w) l (indicesIn (rows count w) f)) cleared-is
-      ∙ ap (λ (k : ℕ). listFinals size (rows count w) (unmarked size w) (indicesIn (rows count w) k)) e
+      ∙ ap (λ (k : ℕ). listFinals size (rows count w) (unmarked size (length (rows count w)) w) (indicesIn (rows count w) k)) e
 
 -- ---- the states
 module _ (size count : ℕ) (w o first : List ℕ) (n q : ℕ) (s : Scratch size count w) (qs : q ≡ getD first 5 0) (w′ o′ : List ℕ) (n′ : ℕ) where

@@ -6,8 +6,8 @@ use Prim.Native.Nat.{ℕ, _+_, _-_, _*_, _≤_, _<_, _^_}
 use native.Mathlib.Omega.{arith}
 use borrow.Author.Tests.{lt-ltb, le-ltb}
 use lib.Dec.{ltb}
-use lib.ListN.{length, getD, take, drop, set, replicate, length-append, length-drop, length-replicate, List·getD-eq-default}
-use lib.Seq.{sets, take-at, length-take-le}
+use lib.ListN.{length, getD, set, List·getD-eq-default}
+use lib.Seq.{sets}
 use Rattle.tokens.specs.declared.Token.{Token}
 use Rattle.parser.specs.Row.{peek}
 use Rattle.parser.specs.Views.{isState}
@@ -21,7 +21,7 @@ use Rattle.sheet.proofs.Writes.{stored-append, stored-none, stored-as, Writing,
 use Rattle.infer.specs.Page.{Page, page, Kept, indicesIn}
 use Rattle.infer.specs.States.{markAt, Scratch, listFinals, listFinal, nameWords, stateNamed, named, namedAll, mentions, startName, unmarked, inferred, finals, states, nameAdds, nameMarks, namesAdd, statesAdd, stateSection, placeAt, finalSection, firstState}
 use Rattle.infer.proofs.Pages.{kept-refl, kept-on, indicesAt, indices-start, indices-stop, indices-on, indices-end}
-use Rattle.infer.proofs.NameLaws.{scratch-kept, scratch-rows, final-kept, Gone, named-gone}
+use Rattle.infer.proofs.NameLaws.{scratch-kept, scratch-rows, scratch-length, unmarked-kept, final-kept, Gone, named-gone}
 
 -- ---- names
 -- what a page becomes where ws are stored and work is v
@@ -87,28 +87,22 @@ module _ (size : ℕ) (ts : List Token) (first : List ℕ) (p : Page) where
       go false = named-gone size ts false p xs .kept
 
 -- ---- the finals
-pub unmarked-kept : (size : ℕ) (w : List ℕ) → 6 * size ≤ length w → Kept (5 * size) w (unmarked size w)
-unfolding unmarked
-unmarked-kept size w h =
-    let n : length (take (5 * size) w) ≡ 5 * size = length-take-le (5 * size) w (omega arith) in
-    record {
-      below = take-at (take (5 * size) w) (replicate size 0 ++ drop (6 * size) w) (5 * size) n;
-      size = omega (arith, n, length-append (take (5 * size) w) (replicate size 0 ++ drop (6 * size) w), length-append (replicate size 0) (drop (6 * size) w), length-drop (6 * size) w, length-replicate {A = ℕ} size 0);
-    }
-
 pub list-kept : (size : ℕ) (ts : List Token) (w xs : List ℕ) → Kept (5 * size) w (listFinals size ts w xs)
 unfolding listFinals
 list-kept size ts w [] = kept-refl (5 * size) w
 list-kept size ts w (x ∷ xs) = kept-on (5 * size) w (listFinal size ts w x) (listFinals size ts (listFinal size ts w x) xs) (final-kept size ts x w) (list-kept size ts (listFinal size ts w x) xs)
 
-pub finals-kept : (size : ℕ) (ts : List Token) (first w : List ℕ) → 6 * size ≤ length w → Kept (5 * size) w (finals size ts first w)
+pub finals-kept : (size : ℕ) (ts : List Token) (first w : List ℕ) → 5 * size + length ts ≤ length w → Kept (5 * size) w (finals size ts first w)
 unfolding finals
-finals-kept size ts first w h = kept-on (5 * size) w (unmarked size w) (listFinals size ts (unmarked size w) (indicesIn ts (getD first 10 0))) (unmarked-kept size w h) (list-kept size ts (unmarked size w) (indicesIn ts (getD first 10 0)))
+finals-kept size ts first w h =
+    let v : List ℕ = unmarked size (length ts) w in
+    let xs : List ℕ = indicesIn ts (getD first 10 0) in
+    kept-on (5 * size) w v (listFinals size ts v xs) (unmarked-kept size (length ts) w h) (list-kept size ts v xs)
 
 -- ---- the section
 module _ (size count : ℕ) (w first : List ℕ) (s : Scratch size count w) (w₁ : List ℕ) (marks : w₁ ≡ finals size (rows count w) first w) where
   kept₁ : Kept (5 * size) w w₁
-  kept₁ = subst (λ (v : List ℕ). Kept (5 * size) w v) (sym marks) (finals-kept size (rows count w) first w (s .room))
+  kept₁ = subst (λ (v : List ℕ). Kept (5 * size) w v) (sym marks) (finals-kept size (rows count w) first w (omega (arith, s .few, s .room, scratch-length size count w s)))
 
   pub section-scratch : Scratch size count w₁
   section-scratch = scratch-kept size count w s w₁ kept₁

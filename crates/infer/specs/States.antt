@@ -27,9 +27,9 @@ pub record Scratch (size count : ℕ) (w : List ℕ) : Type 0 where
   pub room : 6 * size ≤ length w
   pub low : (x : ℕ) → x < count → isState (peek (rows count w) x) ≡ true → getD w (4 * size + x) 0 < size
 
--- no name is marked
-unfoldable pub unmarked : ℕ → List ℕ → List ℕ
-unmarked size w = take (5 * size) w ++ (replicate size 0 ++ drop (6 * size) w)
+-- no name of n tokens is marked
+unfoldable pub unmarked : ℕ → ℕ → List ℕ → List ℕ
+unmarked size n w = take (5 * size) w ++ (replicate n 0 ++ drop (5 * size + n) w)
 
 -- the name at x is listed in F
 unfoldable pub listFinal : ℕ → List Token → List ℕ → ℕ → List ℕ
@@ -90,7 +90,7 @@ states size ts first p =
 -- before that, the names that F lists are marked
 unfoldable pub finals : ℕ → List Token → List ℕ → List ℕ → List ℕ
 unfolding unmarked listFinals indicesIn
-finals size ts first w = listFinals size ts (unmarked size w) (indicesIn ts (getD first 10 0))
+finals size ts first w = listFinals size ts (unmarked size (length ts) w) (indicesIn ts (getD first 10 0))
 
 -- ---- the same as words
 -- what the name at x adds to the sheet

@@ -209,13 +209,13 @@ fn inferred(
     names_in(work, count, size, f, false, out, m)
 }
 
-// Marks the names that F lists, and no other.
+// Marks the names that F lists, and no other: a mark's index is that of a token, so no more than there are tokens are cleared.
 pub fn finals(work: &mut [u32], count: usize, size: usize, first: &[u32; 11])
     requires { ⌜ Scratch size count (now work) ⌝ }
     ensures { λ _. ⌜ now (work .exit) ≡ finals size (rows count (now (work .entry))) (now (first .entry)) (now (work .entry)) ⌝ }
 {
     let a = 5 * size;
-    let b = 6 * size;
+    let b = a + count;
     diag::clear(&mut work[a..b]);
     list_finals(work, count, size, crate::index(first[FINAL]));
 }

@@ -29,7 +29,7 @@ use Rattle.assembler.proofs.FinalsMean.{NameIs, name-place, names-same, AllName
 use Rattle.infer.specs.Page.{Kept, indicesFrom, indicesIn}
 use Rattle.infer.specs.States.{markAt, Scratch, unmarked, listFinal, listFinals, nameWords, nameAdds, nameMarks, namesAdd, finals}
 use Rattle.infer.proofs.Pages.{kept-at, kept-rows, kept-set, kept-on, kept-refl}
-use Rattle.infer.proofs.SectionLaws.{unmarked-kept}
+use Rattle.infer.proofs.NameLaws.{unmarked-kept}
 
 -- ---- states among indices
 -- a state is a word
@@ -386,32 +386,37 @@ module _ (text : List ℕ) (ts : List Token) (size count : ℕ) where
     long : length ts ≡ count
     long = ap length (sym row) ∙ length-rows count w (omega arith)
 
-    unmarked-at : (k : ℕ) → k < size → getD (unmarked size w) (5 * size + k) 0 ≡ 0
+    -- the words once the marks are cleared
+    abbrev none-marked : List ℕ
+    none-marked = unmarked size (length ts) w
+
+    unmarked-at : (k : ℕ) → k < length ts → getD none-marked (5 * size + k) 0 ≡ 0
     unfolding unmarked
     unmarked-at k h =
+        let m : ℕ = length ts in
         let n : length (take (5 * size) w) ≡ 5 * size = length-take-le (5 * size) w (omega arith) in
-        ap (λ (j : ℕ). getD (take (5 * size) w ++ (replicate size 0 ++ drop (6 * size) w)) (j + k) 0) (sym n)
-        ∙ getD-append-add (take (5 * size) w) (replicate size 0 ++ drop (6 * size) w) k 0
-        ∙ List·getD-append (replicate size 0) (drop (6 * size) w) 0 k (omega (arith, length-replicate {A = ℕ} size 0))
-        ∙ getD-replicate size k 0 0 h
+        ap (λ (j : ℕ). getD (take (5 * size) w ++ (replicate m 0 ++ drop (5 * size + m) w)) (j + k) 0) (sym n)
+        ∙ getD-append-add (take (5 * size) w) (replicate m 0 ++ drop (5 * size + m) w) k 0
+        ∙ List·getD-append (replicate m 0) (drop (5 * size + m) w) 0 k (omega (arith, length-replicate {A = ℕ} m 0))
+        ∙ getD-replicate m k 0 0 h
 
-    clear : Marked text ts size count (unmarked size w) [] []
+    clear : Marked text ts size count none-marked [] []
     unfolding I.member
     clear =
-        let k : Kept (5 * size) w (unmarked size w) = unmarked-kept size w room in
+        let k : Kept (5 * size) w none-marked = unmarked-kept size (length ts) w (omega (arith, long)) in
         record {
-          row = kept-rows count (5 * size) w (unmarked size w) k (omega arith) (omega arith) ∙ row;
+          row = kept-rows count (5 * size) w none-marked k (omega arith) (omega arith) ∙ row;
           laid = record { tokens = omega arith; words = omega arith; marks = omega (arith, k .size); few = short };
-          names = record { interned = λ x h e. kept-at (5 * size) w (unmarked size w) (4 * size + x) k (omega (arith, long)) ∙ names .interned x h e };
+          names = record { interned = λ x h e. kept-at (5 * size) w none-marked (4 * size + x) k (omega (arith, long)) ∙ names .interned x h e };
           marks = λ x h e.
-              let at : getD (unmarked size w) (4 * size + x) 0 ≡ firstEqual text (peek ts x) 0 ts = kept-at (5 * size) w (unmarked size w) (4 * size + x) k (omega (arith, long)) ∙ names .interned x h e in
-              ap (λ (j : ℕ). getD (unmarked size w) (5 * size + j) 0) at ∙ unmarked-at (firstEqual text (peek ts x) 0 ts) (omega (arith, first-low text ts x h e, long));
+              let at : getD none-marked (4 * size + x) 0 ≡ firstEqual text (peek ts x) 0 ts = kept-at (5 * size) w none-marked (4 * size + x) k (omega (arith, long)) ∙ names .interned x h e in
+              ap (λ (j : ℕ). getD none-marked (5 * size + j) 0) at ∙ unmarked-at (firstEqual text (peek ts x) 0 ts) (omega (arith, first-low text ts x h e));
         }
 
     pub finals-marked : (first : List ℕ) → Marked text ts size count (finals size ts first w) (namesOf ts (getD first 10 0)) []
     unfolding finals
     finals-marked first =
         let f : ℕ = getD first 10 0 in
-        let here : Marked text ts size count (listFinals size ts (unmarked size w) (statesOf ts (indicesIn ts f))) (statesOf ts (indicesIn ts f)) [] = listing (statesOf ts (indicesIn ts f)) [] (unmarked size w) (all-states ts (indicesIn ts f)) clear in
-        subst (λ (l : List ℕ). Marked text ts size count (listFinals size ts (unmarked size w) (indicesIn ts f)) l []) (line-names ts f)
-        (subst (λ (v : List ℕ). Marked text ts size count v (statesOf ts (indicesIn ts f)) []) (sym (lists-states size ts (unmarked size w) (indicesIn ts f))) here)
+        let here : Marked text ts size count (listFinals size ts none-marked (statesOf ts (indicesIn ts f))) (statesOf ts (indicesIn ts f)) [] = listing (statesOf ts (indicesIn ts f)) [] none-marked (all-states ts (indicesIn ts f)) clear in
+        subst (λ (l : List ℕ). Marked text ts size count (listFinals size ts none-marked (indicesIn ts f)) l []) (line-names ts f)
+        (subst (λ (v : List ℕ). Marked text ts size count v (statesOf ts (indicesIn ts f)) []) (sym (lists-states size ts none-marked (indicesIn ts f))) here)

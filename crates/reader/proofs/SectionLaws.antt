@@ -1,5 +1,5 @@
 -- The sections of the sheet one behind the other: what each asks of those before it, and what they leave together.
-use mathlib.Core.Path.{_≡_, ap, subst, _∙_}
+use mathlib.Core.Path.{_≡_, refl, ap, subst, _∙_}
 use mathlib.Core.List.{List, _∷_}
 use Prim.Native.Nat.{ℕ, _+_, _-_, _*_, _≤_, _<_, _^_}
 use native.Mathlib.Omega.{arith}
@@ -10,6 +10,7 @@ use Rattle.language.specs.Outcome.{zeros}
 use Rattle.assembler.specs.Rows.{rows}
 use Rattle.sheet.specs.Stored.{Stored}
 use Rattle.sheet.specs.Comments.{textWords, header, trailing}
+use Rattle.sheet.specs.Rules.{ruleLengths}
 use Rattle.sheet.proofs.Writes.{stored-append, stored-length}
 use Rattle.infer.specs.Page.{Kept}
 use Rattle.infer.specs.States.{Scratch, stateSection, finalSection}
@@ -46,6 +47,12 @@ module _ (text : List ℕ) (count : ℕ) (w first : List ℕ) (r : Ready text co
   pub states-room : 0 + 9 * count + 3 < 2 ^ 64
   states-room = omega (arith, few text count w first r, r .short)
 
+  pub lengths-low : ruleLengths (rows count w) ≤ 262144 * (11 + 7 * count) + 2 * count
+  lengths-low = T.lengths-few text count w first r (ties text count w first r .shown)
+
+  pub section-count : count < 2 ^ 32
+  section-count = omega (arith, few text count w first r, r .short)
+
   tokens-room : 4 * count ≤ length w
   tokens-room = omega (arith, few text count w first r, r .room)
 
@@ -77,6 +84,12 @@ module _ (text : List ℕ) (count : ℕ) (w first : List ℕ) (r : Ready text co
 
       pub section-tokens : 4 * count ≤ length w₂
       section-tokens = omega (arith, tokens-room, long₂)
+
+      pub lengths-are : (m : ℕ) → m ≡ ruleLengths (rows count w₂) → m ≡ ruleLengths (rows count w)
+      lengths-are m e = e ∙ ap ruleLengths row₂
+
+      pub lengths-room : ruleLengths (rows count w₂) < 2 ^ 64
+      lengths-room = omega (arith, lengths-are (ruleLengths (rows count w₂)) refl, lengths-low, few text count w first r, r .short)
 
       -- stage by stage: o₁ holds the states, q is where they end, and so on
       module _ (o o₁ : List ℕ) (q : ℕ) (s₁ : Stored (stateSection (length text + 1) (rows count w) first w) o 0 o₁ q) where

@@ -38,7 +38,7 @@ use Rattle.answer.specs.declared.Answer.the-variants.{Machine, Refused}
 use Rattle.answer.specs.Answer.{readIn}
 use Rattle.reader.specs.Sheet.{endsOf, Written, Ordered, countsAt, spanFrom}
 use Rattle.language.specs.Machine.{Machine as Spec}
-use Rattle.reader.proofs.SectionLaws.{code-count}
+use Rattle.reader.proofs.SectionLaws.{code-count, lengths-low}
 
 -- the same place in a head's type
 pub span-from : (p q : D.Span) → p ≡ q → _≡_ {A = Span} (record { start = p .start; end = p .end }) (spanFrom q)
@@ -82,6 +82,13 @@ module _ (text : List ℕ) (count : ℕ) (w first : List ℕ) (r : Ready text co
   pub head-room : (m n : ℕ) → m ≡ length w → n ≡ m → 4 * count ≤ n
   head-room m n e f = omega (arith, blank-room)
 
+  -- where expanding keeps the entries, and the members
+  pub entries-fit : 4 * (length text + 1) < 2 ^ 64
+  entries-fit = omega (arith, r .short)
+
+  pub members-fit : 5 * (length text + 1) < 2 ^ 64
+  members-fit = omega (arith, r .short)
+
   pub rules-fit : (number : ℕ) → number ≡ length (machineOf (linesOf text) .rules) → number < 2 ^ 32
   rules-fit number e = omega (arith, rules-within ls)
 
@@ -89,18 +96,6 @@ module _ (text : List ℕ) (count : ℕ) (w first : List ℕ) (r : Ready text co
       (m : Written (sectionsOf text b (rows count w) first w) o o₁ e) where
     abbrev s : Sections
     s = sectionsOf text b (rows count w) first w
-
-    pub lengths-tokens : 4 * count ≤ length w₁
-    lengths-tokens = omega (arith, blank-room, long)
-
-    pub lengths-count : count < 2 ^ 32
-    lengths-count = omega (arith, few text count w first r, r .short)
-
-    lengths-low : ruleLengths (rows count w₁) ≤ 262144 * (11 + 7 * count) + 2 * count
-    lengths-low = omega (arith, ap ruleLengths row, T.lengths-few text count w first r (ties text count w first r .shown))
-
-    pub lengths-room : ruleLengths (rows count w₁) < 2 ^ 64
-    lengths-room = omega (arith, lengths-low, few text count w first r, r .short)
 
     -- where the sections end
     joined-length : length (joined s) ≡ length (s .states) + (length (s .sigma) + (length (s .gamma) + (length (s .finals) + (length (s .header) + length (s .trailing)))))
@@ -150,13 +145,13 @@ module _ (text : List ℕ) (count : ℕ) (w first : List ℕ) (r : Ready text co
     same-length : length o₁ ≡ length o
     same-length = sheet-long s o o₁ e m
 
-    module _ (n : ℕ) (n-is : n ≡ ruleLengths (rows count w₁)) where
+    module _ (n : ℕ) (n-is : n ≡ ruleLengths (rows count w)) where
       pub needed-fits : e .trailing + n < 2 ^ 64
-      needed-fits = omega (arith, end-is, joined-low, lengths-low, few text count w first r, r .short)
+      needed-fits = omega (arith, end-is, joined-low, lengths-low text count w first r, few text count w first r, r .short)
 
       needed : e .trailing + n ≡ wordsNeeded (linesOf text)
       needed =
-          omega (arith, end-is, ap ruleLengths row, ap (λ (b : ℕ). length (joined (sectionsOf text b (rows count w) first w))) blank, T.needed-is text count w first r (ties text count w first r))
+          omega (arith, end-is, ap (λ (b : ℕ). length (joined (sectionsOf text b (rows count w) first w))) blank, T.needed-is text count w first r (ties text count w first r))
 
       -- row 6
       pub too-short : length o₁ < e .trailing + n → (o₂ : List ℕ) → o₂ ≡ replicate (length o₁) 0 → (l : ℕ)
@@ -183,10 +178,10 @@ module _ (text : List ℕ) (count : ℕ) (w first : List ℕ) (r : Ready text co
     rules-length = ap (λ (ts : List Token). length (rules b ts)) row ∙ T.rules-words text count w first r (ties text count w first r .shown) b
 
     pub expand-room : e .trailing + length (rules b (rows count w₁)) < 2 ^ 64
-    expand-room = omega (arith, rules-length, ap ruleLengths row, end-is, joined-low, lengths-low, few text count w first r, r .short)
+    expand-room = omega (arith, rules-length, end-is, joined-low, lengths-low text count w first r, few text count w first r, r .short)
 
     -- the whole sheet
-    module _ (zero : o ≡ zeros (length o)) (n : ℕ) (n-is : n ≡ ruleLengths (rows count w₁)) (fits : e .trailing + n ≤ length o₁) (o₂ : List ℕ) (x : ℕ)
+    module _ (zero : o ≡ zeros (length o)) (n : ℕ) (n-is : n ≡ ruleLengths (rows count w)) (fits : e .trailing + n ≤ length o₁) (o₂ : List ℕ) (x : ℕ)
         (stored : Stored (rules b (rows count w₁)) o₁ (e .trailing) o₂ x) where
       abbrev made : Spec Place
       made = machineOf (linesOf text)
@@ -196,7 +191,7 @@ module _ (text : List ℕ) (count : ℕ) (w first : List ℕ) (r : Ready text co
 
       words-needed : length (L.sheetWords (machineOf (linesOf text))) ≡ wordsNeeded (linesOf text)
       words-needed =
-          omega (arith, ap length words-are, length-append (joined s) (rules b (rows count w)), T.rules-words text count w first r (ties text count w first r .shown) b, end-is, needed n n-is, n-is, ap ruleLengths row)
+          omega (arith, ap length words-are, length-append (joined s) (rules b (rows count w)), T.rules-words text count w first r (ties text count w first r .shown) b, end-is, needed n n-is, n-is)
 
       room-is : wordsNeeded (linesOf text) ≤ length o
       room-is = omega (arith, needed n n-is, fits, same-length)

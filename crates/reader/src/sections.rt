@@ -2,6 +2,7 @@
 ghost use mathlib.Core.Path.{_≡_};
 ghost use lib.ListN.{length};
 ghost use Rattle.assembler.specs.Rows.{rows};
+ghost use Rattle.sheet.specs.Rules.{ruleLengths};
 ghost use Rattle.answered.specs.Ready.{Ready};
 ghost use Rattle.answered.specs.Sections.{sectionsOf};
 ghost use Rattle.reader.specs.Sheet.{Written};
@@ -21,6 +22,12 @@ pub struct Ends {
     pub trailing: usize,
 }
 
+// These, and how many words the rules take behind them.
+pub struct Measured {
+    pub ends: Ends,
+    pub rules: usize,
+}
+
 // The sections, stored where there is room and counted in any case.
 pub fn sections(
     text: &[u8],
@@ -29,9 +36,9 @@ pub fn sections(
     first: &[u32; 11],
     blank: u32,
     sheet: &mut [u32],
-) -> Ends
+) -> Measured
     requires { ⌜ Ready (now text) count (now work) (now first) ⌝ }
-    ensures { λ e. ⌜ (rows count (now (work .exit)) ≡ rows count (now (work .entry))) × (length (now (work .exit)) ≡ length (now (work .entry))) × Written (sectionsOf (now (text .entry)) blank (rows count (now (work .entry))) (now (first .entry)) (now (work .entry))) (now (sheet .entry)) (now (sheet .exit)) e ⌝ }
+    ensures { λ r. ⌜ (rows count (now (work .exit)) ≡ rows count (now (work .entry))) × (length (now (work .exit)) ≡ length (now (work .entry))) × Written (sectionsOf (now (text .entry)) blank (rows count (now (work .entry))) (now (first .entry)) (now (work .entry))) (now (sheet .entry)) (now (sheet .exit)) (r .ends) × (r .rules ≡ ruleLengths (rows count (now (work .entry)))) ⌝ }
 {
     let size = text.len() + 1;
     let q = states::section(work, count, size, first, sheet, 0);
@@ -43,12 +50,16 @@ pub fn sections(
     let end = h.end;
     let left = h.left;
     let t = comments::trailing(work, count, left, sheet, end);
-    Ends {
+    let ends = Ends {
         states: q,
         sigma: s,
         gamma: g,
         finals: f,
         header: end,
         trailing: t,
+    };
+    Measured {
+        ends,
+        rules: h.rules,
     }
 }

@@ -17,7 +17,6 @@ use infer::states;
 use machine::Counts;
 use machine::Span;
 use sheet::expand;
-use sheet::lengths;
 
 // How many members the sections have that end there, and n rules.
 fn counts(e: Ends, rules: usize) -> Counts
@@ -59,8 +58,9 @@ pub fn machine(
 {
     let first = a.first;
     let blank = head::blank_at(work, count, first[8]);
-    let e = sections::sections(text, work, count, &first, blank, sheet);
-    let needed = e.trailing + lengths::rule_lengths(work, count);
+    let m = sections::sections(text, work, count, &first, blank, sheet);
+    let e = m.ends;
+    let needed = e.trailing + m.rules;
     if sheet.len() < needed {
         diag::clear(sheet);
         return Answer::Refused(Refusal::SheetTooShort(needed as u64));

@@ -8,6 +8,8 @@ ghost use mathlib.Core.List.{[], _∷_};
 ghost use Rattle.assembler.specs.Entries.{entries};
 ghost use Rattle.sheet.specs.Stored.{Stored};
 ghost use Rattle.sheet.specs.Comments.{textOf, textWords, commentsIn, between, nothing, passed, passedAll, leadFrom, headerOf, header, trailing};
+ghost use Rattle.sheet.specs.Rules.{ruleLengths};
+use crate::lengths;
 use crate::put;
 use assembler::entry;
 use diag::Span;
@@ -136,31 +138,42 @@ fn header_of(work: &[u32], count: usize, p: Pending, t: Token, out: &mut [u32], 
     at
 }
 
-// Where the header comments end, and what is pending behind all lines.
+// Where the header comments end, what is pending behind all lines, and how many words the rules take.
 pub struct Headed {
     pub end: usize,
     pub left: Pending,
+    pub rules: usize,
 }
 
-// The header comments of a row.
+// The header comments of a row, and in the same walk over its lines the number of its rules' words.
 pub fn header(work: &[u32], count: usize, out: &mut [u32], at: usize) -> Headed
-    requires { ⌜ (4 * count ≤ length (now work)) × (at + length (flat textWords (header (rows count (now work)))) < 2 ^ 64) ⌝ }
-    ensures { λ r. ⌜ (Stored (flat textWords (header (rows count (now (work .entry))))) (now (out .entry)) at (now (out .exit)) (r .end)) × (r .left ≡ passedAll nothing (entries (rows count (now (work .entry))))) ⌝ }
+    requires { ⌜ (4 * count ≤ length (now work)) × (count < 2 ^ 32) × (at + length (flat textWords (header (rows count (now work)))) < 2 ^ 64) × (ruleLengths (rows count (now work)) < 2 ^ 64) ⌝ }
+    ensures { λ r. ⌜ (Stored (flat textWords (header (rows count (now (work .entry))))) (now (out .entry)) at (now (out .exit)) (r .end)) × (r .left ≡ passedAll nothing (entries (rows count (now (work .entry))))) × (r .rules ≡ ruleLengths (rows count (now (work .entry)))) ⌝ }
 {
     let mut p = NOTHING;
     let mut n = at;
+    let mut m = 0;
     let mut i = 0;
     while i < count {
         let t = entry::token_at(work, count, i);
         n = header_of(work, count, p, t, out, n);
+        m += lengths::line_length(work, count, p, i, t);
         p = passed(p, t, i);
         i = entry::next_line(t, i);
     }
     if p.seen {
-        return Headed { end: n, left: p };
+        return Headed {
+            end: n,
+            left: p,
+            rules: m,
+        };
     }
     let end = comments(work, count, p.from, count, out, n);
-    Headed { end, left: p }
+    Headed {
+        end,
+        left: p,
+        rules: m,
+    }
 }
 
 // The trailing comments of a row behind whose lines p is pending.

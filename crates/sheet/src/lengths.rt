@@ -1,9 +1,9 @@
-// How many words the rules take, without expanding them.
+// How many words the rules of a line take, without expanding them.
 ghost use mathlib.Core.Path.{_≡_};
 ghost use Prim.Native.Nat.{_+_, _*_, _≤_, _<_, _^_};
 ghost use lib.ListN.{length};
 ghost use Rattle.assembler.specs.Rows.{rows};
-ghost use Rattle.sheet.specs.Rules.{lineLength, ruleLengths};
+ghost use Rattle.sheet.specs.Rules.{lineLength};
 use crate::comments;
 use crate::comments::Pending;
 use assembler::entry;
@@ -11,7 +11,7 @@ use assembler::rules;
 use tokens::Token;
 
 // Those of the line that begins with the token t at an index, if it is a rule's.
-fn line_length(work: &[u32], count: usize, p: Pending, line: usize, t: Token) -> usize
+pub(crate) fn line_length(work: &[u32], count: usize, p: Pending, line: usize, t: Token) -> usize
     requires { ⌜ (4 * count ≤ length (now work)) × (count < 2 ^ 32) × (line < count) ⌝ }
     ensures { λ r. ⌜ r ≡ lineLength (rows count (now (work .entry))) p line t ⌝ }
 {
@@ -23,21 +23,4 @@ fn line_length(work: &[u32], count: usize, p: Pending, line: usize, t: Token) ->
     let n = rules::combinations(work, count, line + 4, to);
     let k = comments::count_between(work, count, comments::lead_from(p), line);
     n * (11 + 7 * entry::wide(q.start)) + 2 * k
-}
-
-// Those of a row.
-pub fn rule_lengths(work: &[u32], count: usize) -> usize
-    requires { ⌜ (4 * count ≤ length (now work)) × (count < 2 ^ 32) × (ruleLengths (rows count (now work)) < 2 ^ 64) ⌝ }
-    ensures { λ r. ⌜ r ≡ ruleLengths (rows count (now (work .entry))) ⌝ }
-{
-    let mut p = comments::NOTHING;
-    let mut n = 0;
-    let mut i = 0;
-    while i < count {
-        let t = entry::token_at(work, count, i);
-        n += line_length(work, count, p, i, t);
-        p = comments::passed(p, t, i);
-        i = entry::next_line(t, i);
-    }
-    n
 }

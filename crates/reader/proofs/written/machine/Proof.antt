@@ -1,6 +1,6 @@
 -- `reader::written::machine` meets its contract: the sections and the rules behind them are the machine's sheet, or need more words than it has.
 use Rattle.sheet.proofs.Writes.{stored-length}
-use Rattle.reader.proofs.SheetLaws.{blank-room, head-room, sheet-long, rules-fit, lengths-tokens, lengths-count, lengths-room, needed-fits, too-short, expand-tokens, expand-entries, expand-members, expand-small, expand-room, ordered, whole}
+use Rattle.reader.proofs.SheetLaws.{blank-room, head-room, sheet-long, rules-fit, needed-fits, too-short, entries-fit, members-fit, expand-tokens, expand-entries, expand-members, expand-small, expand-room, ordered, whole}
 use mathlib.Core.Path.{_∙_}
 use borrow.Author.Needs.{needs}
 use Rattle.reader.proofs.written.machine.Statement.{statement}
@@ -13,19 +13,18 @@ machine-spec =
     (λ c. search needs)
     (λ c κs. blank-room _ _ _ _ (c .before .before .before .before .before .pre .0))
     (λ c κs. search needs)
-    (λ c κs. let s = c .before .before .before .before .before in let b = s .before .before .before .before in let z = b .before .before .before .before .before .before in (lengths-tokens _ _ _ _ (z .pre .0) _ (b .blank-at .ensures) _ _ _ _ (s .sections .ensures .0) (s .sections .ensures .1) (s .sections .ensures .2), lengths-count _ _ _ _ (z .pre .0) _ (b .blank-at .ensures) _ _ _ _ (s .sections .ensures .0) (s .sections .ensures .1) (s .sections .ensures .2), lengths-room _ _ _ _ (z .pre .0) _ (b .blank-at .ensures) _ _ _ _ (s .sections .ensures .0) (s .sections .ensures .1) (s .sections .ensures .2)))
-    (λ c. let n = c .before in let s = n .before .before .before .before .before .before in let b = s .before .before .before .before in let z = b .before .before .before .before .before .before in record { fits = needed-fits _ _ _ _ (z .pre .0) _ (b .blank-at .ensures) _ _ _ _ (s .sections .ensures .0) (s .sections .ensures .1) (s .sections .ensures .2) _ (n .rule-lengths .ensures) })
+    (λ c. let s = c .before .before .before .before .before .before .before in let b = s .before .before .before .before in let z = b .before .before .before .before .before .before in record { fits = needed-fits _ _ _ _ (z .pre .0) _ (b .blank-at .ensures) _ _ _ _ (s .sections .ensures .0) (s .sections .ensures .1) (s .sections .ensures .2) _ (s .sections .ensures .3) })
     (λ c κs. search needs)
     (λ c. search needs)
     (λ c. search needs)
-    (λ c. let k = c .before .before in let n = k .before .before .before .before in let s = n .before .before .before .before .before .before in let b = s .before .before .before .before in let z = b .before .before .before .before .before .before in λ l. too-short _ _ _ _ (z .pre .0) _ (b .blank-at .ensures) _ _ _ _ (s .sections .ensures .0) (s .sections .ensures .1) (s .sections .ensures .2) _ (n .rule-lengths .ensures) (search needs) _ (k .clear .ensures) l)
+    (λ c. let k = c .before .before in let s = k .before .before .before .before .before .before .before .before .before .before in let b = s .before .before .before .before in let z = b .before .before .before .before .before .before in λ l. too-short _ _ _ _ (z .pre .0) _ (b .blank-at .ensures) _ _ _ _ (s .sections .ensures .0) (s .sections .ensures .1) (s .sections .ensures .2) _ (s .sections .ensures .3) (search needs) _ (k .clear .ensures) l)
     (λ c. search needs)
-    (λ c. search needs)
-    (λ c. search needs)
+    (λ c. record { fits = entries-fit _ _ _ _ (c .before .before .before .before .before .before .before .before .before .before .before .before .before .before .before .before .before .before .before .pre .0) })
+    (λ c. record { fits = members-fit _ _ _ _ (c .before .before .before .before .before .before .before .before .before .before .before .before .before .before .before .before .before .before .before .pre .0) })
     (λ c κs. let s = c .before .before .before .before .before .before .before .before .before .before in let b = s .before .before .before .before in let z = b .before .before .before .before .before .before in (expand-tokens _ _ _ _ (z .pre .0) _ (b .blank-at .ensures) _ _ _ _ (s .sections .ensures .0) (s .sections .ensures .1) (s .sections .ensures .2), expand-entries _ _ _ _ (z .pre .0) _ (b .blank-at .ensures) _ _ _ _ (s .sections .ensures .0) (s .sections .ensures .1) (s .sections .ensures .2), expand-members _ _ _ _ (z .pre .0) _ (b .blank-at .ensures) _ _ _ _ (s .sections .ensures .0) (s .sections .ensures .1) (s .sections .ensures .2), expand-small _ _ _ _ (z .pre .0) _ (b .blank-at .ensures) _ _ _ _ (s .sections .ensures .0) (s .sections .ensures .1) (s .sections .ensures .2), expand-room _ _ _ _ (z .pre .0) _ (b .blank-at .ensures) _ _ _ _ (s .sections .ensures .0) (s .sections .ensures .1) (s .sections .ensures .2)))
     (λ c κs. search needs)
     (λ c κs. let s = c .before .before .before .before .before .before .before .before .before .before .before .before .before .before .before .before .before .before .before in let b = s .before .before .before .before in let z = b .before .before .before .before .before .before in (ordered _ _ _ _ (z .pre .0) _ (b .blank-at .ensures) _ _ _ _ (s .sections .ensures .0) (s .sections .ensures .1) (s .sections .ensures .2), rules-fit _ _ _ _ (z .pre .0) _ (z .pre .1)))
     (λ c κs. let r = c .before .before .before .before .before .before .before .before .before in let s = r .before .before .before .before .before .before .before .before .before .before .before in let z = s .before .before .before .before .before .before .before .before .before .before in head-room _ _ _ _ (z .pre .0) _ _ (s .sections .ensures .1) (r .rules .kept .0))
     (λ c. let r = c .before .before .before .before .before .before .before .before .before .before in let s = r .before .before .before .before .before .before .before .before .before .before .before in r .rules .kept .0 ∙ s .sections .ensures .1)
     (λ c. let r = c .before .before .before .before .before .before .before .before .before .before in let s = r .before .before .before .before .before .before .before .before .before .before .before in stored-length _ _ _ _ _ (r .rules .ensures .1) ∙ sheet-long _ _ _ _ (s .sections .ensures .2))
-    (λ c. let m = c .before in let f = m .before .before .before in let r = f .before .before .before .before .before .before in let i = r .before .before .before in let n = i .before .before in let s = n .before .before .before .before .before .before in let b = s .before .before .before .before in let z = b .before .before .before .before .before .before in λ l. whole _ _ _ _ (z .pre .0) _ (b .blank-at .ensures) _ _ _ _ (s .sections .ensures .0) (s .sections .ensures .1) (s .sections .ensures .2) (z .pre .2) _ (n .rule-lengths .ensures) (i .if1 .left) _ _ (r .rules .ensures .1) _ (z .pre .1) _ (r .rules .ensures .0) _ _ _ (f .first-state .ensures) (m .counts .ensures) (c .head .ensures) l))
+    (λ c. let m = c .before in let f = m .before .before .before in let r = f .before .before .before .before .before .before in let i = r .before .before .before in let s = i .before .before .before .before .before .before .before .before in let b = s .before .before .before .before in let z = b .before .before .before .before .before .before in λ l. whole _ _ _ _ (z .pre .0) _ (b .blank-at .ensures) _ _ _ _ (s .sections .ensures .0) (s .sections .ensures .1) (s .sections .ensures .2) (z .pre .2) _ (s .sections .ensures .3) (i .if1 .left) _ _ (r .rules .ensures .1) _ (z .pre .1) _ (r .rules .ensures .0) _ _ _ (f .first-state .ensures) (m .counts .ensures) (c .head .ensures) l))
