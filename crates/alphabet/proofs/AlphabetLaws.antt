@@ -1,12 +1,13 @@
 -- Laws of the blank, Σ and Γ.
 use mathlib.Core.Path.{_≡_, refl, sym, ap, subst, _∙_}
 use mathlib.Core.Bool.{Bool, true, false, cond, _||_}
+use mathlib.Core.Logic.{_⊎_, inl, inr, ⊎-elim}
 use mathlib.Core.List.{List, [], _∷_, _++_, append-nil}
 use Prim.Native.Nat.{ℕ, zero, suc, _+_, _-_, _*_, _≤_, _<_, _^_}
 use native.Mathlib.Omega.{arith}
 use native.Mathlib.Numerals.{add-one}
 use native.Mathlib.Decide.{decLt}
-use borrow.Author.Tests.{eq-eqb, ne-eqb, lt-ltb, le-ltb}
+use borrow.Author.Tests.{eq-eqb, ne-eqb, eqb-true, lt-ltb, le-ltb}
 use lib.Dec.{eqb, ltb}
 use lib.ListN.{length, getD, take, drop, length-append, drop-of-length-le, length-drop, length-take, List·getD-eq-default}
 use lib.Seq.{sets, drop-cons, drop-drop, take-nil}
@@ -25,7 +26,7 @@ use Rattle.sheet.specs.Comments.{spanWords}
 use Rattle.sheet.specs.Rules.{resolve}
 use Rattle.sheet.proofs.Writes.{stored-none, stored-as, stored-append, Writing, writing-start, writing-on, written}
 use Rattle.alphabet.specs.Codes.{noted, notedAll, held, Codes, Room}
-use Rattle.alphabet.specs.Symbols.{range, symbols, symbolsIn, isBlank, hasBlank, lineRange, rulesSymbols, codesOf}
+use Rattle.alphabet.specs.Symbols.{range, pastComma, symbols, symbolsIn, isBlank, hasBlank, lineRange, rulesSymbols, codesOf}
 use Rattle.alphabet.specs.Alphabets.{listedWords, inferredWords, otherWords, lineCodes, candidates, gammaCodes, declaredGamma, gammaWords, inferredSigma, sigmaWords}
 use Rattle.alphabet.specs.Input.{inputOf}
 use Rattle.alphabet.proofs.CodeLaws.{held-length, held-at, Noting, noting-start, noting-room, noting-on, noting-end, noting-rows}
@@ -79,6 +80,40 @@ one-width f t h = go (isSymbol t)
     go true = omega (arith, length-append (f t) [])
     go false = omega arith
 
+-- ---- commas
+comma-no : (t : Token) → t .kind ≡ 8 → isSymbol t ≡ false
+unfolding isSymbol
+comma-no t e = rw e
+
+symbols-past : (ts : List Token) (i to : ℕ) → peek ts i .kind ≡ 8 → symbols (range ts i to) ≡ symbols (range ts (i + 1) to)
+symbols-past ts i to e = go (decLt i to)
+  where
+    go : Dec (i < to) → symbols (range ts i to) ≡ symbols (range ts (i + 1) to)
+    go (yes h) = symbols-on ts i to h ∙ ap (λ (l : List Token). l ++ symbols (range ts (i + 1) to)) (no-symbol (peek ts i) false (sym (comma-no (peek ts i) e)) refl)
+    go (no h) = ap symbols (range-none ts i to (omega arith) ∙ sym (range-none ts (i + 1) to (omega arith)))
+
+module _ (ts : List Token) (i : ℕ) (t : Token) (e : t ≡ peek ts i) where
+  pub past-one : t .kind ≡ 8 → i + 1 ≡ pastComma ts i
+  unfolding pastComma
+  past-one q = rw (← e, eq-eqb (t .kind) 8 q)
+
+  pub past-none : (t .kind ≡ 8 → ⊥) → i ≡ pastComma ts i
+  unfolding pastComma
+  past-none q = rw (← e, ne-eqb (t .kind) 8 q)
+
+module _ (ts : List Token) (i r : ℕ) (e : r ≡ pastComma ts i) where
+  past-cases : (r ≡ i) ⊎ (r ≡ i + 1)
+  unfolding pastComma
+  past-cases = go (eqb (peek ts i .kind) 8) refl
+    where
+      go : (b : Bool) → eqb (peek ts i .kind) 8 ≡ b → (r ≡ i) ⊎ (r ≡ i + 1)
+      go true q = inr (e ∙ rw q)
+      go false q = inl (e ∙ rw q)
+
+  -- the loops over a list that a comma parts: what is left falls
+  pub past-falls : (to j : ℕ) → i ≡ j + 1 → j < to → to - r < to - j
+  past-falls to j g h = ⊎-elim (λ (p : r ≡ i). omega arith) (λ (p : r ≡ i + 1). omega arith) past-cases
+
 -- ---- the words f of the symbols of a range: the walk has come to the index i
 pub record Putting (f : Token → List ℕ) (ts : List Token) (from to : ℕ) (o₀ : List ℕ) (n₀ : ℕ) (o : List ℕ) (n i : ℕ) : Type 0 where
   pub writing : let ws = flat f (symbols (range ts from to)) in Writing (sets o₀ n₀ ws) (n₀ + length ws) o n (flat f (symbols (range ts i to)))
@@ -97,6 +132,22 @@ module _ (f : Token → List ℕ) (ts : List Token) (from to : ℕ) (o₀ : List
         writing = writing-on (sets o₀ n₀ ws) (n₀ + length ws) o n (flat f (symbols (range ts i to))) (p .writing) (flat f (symbols (t ∷ []))) (flat f (symbols (range ts (i + 1) to))) o′ n′ split s;
         near = omega (arith, p .near, s .behind, one-width f t narrow);
       }
+
+  -- a comma is no symbol
+  pub putting-past : (r : ℕ) → r ≡ pastComma ts i → Putting f ts from to o₀ n₀ o n r
+  unfolding pastComma
+  putting-past r e = go (eqb (peek ts i .kind) 8) refl
+    where
+      go : (b : Bool) → eqb (peek ts i .kind) 8 ≡ b → Putting f ts from to o₀ n₀ o n r
+      go true q =
+          let g : i + 1 ≡ r = sym (e ∙ rw q) in
+          let ws : List ℕ = flat f (symbols (range ts from to)) in
+          subst (λ (j : ℕ). Putting f ts from to o₀ n₀ o n j) g
+          (record {
+            writing = subst (λ (l : List Token). Writing (sets o₀ n₀ ws) (n₀ + length ws) o n (flat f l)) (symbols-past ts i to (eqb-true (peek ts i .kind) 8 q)) (p .writing);
+            near = omega (arith, p .near);
+          })
+      go false q = subst (λ (j : ℕ). Putting f ts from to o₀ n₀ o n j) (sym (e ∙ rw q)) p
 
   pub putting-end : to ≤ i → Stored (flat f (symbols (range ts from to))) o₀ n₀ o n
   unfolding flat symbols

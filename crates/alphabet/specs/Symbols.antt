@@ -15,6 +15,10 @@ use Rattle.alphabet.specs.declared.glyphs.Walk.{Walk}
 abbrev pub range : List Token → ℕ → ℕ → List Token
 range ts i j = take (j - i) (drop i ts)
 
+-- the index behind a comma at the index i; i itself where none stands there
+unfoldable pub pastComma : List Token → ℕ → ℕ
+pastComma ts i = cond (eqb (peek ts i .kind) 8) (i + 1) i
+
 -- the blank: U+2423 unless declared, by the line at d; `blank = _` gives U+2423
 unfoldable pub blankOf : List Token → ℕ → ℕ
 unfolding resolve

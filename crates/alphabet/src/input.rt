@@ -89,7 +89,7 @@ fn note_string(text: &[u8], at: usize, work: &mut [u32], base: usize, n: usize) 
     let mut escaped = false;
     let mut m = n;
     loop {
-        let s = chars::char_at(text, i);
+        let s = chars::glyph_at(text, i);
         match s {
             Decoded::Char(c, next) => {
                 if ends_at(escaped, c) {

@@ -8,14 +8,16 @@ ghost use lib.ListN.{length};
 ghost use Rattle.language.specs.Layout.{flat};
 ghost use Rattle.assembler.specs.Rows.{rows};
 ghost use Rattle.sheet.specs.Stored.{Stored};
+ghost use Rattle.sheet.specs.Comments.{spanWords};
 ghost use Rattle.alphabet.specs.Codes.{notedAll, held, Codes, Room};
-ghost use Rattle.alphabet.specs.Symbols.{range, symbols, symbolsIn, isBlank, hasBlank, codesOf};
+ghost use Rattle.alphabet.specs.Symbols.{range, pastComma, symbols, symbolsIn, isBlank, hasBlank, codesOf};
 ghost use Rattle.alphabet.specs.Alphabets.{listedWords, inferredWords, otherWords, lineCodes, candidates, gammaCodes, declaredGamma, gammaWords, inferredSigma, sigmaWords};
 use crate::codes;
 use crate::glyphs;
 use crate::input;
 use assembler::entry;
 use diag::Span;
+use lexer::kind;
 use parser::view;
 use sheet::put;
 use sheet::rules;
@@ -31,13 +33,36 @@ const TAPE_ALPHABET: usize = 7;
 // The place of an inferred symbol.
 const NOWHERE: Span = Span { start: 0, end: 0 };
 
+// A character and its place in the sheet: one test where there is room for all three words.
+fn put_code(out: &mut [u32], at: usize, x: u32, p: Span) -> usize
+    requires { ⌜ at + 3 < 2 ^ 64 ⌝ }
+    ensures { λ r. ⌜ Stored (x ∷ spanWords p) (now (out .entry)) at (now (out .exit)) r ⌝ }
+{
+    if at + 3 <= out.len() {
+        return put::symbol_in(out, at, x, p);
+    }
+    put::symbol(out, at, x, p)
+}
+
+// The index behind a comma at an index; that index itself where none stands there.
+fn past_comma(work: &[u32], count: usize, i: usize) -> usize
+    requires { ⌜ (4 * count ≤ length (now work)) × (i + 1 < 2 ^ 64) ⌝ }
+    ensures { λ r. ⌜ r ≡ pastComma (rows count (now (work .entry))) i ⌝ }
+{
+    let t = entry::token_at(work, count, i);
+    if t.kind == kind::COMMA {
+        return i + 1;
+    }
+    i
+}
+
 // A token in the sheet, if it is a symbol.
 fn put_symbol(t: Token, blank: u32, out: &mut [u32], at: usize) -> usize
     requires { ⌜ at + 3 < 2 ^ 64 ⌝ }
     ensures { λ r. ⌜ Stored (flat (listedWords blank) (symbols (t ∷ []))) (now (out .entry)) at (now (out .exit)) r ⌝ }
 {
     if view::is_symbol(t) {
-        return put::symbol(out, at, rules::resolve(blank, t), entry::place_of(t));
+        return put_code(out, at, rules::resolve(blank, t), entry::place_of(t));
     }
     at
 }
@@ -59,7 +84,7 @@ fn put_range(
     let mut i = from;
     while i < to {
         n = put_symbol(entry::token_at(work, count, i), blank, out, n);
-        i += 1;
+        i = past_comma(work, count, i + 1);
     }
     n
 }
@@ -88,7 +113,7 @@ fn put_other(t: Token, blank: u32, out: &mut [u32], at: usize) -> usize
         if c == blank {
             return at;
         }
-        return put::symbol(out, at, c, NOWHERE);
+        return put_code(out, at, c, NOWHERE);
     }
     at
 }
@@ -110,7 +135,7 @@ fn put_others(
     let mut i = from;
     while i < to {
         n = put_other(entry::token_at(work, count, i), blank, out, n);
-        i += 1;
+        i = past_comma(work, count, i + 1);
     }
     n
 }
