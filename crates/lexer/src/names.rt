@@ -4,7 +4,6 @@ ghost use lib.ListN.{drop};
 ghost use Rattle.lexer.specs.Text.{same};
 ghost use Rattle.lexer.specs.Words.{position, keywordBytes, keywordsOf, numberIn};
 ghost use Rattle.lexer.specs.Places.{part};
-use crate::Span;
 
 // The part of the text between two offsets; empty where they do not lie inside it.
 pub fn part_of(text: &[u8], start: usize, end: usize) -> &[u8]
@@ -34,15 +33,6 @@ pub fn same_part(a: &[u8], b: &[u8]) -> bool
         i += 1;
     }
     true
-}
-
-// Whether the names at two places are equal.
-pub fn same_name(text: &[u8], a: Span, b: Span) -> bool
-    ensures { λ r. ⌜ r ≡ same (part (now (text .entry)) (a .start) (a .end)) (part (now (text .entry)) (b .start) (b .end)) ⌝ }
-{
-    let x = part_of(text, a.start as usize, a.end as usize);
-    let y = part_of(text, b.start as usize, b.end as usize);
-    same_part(x, y)
 }
 
 // A word's number among the keywords of one byte, or 0.
