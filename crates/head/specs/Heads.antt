@@ -1,7 +1,7 @@
 -- The head from the first declarations, over the tokens of a row with entries. `first` has for each name the index of the line that declares it,
 -- which is no index of a token where none does: machine 0, kind 1, input 2, output 3, tapes 4, Q 5, Σ 6, Γ 7, blank 8, start 9.
 use Prim.Native.Nat.{ℕ, _+_, _-_, _%_, _^_}
-use mathlib.Core.Bool.{Bool, cond}
+use mathlib.Core.Bool.{cond}
 use mathlib.Core.List.{List}
 use lib.Dec.{eqb, leb, ltb}
 use lib.ListN.{length, getD}

@@ -8,7 +8,6 @@ use native.Mathlib.Omega.{arith}
 use native.Mathlib.Nat.{min-eq-left}
 use lib.ListN.{length, length-map}
 use Rattle.lexer.specs.Text.{codes, same}
-use Rattle.lexer.specs.Tokens as T
 use Rattle.lexer.specs.Tokens.{TokenKind, word, quoted, sign, newline, Token}
 use Rattle.lexer.specs.Words.{value}
 use Rattle.language.specs.Machine.{Located, Kind, acceptor, transducer, enumerator, beaver, lsb, msb, Decoder, asWord, asUnary, asBinary, Dir, left, right, stay}

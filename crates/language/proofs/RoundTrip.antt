@@ -11,7 +11,6 @@ use lib.Dec.{ltb, leb}
 use lib.ListN.{length}
 use Rattle.chars.specs.Ranges.{within}
 use Rattle.chars.specs.Utf8.{scalars, size, decode, encode, validUpTo}
-use Rattle.chars.specs.Class as Class
 use Rattle.chars.specs.Class.{outsideFrom, firstOutside}
 use Rattle.chars.specs.declared.Outside.{Outside}
 use Rattle.chars.specs.declared.Outside.the-variants.{At, Nowhere}

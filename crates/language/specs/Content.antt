@@ -1,9 +1,9 @@
 -- What two machines that agree have in common (paper 01, "Plain form"): everything but places.
 use Prim.Native.Nat.{ℕ}
 use mathlib.Core.Bool.{Bool}
-use mathlib.Core.List.{List, [], _∷_, map}
+use mathlib.Core.List.{List, [], map}
 use mathlib.Core.Option.{Option, none, some}
-use Rattle.language.specs.Machine.{Located, Kind, Decoder, Dir, State, Action, Rule, Symbol, Declared, Machine}
+use Rattle.language.specs.Machine.{Located, Kind, Decoder, Dir, Rule, Declared, Machine}
 
 -- a state's name, and whether it is final
 pub record StateContent : Type 0 where

@@ -10,7 +10,6 @@ use Rattle.machine.specs.declared.BitOrder.the-variants.{Lsb, Msb}
 use Rattle.machine.specs.declared.Decoder.{Decoder}
 use Rattle.machine.specs.declared.Decoder.the-variants.{Word, Unary, Binary}
 use Rattle.machine.specs.declared.Declared.{Declared}
-use Rattle.machine.specs.declared.SourceMap.{SourceMap}
 use Rattle.machine.specs.declared.Counts.{Counts}
 use Rattle.machine.specs.declared.Head.{Head}
 
