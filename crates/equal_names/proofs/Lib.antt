@@ -1,2 +1,3 @@
 pub mod NameLaws
 pub mod IndexLaws
+pub mod OrderLaws

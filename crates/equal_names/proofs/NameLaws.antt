@@ -118,11 +118,11 @@ pub record Found (text : List ℕ) (t : Token) (i : ℕ) (us : List Token) (k : 
   pub low : at ≤ k
   pub equal : sameWord text t (peek us at) ≡ true
 
-first-yes : (text : List ℕ) (t : Token) (i : ℕ) (u : Token) (us : List Token) → sameWord text t u ≡ true → firstEqual text t i (u ∷ us) ≡ i
+pub first-yes : (text : List ℕ) (t : Token) (i : ℕ) (u : Token) (us : List Token) → sameWord text t u ≡ true → firstEqual text t i (u ∷ us) ≡ i
 unfolding firstEqual
 first-yes text t i u us e = ap (λ (b : Bool). elim b [ true ↦ i | false ↦ firstEqual text t (suc i) us ]) e
 
-first-no : (text : List ℕ) (t : Token) (i : ℕ) (u : Token) (us : List Token) → sameWord text t u ≡ false → firstEqual text t i (u ∷ us) ≡ firstEqual text t (suc i) us
+pub first-no : (text : List ℕ) (t : Token) (i : ℕ) (u : Token) (us : List Token) → sameWord text t u ≡ false → firstEqual text t i (u ∷ us) ≡ firstEqual text t (suc i) us
 unfolding firstEqual
 first-no text t i u us e = ap (λ (b : Bool). elim b [ true ↦ i | false ↦ firstEqual text t (suc i) us ]) e
 

@@ -1,3 +1,4 @@
 pub mod Rows
 pub mod Names
 pub mod Index
+pub mod Order

@@ -8,6 +8,9 @@ ghost use Rattle.equal_names.specs.Rows.{rows, Kept};
 ghost use Rattle.equal_names.specs.Names.{isWord, sameWord, firstEqual, Interned};
 ghost use Rattle.lexer.specs.Places.{part};
 ghost use Rattle.equal_names.specs.Index.{step, fourAt, restOf, hashFrom, letterOf, slotOf, stops, filled, Probed, Room, Indexed, Tried};
+
+mod order;
+
 use lexer::Span;
 use lexer::kind;
 use lexer::names;
@@ -393,6 +396,17 @@ fn by_table(
     index(text, work, count, a, b, letters, span, window)
 }
 
+// The row of first equal words without a table: by sorting them, or by a search of each where there are fewer free words than tokens, as no caller has it.
+fn without_table(text: &[u8], work: &mut [u32], count: usize, a: usize, b: usize, size: usize)
+    requires { ⌜ (4 * count ≤ a) × (a + count ≤ b) × (b + size ≤ length (now work)) × (count < 2 ^ 31) ⌝ }
+    ensures { λ _. ⌜ Kept a (now (work .entry)) (now (work .exit)) × Interned (now (text .entry)) (rows count (now (work .entry))) a (now (work .exit)) ⌝ }
+{
+    if size < count {
+        return search(text, work, count, a);
+    }
+    order::by_order(text, work, count, a, b);
+}
+
 // The row of first equal words, from the word a on; `size` words from b on are free. Few names find room in a small table, which is soon emptied;
 // others in one that has four slots for each token, where there are so many words.
 pub fn intern(text: &[u8], work: &mut [u32], count: usize, a: usize, b: usize, size: usize)
@@ -400,7 +414,7 @@ pub fn intern(text: &[u8], work: &mut [u32], count: usize, a: usize, b: usize, s
     ensures { λ _. ⌜ Kept a (now (work .entry)) (now (work .exit)) × Interned (now (text .entry)) (rows count (now (work .entry))) a (now (work .exit)) ⌝ }
 {
     if size < LEAST {
-        return search(text, work, count, a);
+        return without_table(text, work, count, a, b, size);
     }
     if by_table(text, work, count, a, b, size, SMALL, SMALL_WINDOW) {
         return;
@@ -408,5 +422,5 @@ pub fn intern(text: &[u8], work: &mut [u32], count: usize, a: usize, b: usize, s
     if by_table(text, work, count, a, b, size, 4 * count + SMALL, WINDOW) {
         return;
     }
-    search(text, work, count, a);
+    without_table(text, work, count, a, b, size);
 }
