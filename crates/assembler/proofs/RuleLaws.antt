@@ -24,10 +24,9 @@ use Rattle.parser.specs.Row.{peek, ended}
 use Rattle.parser.specs.Views.{isSymbol}
 use Rattle.assembler.specs.Rows.{rows, placeOf}
 use Rattle.assembler.specs.Entries.{Entry, entryAt, behind, entries}
-use Rattle.assembler.specs.Feeds.{Fed}
-use Rattle.parser.specs.Lines.{lineLength}
+use Rattle.assembler.specs.Feeds.{Fed, onwards}
 use Rattle.assembler.specs.Rules.{counted, combinationsFrom, combinations, sameArity, readPart, verdict, after, ruleError, ruleErrors, noRules}
-use Rattle.assembler.proofs.Rows.{length-rows, fed-next}
+use Rattle.assembler.proofs.Rows.{length-rows, fed-next, fed-onwards}
 use Rattle.assembler.proofs.Passes.{at-most-one, Passing, passing-start, passing-step, passing-end}
 
 -- ---- one token of the read sets
@@ -276,14 +275,14 @@ module _ (count : ℕ) (work : List ℕ) (target : Log) (from : ℕ) (w₀ : Lis
     (p : Tallying count work target from w₀ s w n i) (room : 4 * count ≤ length work) where
   pub tallying-on : (s′ : Tally) (w′ : List ℕ) (n′ j : ℕ) (t : Token) (v : Verdict) (q : Span) → i < count → t ≡ peek (rows count work) i
       → v ≡ verdict (s .rules) (entryAt (rows count work) i) → q ≡ placeOf t → logged w′ n′ ≡ appendAll (logged w n) (ruleError v (s .cut) q) → s′ ≡ after s v
-      → j ≡ i + 1 + lineLength (drop i (rows count work)) → Tallying count work target from w₀ s′ w′ n′ j
+      → j ≡ onwards i t (drop i (rows count work)) → Tallying count work target from w₀ s′ w′ n′ j
   unfolding ruleErrors
   tallying-on s′ w′ n′ j t v q h et ev eq ew es ej =
       let ts : List Token = rows count work in
       let many : length ts ≡ count = length-rows count work room in
       let here : i < length ts = omega arith in
       let e : Entry = entryAt ts i in
-      let next : i + 1 + behind i (peek ts i) ≡ j = fed-next ts i (p .passing .fed) here j ej in
+      let next : i + 1 + behind i (peek ts i) ≡ j = fed-next ts i (p .passing .fed) here j (fed-onwards ts i (p .passing .fed) here t j et ej) in
       let v′ : Verdict = verdict (s .rules) e in
       let ds : List Diagnostic = ruleError v′ (s .cut) (placeOf (peek ts i)) in
       let eq′ : q ≡ placeOf (peek ts i) = eq ∙ ap placeOf et in

@@ -6,6 +6,7 @@ ghost use Rattle.parser.specs.Row.{peek};
 ghost use Rattle.parser.specs.Lines.{lineLength};
 ghost use Rattle.assembler.specs.Rows.{rows, placeOf};
 ghost use Rattle.assembler.specs.Entries.{behind};
+ghost use Rattle.assembler.specs.Feeds.{onwards};
 use diag::Span;
 use lexer::kind;
 use tokens::Token;
@@ -14,6 +15,9 @@ use tokens::Token;
 pub const ITEM: u32 = 16;
 // The kind of a failed line's entry: this and its code.
 pub const FAILED: u32 = 32;
+
+// A line of so many tokens is long.
+const LONG: usize = 64;
 
 // A word as an index.
 pub fn wide(x: u32) -> usize
@@ -81,4 +85,16 @@ pub fn behind_feed(work: &[u32], count: usize, at: usize) -> usize
         i += 1;
     }
     i + 1
+}
+
+// The index behind the line that begins with the token t at an index: of a long line as t has it, so that it is not gone over once more.
+pub fn behind_line(work: &[u32], count: usize, at: usize, t: Token) -> usize
+    requires { ⌜ (4 * count ≤ length (now work)) × (count < 2 ^ 32) × (at < count) ⌝ }
+    ensures { λ r. ⌜ r ≡ onwards at t (drop at (rows count (now (work .entry)))) ⌝ }
+{
+    let next = next_line(t, at);
+    if at + LONG <= next {
+        return next;
+    }
+    behind_feed(work, count, at)
 }

@@ -187,7 +187,7 @@ pub fn rules(work: &[u32], count: usize, log: &mut [u32], errors: usize) -> usiz
         let v = verdict_at(work, count, at, s.rules);
         n = rule_error(v, s.cut, entry::place_of(t), log, n);
         s = after(s, v);
-        at = entry::behind_feed(work, count, at);
+        at = entry::behind_line(work, count, at, t);
     }
     n
 }

@@ -73,7 +73,7 @@ pub fn survey(work: &[u32], count: usize, first: &mut [u32; 11]) -> Counts
         let v = rules::verdict_at(work, count, at, s.rules);
         wrong = ruled(v, s.cut, entry::place_of(t), wrong);
         s = rules::after(s, v);
-        at = entry::behind_feed(work, count, at);
+        at = entry::behind_line(work, count, at, t);
     }
     Counts {
         rules: s.rules,

@@ -408,7 +408,7 @@ fn without_table(text: &[u8], work: &mut [u32], count: usize, a: usize, b: usize
 }
 
 // The row of first equal words, from the word a on; `size` words from b on are free. Few names find room in a small table, which is soon emptied;
-// others in one that has four slots for each token, where there are so many words.
+// others in one that has two slots for each token, where there are so many words.
 pub fn intern(text: &[u8], work: &mut [u32], count: usize, a: usize, b: usize, size: usize)
     requires { ⌜ (4 * count ≤ a) × (a + count ≤ b) × (b + size ≤ length (now work)) × (0 < size) × (count < 2 ^ 31) ⌝ }
     ensures { λ _. ⌜ Kept a (now (work .entry)) (now (work .exit)) × Interned (now (text .entry)) (rows count (now (work .entry))) a (now (work .exit)) ⌝ }
@@ -419,7 +419,7 @@ pub fn intern(text: &[u8], work: &mut [u32], count: usize, a: usize, b: usize, s
     if by_table(text, work, count, a, b, size, SMALL, SMALL_WINDOW) {
         return;
     }
-    if by_table(text, work, count, a, b, size, 4 * count + SMALL, WINDOW) {
+    if by_table(text, work, count, a, b, size, 2 * count + SMALL, WINDOW) {
         return;
     }
     without_table(text, work, count, a, b, size);
