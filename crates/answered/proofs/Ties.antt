@@ -17,9 +17,11 @@ use Rattle.language.specs.Infer as I
 use Rattle.language.specs.Layout as L
 use Rattle.assembler.specs.Rows.{rows}
 use Rattle.assembler.specs.Entries.{Entry, entries}
+use Rattle.assembler.specs.Feeds.{Fed}
 use Rattle.assembler.specs.Declarations.{undeclared, declarations}
 use Rattle.assembler.proofs.Means.{AllMean}
 use Rattle.assembler.proofs.AssembledLaws.{length-entered}
+use Rattle.assembler.proofs.FeedLaws.{entered-fed}
 use Rattle.shown.proofs.Shows.{Mentions, Said, Shown}
 use Rattle.shown.proofs.TextShown.{text-shown, text-said, no-rule-errors}
 use Rattle.infer.specs.States.{Scratch, stateSection, finalSection}
@@ -51,8 +53,12 @@ module _ (text : List ℕ) (count : ℕ) (w first : List ℕ) (r : Ready text co
   pub few : count ≤ length text + 1
   few = omega (arith, r .many, tokens-of-bytes text)
 
+  -- its lines end at their line feeds
+  pub fed : Fed (rows count w)
+  fed = subst Fed (sym (r .row)) (entered-fed (map tokenOf (tokens (decode text))))
+
   pub scratch : Scratch (length text + 1) count w
-  scratch = scratch-of-text text count w few (r .room) (r .names)
+  scratch = scratch-of-text text count w few (r .room) (r .names) fed
 
   pub table : first ≡ declarations (length (rows count w)) undeclared (entries (rows count w))
   table = r .declared ∙ ap (λ (n : ℕ). declarations n undeclared (entries (rows count w))) (sym row-size)

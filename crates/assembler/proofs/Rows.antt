@@ -14,7 +14,7 @@ use Rattle.parser.specs.Lines.{lineLength}
 pub use Rattle.equal_names.proofs.NameLaws.{length-rows, row-read, row-past}
 use Rattle.assembler.specs.Rows.{rows}
 use Rattle.assembler.specs.Entries.{Entry, entryAt, behind, entriesFrom, entries}
-use Rattle.assembler.specs.Feeds.{AllFed, onwards}
+use Rattle.assembler.specs.Feeds.{AllFed}
 
 -- ---- the lines
 pub entries-skip : (k i : ℕ) (ts : List Token) → entriesFrom k i ts ≡ entriesFrom 0 (i + k) (drop k ts)
@@ -61,28 +61,6 @@ module _ (t : Token) (i : ℕ) where
   unfolding behind
   next-other h g = rw (lt-leb 16 (t .kind) h, ne-eqb (t .kind) 12 g) (omega arith)
 
--- where a walk goes on behind a long line, and behind a short one
-pub onwards-long : (i n : ℕ) (t : Token) (ts : List Token) → n ≡ i + 1 + behind i t → i + 64 ≤ n → n ≡ onwards i t ts
-unfolding onwards
-onwards-long i n t ts e h = e ∙ rw (le-leb (i + 64) (i + 1 + behind i t) (omega (arith, e)))
-
-pub onwards-short : (i n m : ℕ) (t : Token) (ts : List Token) → n ≡ i + 1 + behind i t → n < i + 64 → m ≡ i + 1 + lineLength ts → m ≡ onwards i t ts
-unfolding onwards
-onwards-short i n m t ts e h g = g ∙ rw (lt-leb (i + 64) (i + 1 + behind i t) (omega (arith, e)))
-
--- it goes on in any case, so that less is left of n tokens
-pub onwards-less : (n i j : ℕ) (t : Token) (ts : List Token) → i < n → j ≡ onwards i t ts → n - j < n - i
-unfolding onwards
-onwards-less n i j t ts h e = omega (arith, e, further (leb (i + 64) (i + 1 + behind i t)))
-  where
-    further : (b : Bool) → i + 1 ≤ cond b (i + 1 + behind i t) (i + 1 + lineLength ts)
-    further true = omega arith
-    further false = omega arith
-
-either-way : (b : Bool) (n : ℕ) → cond b n n ≡ n
-either-way true n = refl
-either-way false n = refl
-
 -- ---- lines that end at their line feeds
 module _ (ts : List Token) (i : ℕ) (f : AllFed (entriesAt ts i)) (h : i < length ts) where
   both-fed : AllFed (entryAt ts i ∷ entriesAt ts (i + 1 + behind i (peek ts i)))
@@ -91,14 +69,9 @@ module _ (ts : List Token) (i : ℕ) (f : AllFed (entriesAt ts i)) (h : i < leng
   pub fed-next : (j : ℕ) → j ≡ i + 1 + lineLength (drop i ts) → i + 1 + behind i (peek ts i) ≡ j
   fed-next j e = ap (λ (n : ℕ). i + 1 + n) (both-fed .0 ∙ ap lineLength (sym (drop-cons ts i ended h))) ∙ sym e
 
-  -- both ways lead to one place
-  pub fed-onwards : (t : Token) (j : ℕ) → t ≡ peek ts i → j ≡ onwards i t (drop i ts) → j ≡ i + 1 + lineLength (drop i ts)
-  unfolding onwards
-  fed-onwards t j et ej =
-      let same : behind i t ≡ lineLength (drop i ts) = ap (behind i) et ∙ both-fed .0 ∙ ap lineLength (sym (drop-cons ts i ended h)) in
-      ej
-      ∙ ap (λ (n : ℕ). cond (leb (i + 64) (i + 1 + n)) (i + 1 + n) (i + 1 + lineLength (drop i ts))) same
-      ∙ either-way (leb (i + 64) (i + 1 + lineLength (drop i ts))) (i + 1 + lineLength (drop i ts))
+  -- what the line's first token says
+  pub fed-here : (t : Token) → t ≡ peek ts i → behind i t ≡ lineLength (drop i ts)
+  fed-here t e = ap (behind i) e ∙ both-fed .0 ∙ ap lineLength (sym (drop-cons ts i ended h))
 
   pub fed-on : AllFed (entriesAt ts (i + 1 + behind i (peek ts i)))
   fed-on = both-fed .1

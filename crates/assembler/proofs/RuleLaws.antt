@@ -20,13 +20,14 @@ use Rattle.assembler.specs.declared.rules.Sets.{Sets}
 use Rattle.assembler.specs.declared.rules.Tally.{Tally}
 use Rattle.assembler.specs.declared.rules.Verdict.{Verdict}
 use Rattle.assembler.specs.declared.rules.Verdict.the-variants.{Other, WrongArity, TooMany, Expands}
+use Rattle.parser.specs.Lines.{lineLength}
 use Rattle.parser.specs.Row.{peek, ended}
 use Rattle.parser.specs.Views.{isSymbol}
 use Rattle.assembler.specs.Rows.{rows, placeOf}
 use Rattle.assembler.specs.Entries.{Entry, entryAt, behind, entries}
-use Rattle.assembler.specs.Feeds.{Fed, onwards}
+use Rattle.assembler.specs.Feeds.{Fed}
 use Rattle.assembler.specs.Rules.{counted, combinationsFrom, combinations, sameArity, readPart, verdict, after, ruleError, ruleErrors, noRules}
-use Rattle.assembler.proofs.Rows.{length-rows, fed-next, fed-onwards}
+use Rattle.assembler.proofs.Rows.{length-rows, fed-here}
 use Rattle.assembler.proofs.Passes.{at-most-one, Passing, passing-start, passing-step, passing-end}
 
 -- ---- one token of the read sets
@@ -273,16 +274,20 @@ tallying-start count work w n fed = record { passing = passing-start (rows count
 
 module _ (count : ℕ) (work : List ℕ) (target : Log) (from : ℕ) (w₀ : List ℕ) (s : Tally) (w : List ℕ) (n i : ℕ)
     (p : Tallying count work target from w₀ s w n i) (room : 4 * count ≤ length work) where
+  -- the line's first token says where it ends
+  pub tallying-fed : (t : Token) → i < count → t ≡ peek (rows count work) i → behind i t ≡ lineLength (drop i (rows count work))
+  tallying-fed t h e = fed-here (rows count work) i (p .passing .fed) (omega (arith, length-rows count work room)) t e
+
   pub tallying-on : (s′ : Tally) (w′ : List ℕ) (n′ j : ℕ) (t : Token) (v : Verdict) (q : Span) → i < count → t ≡ peek (rows count work) i
       → v ≡ verdict (s .rules) (entryAt (rows count work) i) → q ≡ placeOf t → logged w′ n′ ≡ appendAll (logged w n) (ruleError v (s .cut) q) → s′ ≡ after s v
-      → j ≡ onwards i t (drop i (rows count work)) → Tallying count work target from w₀ s′ w′ n′ j
+      → j ≡ i + 1 + behind i t → Tallying count work target from w₀ s′ w′ n′ j
   unfolding ruleErrors
   tallying-on s′ w′ n′ j t v q h et ev eq ew es ej =
       let ts : List Token = rows count work in
       let many : length ts ≡ count = length-rows count work room in
       let here : i < length ts = omega arith in
       let e : Entry = entryAt ts i in
-      let next : i + 1 + behind i (peek ts i) ≡ j = fed-next ts i (p .passing .fed) here j (fed-onwards ts i (p .passing .fed) here t j et ej) in
+      let next : i + 1 + behind i (peek ts i) ≡ j = ap (λ (t : Token). i + 1 + behind i t) (sym et) ∙ sym ej in
       let v′ : Verdict = verdict (s .rules) e in
       let ds : List Diagnostic = ruleError v′ (s .cut) (placeOf (peek ts i)) in
       let eq′ : q ≡ placeOf (peek ts i) = eq ∙ ap placeOf et in

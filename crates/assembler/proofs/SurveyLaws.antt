@@ -16,12 +16,12 @@ use Rattle.assembler.specs.declared.rules.Verdict.{Verdict}
 use Rattle.assembler.specs.declared.survey.Counts.{Counts}
 use Rattle.assembler.specs.Rows.{rows, placeOf}
 use Rattle.assembler.specs.Entries.{Entry, entryAt, behind, entries}
-use Rattle.assembler.specs.Feeds.{AllFed, Fed, onwards}
+use Rattle.assembler.specs.Feeds.{AllFed, Fed}
 use Rattle.assembler.specs.Failures.{lineError, lineErrors}
 use Rattle.assembler.specs.Declarations.{declare, declarations, declarationError, declarationErrors}
 use Rattle.assembler.specs.Rules.{noRules, verdict, after, ruleError, ruleErrors, ruleCount}
 use Rattle.assembler.specs.Survey.{Surveyed}
-use Rattle.assembler.proofs.Rows.{length-rows, entriesAt, entries-step, entries-end, fed-next, fed-onwards, fed-on}
+use Rattle.assembler.proofs.Rows.{length-rows, entriesAt, entries-step, entries-end, fed-here, fed-on}
 use Rattle.assembler.proofs.FailureLaws.{line-error-one}
 use Rattle.assembler.proofs.DeclarationLaws.{one-wrong}
 use Rattle.assembler.proofs.RuleLaws.{one-rule, verdict-within, after-within}
@@ -72,17 +72,20 @@ module _ (count : ℕ) (work first₀ first : List ℕ) (s : Tally) (f d r i : �
   abbrev ts : List Token
   ts = rows count work
 
+  -- the line's first token says where it ends
+  pub survey-fed : (t : Token) → i < count → t ≡ peek (rows count work) i → behind i t ≡ lineLength (drop i (rows count work))
+  survey-fed t h e = fed-here ts i (p .fed) (omega (arith, length-rows count work room)) t e
+
   pub survey-on : (t : Token) (x y z : ℕ) (first′ : List ℕ) (v : Verdict) (q : Span) (s′ : Tally) (j : ℕ) → i < count → t ≡ peek (rows count work) i → x ≡ f + length (lineError t)
       → first′ ≡ declare count first (entryAt (rows count work) i) → y ≡ d + length (declarationError (rows count work) first (entryAt (rows count work) i))
-      → v ≡ verdict (s .rules) (entryAt (rows count work) i) → q ≡ placeOf t → z ≡ r + length (ruleError v (s .cut) q) → s′ ≡ after s v → j ≡ onwards i t (drop i (rows count work))
+      → v ≡ verdict (s .rules) (entryAt (rows count work) i) → q ≡ placeOf t → z ≡ r + length (ruleError v (s .cut) q) → s′ ≡ after s v → j ≡ i + 1 + behind i t
       → Surveying count work first₀ first′ s′ x y z j
   unfolding declarations declarationErrors lineErrors ruleErrors ruleCount
-  survey-on t x y z first′ v q s′ j h et ex ef ey ev eq ez es e₀ =
+  survey-on t x y z first′ v q s′ j h et ex ef ey ev eq ez es ej =
       let many : length ts ≡ count = length-rows count work room in
       let here : i < length ts = omega arith in
-      let ej : j ≡ i + 1 + lineLength (drop i ts) = fed-onwards ts i (p .fed) here t j et e₀ in
       let e : Entry = entryAt ts i in
-      let next : i + 1 + behind i (peek ts i) ≡ j = fed-next ts i (p .fed) here j ej in
+      let next : i + 1 + behind i (peek ts i) ≡ j = ap (λ (t : Token). i + 1 + behind i t) (sym et) ∙ sym ej in
       let v′ : Verdict = verdict (s .rules) e in
       let lines : entriesAt ts i ≡ e ∷ entriesAt ts j = entries-step ts i here ∙ ap (λ (j : ℕ). e ∷ entriesAt ts j) next in
       let rest : List Entry = entriesAt ts j in

@@ -6,7 +6,6 @@ ghost use Rattle.parser.specs.Row.{peek};
 ghost use Rattle.parser.specs.Lines.{lineLength};
 ghost use Rattle.assembler.specs.Rows.{rows, placeOf};
 ghost use Rattle.assembler.specs.Entries.{behind};
-ghost use Rattle.assembler.specs.Feeds.{onwards};
 use diag::Span;
 use lexer::kind;
 use tokens::Token;
@@ -18,6 +17,8 @@ pub const FAILED: u32 = 32;
 
 // A line of so many tokens is long.
 const LONG: usize = 64;
+// The tokens of a text that has fewer stay in a cache: 1 MiB.
+const FEW: usize = 65536;
 
 // A word as an index.
 pub fn wide(x: u32) -> usize
@@ -87,12 +88,16 @@ pub fn behind_feed(work: &[u32], count: usize, at: usize) -> usize
     i + 1
 }
 
-// The index behind the line that begins with the token t at an index: of a long line as t has it, so that it is not gone over once more.
+// The index behind the line that begins with the token t at an index and ends at its first line feed: as t has it where the tokens are few or the line
+// is long, so that it is not gone over once more; else behind the line feed.
 pub fn behind_line(work: &[u32], count: usize, at: usize, t: Token) -> usize
-    requires { ⌜ (4 * count ≤ length (now work)) × (count < 2 ^ 32) × (at < count) ⌝ }
-    ensures { λ r. ⌜ r ≡ onwards at t (drop at (rows count (now (work .entry)))) ⌝ }
+    requires { ⌜ (4 * count ≤ length (now work)) × (at < count) × (at + 64 < 2 ^ 64) × (behind at t ≡ lineLength (drop at (rows count (now work)))) ⌝ }
+    ensures { λ r. ⌜ r ≡ at + 1 + behind at t ⌝ }
 {
     let next = next_line(t, at);
+    if count < FEW {
+        return next;
+    }
     if at + LONG <= next {
         return next;
     }

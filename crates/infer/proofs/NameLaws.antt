@@ -12,10 +12,12 @@ use lib.ListN.{length, getD, take, drop, set, replicate, length-set, length-appe
 use lib.Seq.{sets, length-sets, drop-drop, take-at, length-take-le}
 use Rattle.tokens.specs.declared.Token.{Token}
 use Rattle.parser.specs.Row.{peek}
+use Rattle.parser.specs.Lines.{lineLength}
 use Rattle.parser.specs.Views.{isState}
 use Rattle.assembler.specs.Rows.{rows}
 use Rattle.assembler.specs.Entries.{Entry, entryAt, behind, entriesFrom, entries}
-use Rattle.assembler.proofs.Rows.{length-rows, entriesAt, entries-step, entries-end}
+use Rattle.assembler.specs.Feeds.{AllFed, Fed}
+use Rattle.assembler.proofs.Rows.{length-rows, entriesAt, entries-step, entries-end, fed-here, fed-on}
 use Rattle.infer.specs.Page.{Page, page, Kept, indicesFrom, indicesIn}
 use Rattle.infer.specs.States.{markAt, Scratch, listFinal, listFinals, nameWords, stateNamed, named, namedAll, mention, mentions, startName, unmarked, inferred, finals, states}
 use Rattle.infer.proofs.Pages.{kept-refl, kept-on, kept-set, kept-at, kept-rows, indicesAt, indices-start, indices-stop, indices-on, indices-end}
@@ -29,6 +31,7 @@ module _ (size count : ℕ) (w : List ℕ) (s : Scratch size count w) where
   scratch-kept v k = record {
     few = s .few;
     room = omega (arith, s .room, k .size);
+    fed = subst Fed (sym (scratch-rows v k)) (s .fed);
     low = λ x h e. subst (λ (y : ℕ). y < size) (sym (kept-at (5 * size) w v (4 * size + x) k (omega (arith, s .few)))) (s .low x h (ap (λ (ts : List Token). isState (peek ts x)) (sym (scratch-rows v k)) ∙ e));
   }
 
@@ -287,14 +290,21 @@ pub record Mentioning (size count : ℕ) (target : Page) (w₀ o₀ : List ℕ) 
   pub kept : Kept (5 * size) w₀ w
   pub long : length o ≡ length o₀
   pub near : n ≤ n₀ + 6 * i
+  pub fed : AllFed (entriesAt (rows count w₀) i)
 
-pub mentioning-start : (size count : ℕ) (w o : List ℕ) (n : ℕ) → Mentioning size count (namedAll size (rows count w) false (page w o n) (mentions (rows count w) (entries (rows count w)))) w o n w o n 0
+pub mentioning-start : (size count : ℕ) (w o : List ℕ) (n : ℕ) → Scratch size count w → Mentioning size count (namedAll size (rows count w) false (page w o n) (mentions (rows count w) (entries (rows count w)))) w o n w o n 0
 unfolding entries
-mentioning-start size count w o n = record { whole = refl; kept = kept-refl (5 * size) w; long = refl; near = omega arith }
+mentioning-start size count w o n s = record { whole = refl; kept = kept-refl (5 * size) w; long = refl; near = omega arith; fed = s .fed }
 
 module _ (size count : ℕ) (target : Page) (w₀ o₀ : List ℕ) (n₀ : ℕ) (w o : List ℕ) (n i : ℕ) (m : Mentioning size count target w₀ o₀ n₀ w o n i) (s : Scratch size count w₀) where
   pub mentioning-scratch : Scratch size count w
   mentioning-scratch = scratch-kept size count w₀ s w (m .kept)
+
+  -- the line's first token says where it ends
+  pub mentioning-fed : (t : Token) → i < count → t ≡ peek (rows count w) i → behind i t ≡ lineLength (drop i (rows count w))
+  mentioning-fed t low at =
+      let row : rows count w ≡ rows count w₀ = scratch-rows size count w₀ s w (m .kept) in
+      fed-here (rows count w₀) i (m .fed) (omega (arith, scratch-length size count w₀ s)) t (at ∙ ap (λ (ts : List Token). peek ts i) row) ∙ ap (λ (ts : List Token). lineLength (drop i ts)) (sym row)
 
   pub mentioning-on : (t : Token) (w′ o′ : List ℕ) (n′ j : ℕ) → i < count → t ≡ peek (rows count w) i
       → page w′ o′ n′ ≡ namedAll size (rows count w) false (page w o n) (mention (rows count w) (entryAt (rows count w) i)) → j ≡ i + 1 + behind i t
@@ -316,6 +326,7 @@ module _ (size count : ℕ) (target : Page) (w₀ o₀ : List ℕ) (n₀ : ℕ) 
         kept = kept-on (5 * size) w₀ w w′ (m .kept) (goes .kept);
         long = goes .long ∙ m .long;
         near = omega (arith, goes .near, m .near, mention-few ts (entryAt ts i));
+        fed = subst (λ (j : ℕ). AllFed (entriesAt ts j)) next (fed-on ts i (m .fed) here);
       }
 
   pub mentioning-end : count ≤ i → page w o n ≡ target

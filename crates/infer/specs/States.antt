@@ -13,6 +13,7 @@ use Rattle.parser.specs.Row.{peek}
 use Rattle.parser.specs.Views.{isState}
 use Rattle.assembler.specs.Rows.{rows, placeOf}
 use Rattle.assembler.specs.Entries.{Entry, entries}
+use Rattle.assembler.specs.Feeds.{Fed}
 use Rattle.diag.specs.declared.Span.{Span}
 use Rattle.sheet.specs.Comments.{spanWords}
 use Rattle.infer.specs.Page.{Page, page, indicesIn}
@@ -21,10 +22,11 @@ use Rattle.infer.specs.Page.{Page, page, indicesIn}
 abbrev pub markAt : ℕ → List ℕ → ℕ → ℕ
 markAt size w x = 5 * size + getD w (4 * size + x) 0
 
--- the two rows stand in the words w behind the tokens, and what the first holds of a state is an index of the second
+-- the two rows stand in the words w behind the tokens, whose lines end at their line feeds, and what the first holds of a state is an index of the second
 pub record Scratch (size count : ℕ) (w : List ℕ) : Type 0 where
   pub few : count ≤ size
   pub room : 6 * size ≤ length w
+  pub fed : Fed (rows count w)
   pub low : (x : ℕ) → x < count → isState (peek (rows count w) x) ≡ true → getD w (4 * size + x) 0 < size
 
 -- no name of n tokens is marked

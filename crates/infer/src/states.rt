@@ -167,8 +167,9 @@ fn mentions(work: &mut [u32], count: usize, size: usize, out: &mut [u32], at: us
     let mut e = 0;
     while e < count {
         let t = entry::token_at(work, count, e);
+        let next = entry::behind_line(work, count, e, t);
         n = mention(work, count, size, e, out, n);
-        e = entry::next_line(t, e);
+        e = next;
     }
     n
 }

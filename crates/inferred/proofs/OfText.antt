@@ -20,6 +20,7 @@ use Rattle.language.proofs.Counts.{Chosen, flat-length}
 use Rattle.language.proofs.ReadCounts.{read-chosen}
 use Rattle.assembler.specs.Rows.{rows}
 use Rattle.assembler.specs.Entries.{Entry, entries}
+use Rattle.assembler.specs.Feeds.{Fed}
 use Rattle.assembler.specs.Declarations.{undeclared}
 use Rattle.assembler.specs.Finals.{Interned}
 use Rattle.assembler.proofs.Rows.{length-rows}
@@ -40,12 +41,13 @@ use Rattle.inferred.proofs.InputInferred.{input-inferred}
 -- ---- what the calls ask
 module _ (text : List ℕ) (count : ℕ) (w : List ℕ) (few : count ≤ length text + 1) (room : 6 * length text + 6 ≤ length w) where
   -- the states: the row of first equal words stands at 4 · (length text + 1)
-  pub scratch-of-text : Interned text (rows count w) (4 * (length text + 1)) w → Scratch (length text + 1) count w
-  scratch-of-text names =
+  pub scratch-of-text : Interned text (rows count w) (4 * (length text + 1)) w → Fed (rows count w) → Scratch (length text + 1) count w
+  scratch-of-text names fed =
       let n : length (rows count w) ≡ count = length-rows count w (omega arith) in
       record {
         few = few;
         room = omega arith;
+        fed = fed;
         low = λ x h e.
             let word = state-word (peek (rows count w) x) e in
             omega (arith, names .interned x (omega arith) word, first-low text (rows count w) x (omega arith) word);

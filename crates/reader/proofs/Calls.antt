@@ -163,13 +163,8 @@ module _ (t w : List ℕ) (a : refusalOf t (length w) ≡ none) where
         unfolding recordsOf D.appendAll
         log-same = ap (λ (l : D.Log). l .row) (o .written ∙ ap (λ (k : List (A.Diagnostic Span)). D.appendAll (D.logged log₁ 0) (recordsOf k)) none-found) ∙ z
 
-        module _ (x : Answer) (sheet₁ sheet : List ℕ) (s : sheet₁ ≡ replicate (length S) 0)
-            (m : (n : ℕ) → readIn x (zeros n) sheet ≡ readMachine (linesOf t) n (length sheet₁)) where
-          answer-is : readIn x (zeros (length L)) sheet ≡ readMachine (linesOf t) (length L) (length S)
-          answer-is = m (length L) ∙ ap (readMachine (linesOf t) (length L)) (ap length s ∙ length-replicate (length S) 0)
-
-          pub machine-is : readIn x log₂ sheet ≡ readOutcome t (length w) L S
-          machine-is = ap (λ (l : List ℕ). readIn x l sheet) log-same ∙ answer-is ∙ sym (machine-outcome t (length w) L S a none-found)
+        pub machine-is : (x : Answer) (sheet : List ℕ) → ((n : ℕ) → readIn x (zeros n) sheet ≡ readMachine (linesOf t) n (length S)) → readIn x log₂ sheet ≡ readOutcome t (length w) L S
+        machine-is x sheet m = ap (λ (l : List ℕ). readIn x l sheet) log-same ∙ m (length L) ∙ sym (machine-outcome t (length w) L S a none-found)
 
 -- ---- for callers in other languages
 number-leaves : (r : Reply) → leavesWorkNumber (replyNumber r) ≡ true → untouched r ≡ true

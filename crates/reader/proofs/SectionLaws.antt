@@ -1,5 +1,5 @@
 -- The sections of the sheet one behind the other: what each asks of those before it, and what they leave together.
-use mathlib.Core.Path.{_≡_, refl, ap, subst, _∙_}
+use mathlib.Core.Path.{_≡_, refl, sym, ap, subst, _∙_}
 use mathlib.Core.List.{List, _∷_}
 use Prim.Native.Nat.{ℕ, _+_, _-_, _*_, _≤_, _<_, _^_}
 use native.Mathlib.Omega.{arith}
@@ -8,6 +8,7 @@ use Rattle.tokens.specs.declared.Token.{Token}
 use Rattle.language.specs.Layout as L
 use Rattle.language.specs.Outcome.{zeros}
 use Rattle.assembler.specs.Rows.{rows}
+use Rattle.assembler.specs.Feeds.{Fed}
 use Rattle.sheet.specs.Stored.{Stored}
 use Rattle.sheet.specs.Comments.{textWords, header, trailing}
 use Rattle.sheet.specs.Rules.{ruleLengths}
@@ -22,7 +23,7 @@ use Rattle.answered.specs.Ready.{Ready}
 use Rattle.answered.specs.Sections.{Sections, sectionsOf, joined}
 use Rattle.infer.proofs.Widths.{states-width, finals-width}
 use Rattle.alphabet.proofs.SymbolWidths.{sigma-width, gamma-width}
-use Rattle.answered.proofs.Ties.{few, row-size, scratch, ties}
+use Rattle.answered.proofs.Ties.{few, row-size, fed, scratch, ties}
 use Rattle.answered.proofs.Sheets as T
 use Rattle.reader.specs.Sheet.{endsOf, Written}
 
@@ -84,6 +85,9 @@ module _ (text : List ℕ) (count : ℕ) (w first : List ℕ) (r : Ready text co
 
       pub section-tokens : 4 * count ≤ length w₂
       section-tokens = omega (arith, tokens-room, long₂)
+
+      pub section-fed : Fed (rows count w₂)
+      section-fed = subst Fed (sym row₂) (fed text count w first r)
 
       pub lengths-are : (m : ℕ) → m ≡ ruleLengths (rows count w₂) → m ≡ ruleLengths (rows count w)
       lengths-are m e = e ∙ ap ruleLengths row₂

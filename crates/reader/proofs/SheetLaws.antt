@@ -1,11 +1,11 @@
 -- Laws of the sheet as the code writes it: sections and rules are the machine's sheet, and the head is its head.
 use mathlib.Core.Path.{_≡_, refl, sym, ap, subst, _∙_}
-use mathlib.Core.List.{List, _++_}
+use mathlib.Core.List.{List, [], _++_, append-nil}
 use Prim.Native.Nat.{ℕ, zero, suc, _+_, _-_, _*_, _/_, _≤_, _<_, _^_}
 use native.Mathlib.Omega.{arith}
-use lib.ListN.{length, getD, drop, replicate, length-append, length-replicate}
+use lib.ListN.{length, getD, take, drop, replicate, length-append, length-take, length-drop, drop-of-length-le}
 use borrow.Author.Tests.{lt-ltb, le-ltb}
-use lib.Seq.{sets, sets-eq}
+use lib.Seq.{sets, sets-eq, take-at}
 use Rattle.diag.specs.declared.Span as D
 use Rattle.machine.specs.declared.Span.{Span}
 use Rattle.tokens.specs.declared.Token.{Token}
@@ -55,16 +55,19 @@ module _ (ls : List (Line Place)) (log sheet : ℕ) where
   unfolding readMachine
   long-machine h = rw (readMachine, le-ltb sheet (wordsNeeded ls) h)
 
-drop-zeros : (n k : ℕ) → drop k (zeros n) ≡ zeros (n - k)
-drop-zeros n zero = let e : n ≡ n - 0 = omega arith in ap zeros e
-drop-zeros zero (suc k) = let e : 0 ≡ 0 - suc k = omega arith in ap zeros e
-drop-zeros (suc n) (suc k) = let e : n - k ≡ suc n - suc k = omega arith in drop-zeros n k ∙ ap zeros e
+-- words stored at the front, and zeros behind them
+behind-cleared : (o ws : List ℕ) → length ws ≤ length o → take (length ws) (sets o 0 ws) ≡ ws
+behind-cleared o ws h = ap (take (length ws)) (sets-eq ws o 0 (omega arith)) ∙ take-at ws (drop (0 + length ws) o) (length ws) refl
 
--- words stored at the front of zeros
-front : (n : ℕ) (ws : List ℕ) → length ws ≤ n → sets (zeros n) 0 ws ≡ filled ws n
-front n ws h =
-    let z : 0 + length ws ≡ length ws = omega arith in
-    sets-eq ws (zeros n) 0 (omega (arith, length-replicate {A = ℕ} n 0)) ∙ ap (λ (k : ℕ). ws ++ drop k (zeros n)) z ∙ ap (λ (l : List ℕ). ws ++ l) (drop-zeros n (length ws))
+-- a row cleared from an index on
+pub cleared-from : (o : List ℕ) (at : ℕ) → at ≤ length o → (p : List ℕ) → p ≡ replicate (length (take (length o - at) (drop at o))) 0
+    → take at o ++ (p ++ drop (length o - at) (drop at o)) ≡ take at o ++ zeros (length o - at)
+cleared-from o at h p e =
+    let n : length (take (length o - at) (drop at o)) ≡ length o - at = omega (arith, length-take (length o - at) (drop at o), length-drop at o) in
+    let none : drop (length o - at) (drop at o) ≡ [] = drop-of-length-le (drop at o) {i = length o - at} (omega (arith, length-drop at o)) in
+    ap (λ (l : List ℕ). take at o ++ (l ++ drop (length o - at) (drop at o))) (e ∙ ap zeros n)
+    ∙ ap (λ (l : List ℕ). take at o ++ (zeros (length o - at) ++ l)) none
+    ∙ ap (λ (l : List ℕ). take at o ++ l) (append-nil (zeros (length o - at)))
 
 pub sheet-long : (s : Sections) (o o₁ : List ℕ) (e : Ends) → Written s o o₁ e → length o₁ ≡ length o
 sheet-long s o o₁ e m = stored-length (joined s) o o₁ 0 (0 + length (joined s)) (record { words = m .words; behind = refl })
@@ -181,7 +184,7 @@ module _ (text : List ℕ) (count : ℕ) (w first : List ℕ) (r : Ready text co
     expand-room = omega (arith, rules-length, end-is, joined-low, lengths-low text count w first r, few text count w first r, r .short)
 
     -- the whole sheet
-    module _ (zero : o ≡ zeros (length o)) (n : ℕ) (n-is : n ≡ ruleLengths (rows count w)) (fits : e .trailing + n ≤ length o₁) (o₂ : List ℕ) (x : ℕ)
+    module _ (n : ℕ) (n-is : n ≡ ruleLengths (rows count w)) (fits : e .trailing + n ≤ length o₁) (o₂ : List ℕ) (x : ℕ)
         (stored : Stored (rules b (rows count w₁)) o₁ (e .trailing) o₂ x) where
       abbrev made : Spec Place
       made = machineOf (linesOf text)
@@ -206,8 +209,19 @@ module _ (text : List ℕ) (count : ℕ) (w first : List ℕ) (r : Ready text co
       words-low : length (L.sheetWords (machineOf (linesOf text))) ≤ length o
       words-low = omega (arith, words-needed, room-is)
 
-      sheet-filled : o₂ ≡ filled (L.sheetWords (machineOf (linesOf text))) (length o)
-      sheet-filled = sheet-set ∙ ap (λ (l : List ℕ). sets l 0 (L.sheetWords made)) zero ∙ front (length o) (L.sheetWords made) words-low
+      long-two : length o₂ ≡ length o
+      long-two = stored-length (rules b (rows count w₁)) o₁ o₂ (e .trailing) x stored ∙ same-length
+
+      -- there is room to clear behind it
+      pub clear-room : e .trailing + n ≤ length o₂
+      clear-room = omega (arith, fits, same-length, long-two)
+
+      sheet-filled : (o₃ : List ℕ) → o₃ ≡ take (e .trailing + n) o₂ ++ zeros (length o₂ - (e .trailing + n)) → o₃ ≡ filled (L.sheetWords (machineOf (linesOf text))) (length o)
+      sheet-filled o₃ q =
+          let ws : List ℕ = L.sheetWords (machineOf (linesOf text)) in
+          let k : e .trailing + n ≡ length ws = omega (arith, words-needed, needed n n-is) in
+          q ∙ ap (λ (k : ℕ). take k o₂ ++ zeros (length o₂ - k)) k ∙ ap (λ (m : ℕ). take (length ws) o₂ ++ zeros (m - length ws)) long-two
+          ∙ ap (λ (l : List ℕ). take (length ws) l ++ zeros (length o - length ws)) sheet-set ∙ ap (λ (l : List ℕ). l ++ zeros (length o - length ws)) (behind-cleared o ws words-low)
 
       -- the counts
       module _ (number : ℕ) (number-is : number ≡ length (machineOf (linesOf text) .rules)) where
@@ -232,12 +246,12 @@ module _ (text : List ℕ) (count : ℕ) (w first : List ℕ) (r : Ready text co
 
         -- the head, and the answer
         pub whole : (w₂ : List ℕ) → rows count w₂ ≡ rows count w₁ → (p : Span) (c : Counts) (h : Head) → p ≡ spanFrom (firstState o₂ 0 (e .states)) → c ≡ countsAt e number
-            → h ≡ headAt (rows count w₂) first p c → (l : ℕ) → readIn (Machine h) (zeros l) o₂ ≡ readMachine (linesOf text) l (length o)
+            → h ≡ headAt (rows count w₂) first p c → (o₃ : List ℕ) → o₃ ≡ take (e .trailing + n) o₂ ++ zeros (length o₂ - (e .trailing + n)) → (l : ℕ) → readIn (Machine h) (zeros l) o₃ ≡ readMachine (linesOf text) l (length o)
         unfolding readMachine endsOf
-        whole w₂ row₂ p c h p-is c-is h-is l =
+        whole w₂ row₂ p c h p-is c-is h-is o₃ cleared l =
             let t : Sections = sectionsOf text (blankAt (rows count w) (getD first 8 0)) (rows count w) first w in
             let end : e .states ≡ length (t .states) = ap (λ (e : Ends). e .states) (m .ends) ∙ ap (λ (b : ℕ). length (sectionsOf text b (rows count w) first w .states)) blank in
             let head : headIn h ≡ L.headOf made =
             ap headIn (h-is ∙ ap (λ (ts : List Token). headAt ts first p c) (row₂ ∙ row))
             ∙ T.head-of-sheet text count w first r (ties text count w first r) o words-low p c (p-is ∙ ap (λ (i : ℕ). spanFrom (firstState o₂ 0 i)) end ∙ ap (λ (l : List ℕ). spanFrom (firstState l 0 (length (t .states)))) sheet-set) (ap countsIn c-is ∙ counts-are) in
-            (λ j. record { reply = machine (head j); log = zeros l; sheet = sheet-filled j }) ∙ long-machine (linesOf text) l (length o) room-is
+            (λ j. record { reply = machine (head j); log = zeros l; sheet = sheet-filled o₃ cleared j }) ∙ long-machine (linesOf text) l (length o) room-is

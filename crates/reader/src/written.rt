@@ -1,7 +1,8 @@
 // A machine in the sheet, and its head; or the words that it needs.
 ghost use mathlib.Core.Path.{_≡_};
-ghost use Prim.Native.Nat.{ℕ, _<_, _^_};
-ghost use lib.ListN.{length};
+ghost use mathlib.Core.List.{_++_};
+ghost use Prim.Native.Nat.{ℕ, _-_, _≤_, _<_, _^_};
+ghost use lib.ListN.{length, take};
 ghost use Rattle.language.specs.Infer.{machineOf};
 ghost use Rattle.language.specs.Outcome.{zeros, readMachine};
 ghost use Rattle.answered.specs.Ready.{linesOf, Ready};
@@ -45,7 +46,16 @@ fn first_state(sheet: &[u32], end: usize) -> Span
     }
 }
 
-// The machine of a text without diagnostics.
+// Clears the words of the sheet from an index on.
+fn clear_from(sheet: &mut [u32], at: usize)
+    requires { ⌜ at ≤ length (now sheet) ⌝ }
+    ensures { λ _. ⌜ now (sheet .exit) ≡ take at (now (sheet .entry)) ++ zeros (length (now (sheet .entry)) - at) ⌝ }
+{
+    let end = sheet.len();
+    diag::clear(&mut sheet[at..end]);
+}
+
+// The machine of a text without diagnostics. Only the words behind it are cleared: those that it takes are written over.
 pub fn machine(
     text: &[u8],
     work: &mut [u32],
@@ -53,7 +63,7 @@ pub fn machine(
     a: Assembled,
     sheet: &mut [u32],
 ) -> Answer
-    requires { ⌜ (Ready (now text) count (now work) (a .first)) × (a .rules ≡ length (machineOf (linesOf (now text)) .rules)) × (now sheet ≡ zeros (length (now sheet))) ⌝ }
+    requires { ⌜ (Ready (now text) count (now work) (a .first)) × (a .rules ≡ length (machineOf (linesOf (now text)) .rules)) ⌝ }
     ensures { λ r. ⌜ ((n : ℕ) → readIn r (zeros n) (now (sheet .exit)) ≡ readMachine (linesOf (now (text .entry))) n (length (now (sheet .entry)))) ⌝ }
 {
     let first = a.first;
@@ -68,5 +78,7 @@ pub fn machine(
     let size = text.len() + 1;
     expand::rules(work, count, 4 * size, 5 * size, blank, sheet, e.trailing);
     let s = first_state(sheet, e.states);
-    Answer::Machine(head::head(work, count, &first, s, counts(e, a.rules)))
+    let h = head::head(work, count, &first, s, counts(e, a.rules));
+    clear_from(sheet, needed);
+    Answer::Machine(h)
 }

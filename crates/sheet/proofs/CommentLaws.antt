@@ -1,6 +1,7 @@
 -- Laws of the comments between two indices, and of what is pending.
 use mathlib.Core.Path.{_≡_, refl, sym, ap, subst, _∙_}
-use mathlib.Core.Bool.{Bool, true, false, cond}
+use mathlib.Core.Bool.{Bool, true, false, cond, _&&_}
+use Rattle.chars.proofs.Tests.{and-both}
 use mathlib.Core.List.{List, [], _∷_, _++_, append-assoc}
 use Prim.Native.Nat.{ℕ, zero, suc, _+_, _-_, _*_, _≤_, _<_, _^_, _%_, _/_}
 use native.Mathlib.Omega.{arith}
@@ -11,13 +12,16 @@ use lib.Dec.{eqb, leb, ltb}
 use lib.ListN.{length, getD, take, drop, length-append, length-take, length-drop, drop-of-length-le, List·getD-eq-default}
 use lib.Seq.{sets, drop-cons, take-nil}
 use Rattle.tokens.specs.declared.Token.{Token}
+use Rattle.tokens.specs.View.{tokenIn}
 use Rattle.parser.specs.Row.{ended, peek}
+use Rattle.parser.specs.Lines.{lineLength}
 use Rattle.diag.specs.declared.Span.{Span}
 use Rattle.language.specs.Layout.{flat}
 use Rattle.language.proofs.Counts.{flat-append}
 use Rattle.assembler.specs.Rows.{rows}
 use Rattle.assembler.specs.Entries.{Entry, entryAt, behind, entriesFrom, entries}
-use Rattle.assembler.proofs.Rows.{length-rows, entriesAt, entries-step, entries-end}
+use Rattle.assembler.specs.Feeds.{AllFed, Fed}
+use Rattle.assembler.proofs.Rows.{length-rows, row-read, entriesAt, entries-step, entries-end, fed-here, fed-on}
 use Rattle.sheet.specs.declared.comments.Pending.{Pending}
 use Rattle.sheet.specs.Comments.{spanWords, textOf, textWords, commentsIn, between, next, nothing, passed, passedAll, leadFrom, headerOf, headerFrom, header, trailing}
 use Rattle.sheet.specs.Stored.{Stored}
@@ -148,6 +152,61 @@ module _ (count : ℕ) (work : List ℕ) (from to : ℕ) (o₀ : List ℕ) (at :
   pub gathered : to ≤ i → Stored (flat textWords (between (rows count work) from to)) o₀ at o n
   unfolding flat
   gathered h = written o₀ at all o n (flat textWords (between ts i to)) g (ap (flat textWords) (between-none ts i to h))
+
+-- ---- tokens among which no comment stands
+pub quiet-here : (count : ℕ) (work : List ℕ) (i : ℕ) (t : Token) → 4 * count ≤ length work → i < count → t ≡ tokenIn work i → (t .kind ≡ 12 → ⊥) → true ≡ true → commentsIn (peek (rows count work) i ∷ []) ≡ []
+quiet-here count work i t room h e n _ = ap (λ (t : Token). commentsIn (t ∷ [])) (sym (row-read count work i t room h e)) ∙ comments-no t n
+
+pub quiet-not : (ts : List Token) (i : ℕ) → false ≡ true → commentsIn (peek ts i ∷ []) ≡ []
+quiet-not ts i e = cc
+
+module _ (ts : List Token) (i : ℕ) where
+  quiet-step : (k to : ℕ) → i + k < to → commentsIn (peek ts (i + k) ∷ []) ≡ [] → between ts (i + (k + 1)) to ≡ between ts (i + k) to
+  quiet-step k to h e =
+      let z : i + (k + 1) ≡ i + k + 1 = omega arith in
+      ap (λ (j : ℕ). between ts j to) z ∙ sym (between-on ts (i + k) to h ∙ ap (λ (l : List Token). l ++ between ts (i + k + 1) to) e)
+
+  pub quiet-all : (a b c d : Bool) → (a ≡ true → commentsIn (peek ts i ∷ []) ≡ []) → (b ≡ true → commentsIn (peek ts (i + 1) ∷ []) ≡ [])
+      → (c ≡ true → commentsIn (peek ts (i + 2) ∷ []) ≡ []) → (d ≡ true → commentsIn (peek ts (i + 3) ∷ []) ≡ [])
+      → ((a && b) && (c && d)) ≡ true → (to : ℕ) → i + 4 ≤ to → between ts (i + 4) to ≡ between ts i to
+  quiet-all a b c d f g h k e to l =
+      let both = and-both _ _ e in
+      let ab = and-both a b (both .0) in
+      let cd = and-both c d (both .1) in
+      let z : i + 0 ≡ i = omega arith in
+      quiet-step 3 to (omega arith) (k (cd .1)) ∙ quiet-step 2 to (omega arith) (h (cd .0)) ∙ quiet-step 1 to (omega arith) (g (ab .1))
+      ∙ quiet-step 0 to (omega arith) (rw z (f (ab .0))) ∙ ap (λ (j : ℕ). between ts j to) z
+
+pub quiet-on : (ts : List Token) (from i to : ℕ) (b : Bool) → ((b ≡ true) → (to : ℕ) → i + 4 ≤ to → between ts (i + 4) to ≡ between ts i to) → b ≡ true → 4 ≤ to - i
+    → between ts i to ≡ between ts from to → between ts (i + 4) to ≡ between ts from to
+quiet-on ts from i to b q e h g = q e to (omega arith) ∙ g
+
+-- the walk begins behind them
+pub gather-start : (count : ℕ) (work : List ℕ) (from to : ℕ) (o : List ℕ) (at i : ℕ) → between (rows count work) i to ≡ between (rows count work) from to → Gathering count work from to o at o at i
+gather-start count work from to o at i e =
+    let all : List ℕ = flat textWords (between (rows count work) from to) in
+    subst (λ (l : List Token). Writing (sets o at all) (at + length all) o at (flat textWords l)) (sym e) (writing-start o at all)
+
+-- ---- lines that end at their line feeds, from the index i on
+pub record Feeding (count : ℕ) (work : List ℕ) (i : ℕ) : Type 0 where
+  pub fed : AllFed (entriesAt (rows count work) i)
+
+pub feeding-start : (count : ℕ) (work : List ℕ) → Fed (rows count work) → Feeding count work 0
+unfolding entries
+feeding-start count work f = record { fed = f }
+
+module _ (count : ℕ) (work : List ℕ) (i : ℕ) (f : Feeding count work i) (room : 4 * count ≤ length work) (h : i < count) (t : Token) (e : t ≡ peek (rows count work) i) where
+  here-below : i < length (rows count work)
+  here-below = omega (arith, length-rows count work room)
+
+  -- the line's first token says where it ends
+  pub feeding-here : behind i t ≡ lineLength (drop i (rows count work))
+  feeding-here = fed-here (rows count work) i (f .fed) here-below t e
+
+  pub feeding-on : (j : ℕ) → j ≡ i + 1 + behind i t → Feeding count work j
+  feeding-on j z =
+      let next : i + 1 + behind i (peek (rows count work) i) ≡ j = ap (λ (t : Token). i + 1 + behind i t) (sym e) ∙ sym z in
+      record { fed = subst (λ (j : ℕ). AllFed (entriesAt (rows count work) j)) next (fed-on (rows count work) i (f .fed) here-below) }
 
 -- ---- what is pending
 module _ (p : Pending) (i : ℕ) (t : Token) (j : ℕ) (behind-it : j ≡ next i t) where

@@ -5,8 +5,7 @@ use Rattle.diag.specs.Log.{logged, appendAll}
 use Rattle.assembler.specs.Rows.{rows}
 use Rattle.assembler.specs.Entries.{entries}
 use Rattle.assembler.specs.Rules.{ruleErrors, noRules}
-use Rattle.assembler.proofs.Rows.{onwards-less}
-use Rattle.assembler.proofs.RuleLaws.{Tallying, tallying-start, tallying-on, tallying-end}
+use Rattle.assembler.proofs.RuleLaws.{Tallying, tallying-start, tallying-fed, tallying-on, tallying-end}
 use Rattle.assembler.proofs.rules.rules.Statement.{statement}
 use Rattle.assembler.proofs.rules.rules.Tie as tie
 
@@ -17,7 +16,7 @@ Inv-loop work count log₀ errors s₀ n₀ at₀ log s n at =
 abbrev μ-loop : tie.MeasureT-loop
 μ-loop work count log₀ errors s₀ n₀ at₀ log s n at = count - at
 
-ruleset laws = (needs, tallying-on, tallying-end, onwards-less)
+ruleset laws = (needs, tallying-fed, tallying-on, tallying-end)
 
 pub rules-spec : {M : Type 1} → statement M
 rules-spec =

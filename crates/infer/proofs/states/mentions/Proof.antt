@@ -6,7 +6,7 @@ use Rattle.assembler.specs.Rows.{rows}
 use Rattle.assembler.specs.Entries.{entries}
 use Rattle.infer.specs.Page.{page}
 use Rattle.infer.specs.States.{namedAll, mentions}
-use Rattle.infer.proofs.NameLaws.{Mentioning, mentioning-start, mentioning-scratch, mentioning-on, mentioning-end}
+use Rattle.infer.proofs.NameLaws.{Mentioning, mentioning-start, mentioning-scratch, mentioning-fed, mentioning-on, mentioning-end}
 use Rattle.infer.proofs.states.mentions.Statement.{statement}
 use Rattle.infer.proofs.states.mentions.Tie as tie
 
@@ -17,7 +17,7 @@ Inv-loop work₀ count size out₀ at n₀ e₀ work out n e =
 abbrev μ-loop : tie.MeasureT-loop
 μ-loop work₀ count size out₀ at n₀ e₀ work out n e = count - e
 
-ruleset laws = (needs, mentioning-start, mentioning-scratch)
+ruleset laws = (needs, mentioning-start, mentioning-scratch, mentioning-fed)
 
 pub mentions-spec : {M : Type 1} → statement M
 mentions-spec =
@@ -30,7 +30,7 @@ mentions-spec =
     (λ c κs. search laws)
     (λ c κs. search laws)
     (λ c. search laws)
-    (λ c. mentioning-on _ _ _ _ _ _ _ _ _ _ (c .before .before .before .before .before .before .before .before .before .before .before .loop .inv) (c .before .before .before .before .before .before .before .before .before .before .before .before .before .before .pre .0) _ _ _ _ _ (c .before .before .before .before .before .before .before .before .before .before .loop-test .taken) (c .before .before .before .before .before .before .before .before .token-at .ensures) (c .before .before .before .before .before .mention .ensures) (c .next-line .ensures))
+    (λ c. mentioning-on _ _ _ _ _ _ _ _ _ _ (c .before .before .before .before .before .before .before .before .before .before .before .before .loop .inv) (c .before .before .before .before .before .before .before .before .before .before .before .before .before .before .before .pre .0) _ _ _ _ _ (c .before .before .before .before .before .before .before .before .before .before .before .loop-test .taken) (c .before .before .before .before .before .before .before .before .before .token-at .ensures) (c .before .before .before .before .mention .ensures) (c .before .before .before .before .before .before .before .behind-line .ensures))
     (λ c. search laws)
     (λ c. search laws)
     (λ c. mentioning-end _ _ _ _ _ _ _ _ _ _ (c .before .loop .inv) (c .before .before .before .before .pre .0) (c .loop-test .left)))

@@ -1,6 +1,6 @@
 -- `reader::written::machine` meets its contract: the sections and the rules behind them are the machine's sheet, or need more words than it has.
 use Rattle.sheet.proofs.Writes.{stored-length}
-use Rattle.reader.proofs.SheetLaws.{blank-room, head-room, sheet-long, rules-fit, needed-fits, too-short, entries-fit, members-fit, expand-tokens, expand-entries, expand-members, expand-small, expand-room, ordered, whole}
+use Rattle.reader.proofs.SheetLaws.{blank-room, head-room, sheet-long, rules-fit, needed-fits, too-short, entries-fit, members-fit, expand-tokens, expand-entries, expand-members, expand-small, expand-room, ordered, clear-room, whole}
 use mathlib.Core.Path.{_∙_}
 use borrow.Author.Needs.{needs}
 use Rattle.reader.proofs.written.machine.Statement.{statement}
@@ -25,6 +25,7 @@ machine-spec =
     (λ c κs. search needs)
     (λ c κs. let s = c .before .before .before .before .before .before .before .before .before .before .before .before .before .before .before .before .before .before .before in let b = s .before .before .before .before in let z = b .before .before .before .before .before .before in (ordered _ _ _ _ (z .pre .0) _ (b .blank-at .ensures) _ _ _ _ (s .sections .ensures .0) (s .sections .ensures .1) (s .sections .ensures .2), rules-fit _ _ _ _ (z .pre .0) _ (z .pre .1)))
     (λ c κs. let r = c .before .before .before .before .before .before .before .before .before in let s = r .before .before .before .before .before .before .before .before .before .before .before in let z = s .before .before .before .before .before .before .before .before .before .before in head-room _ _ _ _ (z .pre .0) _ _ (s .sections .ensures .1) (r .rules .kept .0))
-    (λ c. let r = c .before .before .before .before .before .before .before .before .before .before in let s = r .before .before .before .before .before .before .before .before .before .before .before in r .rules .kept .0 ∙ s .sections .ensures .1)
-    (λ c. let r = c .before .before .before .before .before .before .before .before .before .before in let s = r .before .before .before .before .before .before .before .before .before .before .before in stored-length _ _ _ _ _ (r .rules .ensures .1) ∙ sheet-long _ _ _ _ (s .sections .ensures .2))
-    (λ c. let m = c .before in let f = m .before .before .before in let r = f .before .before .before .before .before .before in let i = r .before .before .before in let s = i .before .before .before .before .before .before .before .before in let b = s .before .before .before .before in let z = b .before .before .before .before .before .before in λ l. whole _ _ _ _ (z .pre .0) _ (b .blank-at .ensures) _ _ _ _ (s .sections .ensures .0) (s .sections .ensures .1) (s .sections .ensures .2) (z .pre .2) _ (s .sections .ensures .3) (i .if1 .left) _ _ (r .rules .ensures .1) _ (z .pre .1) _ (r .rules .ensures .0) _ _ _ (f .first-state .ensures) (m .counts .ensures) (c .head .ensures) l))
+    (λ c κs. let r = c .before .before .before .before .before .before .before .before .before .before .before in let i = r .before .before .before in let s = i .before .before .before .before .before .before .before .before in let b = s .before .before .before .before in let z = b .before .before .before .before .before .before in clear-room _ _ _ _ (z .pre .0) _ (b .blank-at .ensures) _ _ _ _ (s .sections .ensures .0) (s .sections .ensures .1) (s .sections .ensures .2) _ (s .sections .ensures .3) (i .if1 .left) _ _ (r .rules .ensures .1))
+    (λ c. let r = c .before .before .before .before .before .before .before .before .before .before .before .before .before .before in let s = r .before .before .before .before .before .before .before .before .before .before .before in r .rules .kept .0 ∙ s .sections .ensures .1)
+    (λ c. let k = c .before .before in let r = k .before .before .before .before .before .before .before .before .before .before .before .before in let s = r .before .before .before .before .before .before .before .before .before .before .before in k .clear-from .kept .0 ∙ stored-length _ _ _ _ _ (r .rules .ensures .1) ∙ sheet-long _ _ _ _ (s .sections .ensures .2))
+    (λ c. let k = c .before .before in let h = k .before .before in let m = h .before in let f = m .before .before .before in let r = f .before .before .before .before .before .before in let i = r .before .before .before in let s = i .before .before .before .before .before .before .before .before in let b = s .before .before .before .before in let z = b .before .before .before .before .before .before in λ l. whole _ _ _ _ (z .pre .0) _ (b .blank-at .ensures) _ _ _ _ (s .sections .ensures .0) (s .sections .ensures .1) (s .sections .ensures .2) _ (s .sections .ensures .3) (i .if1 .left) _ _ (r .rules .ensures .1) _ (z .pre .1) _ (r .rules .ensures .0) _ _ _ (f .first-state .ensures) (m .counts .ensures) (h .head .ensures) _ (k .clear-from .ensures) l))

@@ -1,0 +1,19 @@
+-- `reader::written::clear_from` meets its contract: the part from the index to the end is cleared.
+use borrow.Author.Needs.{needs}
+use Rattle.reader.proofs.SheetLaws.{cleared-from}
+use Rattle.reader.proofs.written.clear_from.Statement.{statement}
+use Rattle.reader.proofs.written.clear_from.Tie as tie
+
+ruleset laws = (needs, cleared-from)
+
+pub clear-from-spec : {M : Type 1} → statement M
+clear-from-spec =
+    tie.close
+    (tie.spec
+    (λ c. search laws)
+    (λ c. search laws)
+    (λ c. search laws)
+    (λ c. search laws)
+    (λ c κs. search laws)
+    (λ c. search laws)
+    (λ c. search laws))
