@@ -14,18 +14,17 @@ use diagnostics::Search;
 use reader::written;
 
 // Enters an admitted text: its tokens stand in work, its lines are assembled, and the search for its diagnostics is at its beginning.
-pub fn enter(text: &[u8], work: &mut [u32], sheet: &mut [u32]) -> Search
+pub fn enter(text: &[u8], work: &mut [u32]) -> Search
     requires { ⌜ refusalOf (now text) (length (now work)) ≡ none ⌝ }
-    ensures { λ s. ⌜ Begun (now (text .entry)) (now (work .exit)) s × (now (sheet .exit) ≡ zeros (length (now (sheet .entry)))) ⌝ }
+    ensures { λ s. ⌜ Begun (now (text .entry)) (now (work .exit)) s ⌝ }
 {
-    diag::clear(sheet);
     let count = lexer::tokenize(text, work);
     diagnostics::start(text, work, count)
 }
 
-// The machine of a text without diagnostics in a cleared sheet.
+// The machine of a text without diagnostics.
 pub fn machine(text: &[u8], work: &mut [u32], s: Search, sheet: &mut [u32]) -> Answer
-    requires { ⌜ Begun (now text) (now work) s × (s .errors ≡ 0) × (now sheet ≡ zeros (length (now sheet))) ⌝ }
+    requires { ⌜ Begun (now text) (now work) s × (s .errors ≡ 0) ⌝ }
     ensures { λ r. ⌜ ((n : ℕ) → readIn r (zeros n) (now (sheet .exit)) ≡ readMachine (linesOf (now (text .entry))) n (length (now (sheet .entry)))) ⌝ }
 {
     let first = s.first;

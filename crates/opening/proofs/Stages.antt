@@ -61,25 +61,24 @@ module _ (t w : List ℕ) (n : ℕ) (sheet : List ℕ) where
     pub admits : a ≡ Admitted → refusalOf t (length w) ≡ none
     admits g = sym e ∙ ap admissionIn g
 
-  module _ (a : refusalOf t (length w) ≡ none) (w₁ sheet₁ : List ℕ) (s : Search) (b : Begun t w₁ s) (z : sheet₁ ≡ zeros (length sheet)) where
+  module _ (a : refusalOf t (length w) ≡ none) (w₁ : List ℕ) (s : Search) (b : Begun t w₁ s) where
     -- a machine, or row 6
-    pub opens-machine : s .errors < 1 → (x : Answer) (w₂ sheet₂ : List ℕ) → ((k : ℕ) → R.readIn x (zeros k) sheet₂ ≡ readMachine (linesOf t) k (length sheet₁)) → Opens t w n sheet w₂ sheet₂ (opened x s 0)
+    pub opens-machine : s .errors < 1 → (x : Answer) (w₂ sheet₂ : List ℕ) → ((k : ℕ) → R.readIn x (zeros k) sheet₂ ≡ readMachine (linesOf t) k (length sheet)) → Opens t w n sheet w₂ sheet₂ (opened x s 0)
     opens-machine few x w₂ sheet₂ m =
-        let long : length sheet₁ ≡ length sheet = ap length z ∙ length-replicate (length sheet) 0 in
         record {
           answers = λ log same.
               ap (λ (l : List Diagnostic). readIn x l sheet₂) (sym (nothing-reported (pending t w₂ s) 0 (length log) (omega arith)))
-              ∙ machine-read t (length w) log sheet a (none-found t w₁ s b (none-counted (s .errors) few)) x sheet₂ (λ k. m k ∙ ap (readMachine (linesOf t) k) long);
+              ∙ machine-read t (length w) log sheet a (none-found t w₁ s b (none-counted (s .errors) few)) x sheet₂ m;
           reports = λ found. absurd (not-suc-le-zero found);
-          leaves = λ h. absurd (false≢true (sym (machine-work x (linesOf t) sheet₂ (length sheet₁) m) ∙ h));
+          leaves = λ h. absurd (false≢true (sym (machine-work x (linesOf t) sheet₂ (length sheet) m) ∙ h));
         }
 
     abbrev c : ℕ
     c = s .errors
 
     -- row 5
-    pub opens-too-many : 1 ≤ c → n < c → (x : Answer) → R.replyIn x ≡ refused (logTooShort c) → Opens t w n sheet w₁ sheet₁ (opened x s 0)
-    opens-too-many found many x q = record {
+    pub opens-too-many : (sheet₁ : List ℕ) → sheet₁ ≡ zeros (length sheet) → 1 ≤ c → n < c → (x : Answer) → R.replyIn x ≡ refused (logTooShort c) → Opens t w n sheet w₁ sheet₁ (opened x s 0)
+    opens-too-many sheet₁ z found many x q = record {
       answers = λ log same.
           ap (λ (l : List Diagnostic). readIn x l sheet₁) (sym (nothing-reported (pending t w₁ s) 0 (length log) (omega arith)))
           ∙ ap (readIn x (replicate (length log) unused)) z ∙ too-many t (length w) log sheet a c (b .errors) (omega (arith, found)) (omega (arith, many, same)) x q;
@@ -88,9 +87,9 @@ module _ (t w : List ℕ) (n : ℕ) (sheet : List ℕ) where
     }
 
     -- diagnostics that the log holds
-    pub opens-diagnosed : 1 ≤ c → c ≤ n → (x : Answer) → R.replyIn x ≡ diagnosed c → Opens t w n sheet w₁ sheet₁ (opened x s c)
+    pub opens-diagnosed : (sheet₁ : List ℕ) → sheet₁ ≡ zeros (length sheet) → 1 ≤ c → c ≤ n → (x : Answer) → R.replyIn x ≡ diagnosed c → Opens t w n sheet w₁ sheet₁ (opened x s c)
     unfolding recordsOf
-    opens-diagnosed found fits x q =
+    opens-diagnosed sheet₁ z found fits x q =
         let ds : List Diagnostic = recordsOf (diagnosticsOf (linesOf t)) in
         let counted : c ≡ length ds = b .errors ∙ sym (length-map (diagnosticsOf (linesOf t)) recordOf) in
         let whole : take c (pending t w₁ s) ≡ ds = ap (take c) (b .whole) ∙ ap (λ (k : ℕ). take k ds) counted ∙ take-all ds in

@@ -48,7 +48,7 @@ fn admitted(text: &[u8], work: &mut [u32], records: usize, sheet: &mut [u32]) ->
     requires { ⌜ refusalOf (now text) (length (now work)) ≡ none ⌝ }
     ensures { λ o. ⌜ Opens (now (text .entry)) (now (work .entry)) records (now (sheet .entry)) (now (work .exit)) (now (sheet .exit)) o ⌝ }
 {
-    let search = enter::enter(text, work, sheet);
+    let search = enter::enter(text, work);
     let found = search.errors;
     if found < 1 {
         let answer = enter::machine(text, work, search, sheet);
@@ -59,6 +59,7 @@ fn admitted(text: &[u8], work: &mut [u32], records: usize, sheet: &mut [u32]) ->
             answer,
         };
     }
+    diag::clear(sheet);
     if records < found {
         let answer = enter::refused(found);
         return Opened {

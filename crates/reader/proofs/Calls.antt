@@ -79,10 +79,6 @@ report-work x n k e = ap untouched e ∙ report-touches n k
 pub machine-work : (x : Answer) (ls : List (Line Span)) (sheet : List ℕ) (k : ℕ) → ((n : ℕ) → readIn x (zeros n) sheet ≡ readMachine ls n k) → untouched (replyIn x) ≡ false
 machine-work x ls sheet k e = ap (λ (o : ReadOutcome). untouched (o .reply)) (e 0) ∙ machine-touches ls 0 k
 
--- a row of zeros
-pub zeros-again : (s s₀ : List ℕ) → s ≡ replicate (length s₀) 0 → s ≡ zeros (length s)
-zeros-again s s₀ e = e ∙ ap (λ (k : ℕ). replicate k 0) (sym (ap length e ∙ length-replicate (length s₀) 0))
-
 -- an answer that changes work is none that leaves it
 pub never : (x : Answer) (w w′ : List ℕ) → untouched (replyIn x) ≡ false → untouched (replyIn x) ≡ true → w′ ≡ w
 never x w w′ e f = absurd (false≢true (sym e ∙ f))

@@ -8,7 +8,7 @@ pub machine-spec : {M : Type 1} → statement M
 machine-spec =
     tie.close
     (tie.spec
-    (λ c κs. (search (needs, machine-ready), search needs, search needs))
+    (λ c κs. (search (needs, machine-ready), search needs))
     (λ c. search needs)
     (λ c. search needs)
     (λ c. search needs))
