@@ -2,31 +2,32 @@
 use mathlib.Core.Path.{_≡_, refl, sym, ap, subst, _∙_}
 use mathlib.Core.Bool.{Bool, true, false, cond, _||_}
 use mathlib.Core.Logic.{_⊎_, inl, inr, ⊎-elim}
-use mathlib.Core.List.{List, [], _∷_, _++_, append-nil}
-use Prim.Native.Nat.{ℕ, zero, suc, _+_, _-_, _*_, _≤_, _<_, _^_}
+use mathlib.Core.List.{List, [], _∷_, _++_, append-nil, append-assoc}
+use Prim.Native.Nat.{ℕ, zero, suc, _+_, _-_, _*_, _≤_, _<_, _^_, min}
 use native.Mathlib.Omega.{arith}
 use native.Mathlib.Numerals.{add-one}
 use native.Mathlib.Decide.{decLt}
 use borrow.Author.Tests.{eq-eqb, ne-eqb, eqb-true, lt-ltb, le-ltb}
 use lib.Dec.{eqb, ltb}
 use lib.ListN.{length, getD, take, drop, length-append, drop-of-length-le, length-drop, length-take, List·getD-eq-default}
-use lib.Seq.{sets, drop-cons, drop-drop, take-nil}
+use lib.Seq.{sets, drop-cons, drop-drop, take-add, take-nil}
 use Rattle.diag.specs.declared.Span.{Span}
 use Rattle.language.specs.Infer.{member}
 use Rattle.language.specs.Layout.{flat}
 use Rattle.language.proofs.Counts.{flat-append}
 use Rattle.tokens.specs.declared.Token.{Token}
+use Rattle.tokens.specs.View.{tokenIn}
 use Rattle.parser.specs.Row.{peek, ended}
 use Rattle.parser.specs.Views.{isSymbol}
 use Rattle.assembler.specs.Rows.{rows, placeOf}
 use Rattle.assembler.specs.Entries.{entries}
-use Rattle.assembler.proofs.Rows.{length-rows}
+use Rattle.assembler.proofs.Rows.{length-rows, row-read}
 use Rattle.sheet.specs.Stored.{Stored}
 use Rattle.sheet.specs.Comments.{spanWords}
 use Rattle.sheet.specs.Rules.{resolve}
 use Rattle.sheet.proofs.Writes.{stored-none, stored-as, stored-append, Writing, writing-start, writing-on, written}
 use Rattle.alphabet.specs.Codes.{noted, notedAll, held, Codes, Room}
-use Rattle.alphabet.specs.Symbols.{range, pastComma, symbols, symbolsIn, isBlank, hasBlank, lineRange, rulesSymbols, codesOf}
+use Rattle.alphabet.specs.Symbols.{range, pastComma, quotedPair, symbols, symbolsIn, isBlank, hasBlank, lineRange, rulesSymbols, codesOf}
 use Rattle.alphabet.specs.Alphabets.{listedWords, inferredWords, otherWords, lineCodes, candidates, gammaCodes, declaredGamma, gammaWords, inferredSigma, sigmaWords}
 use Rattle.alphabet.specs.Input.{inputOf}
 use Rattle.alphabet.proofs.CodeLaws.{held-length, held-at, Noting, noting-start, noting-room, noting-on, noting-end, noting-rows}
@@ -72,13 +73,14 @@ other-width blank t = go (eqb (resolve blank t) blank)
     go true = omega arith
     go false = omega arith
 
-one-width : (f : Token → List ℕ) (t : Token) → length (f t) ≤ 3 → length (flat f (symbols (t ∷ []))) ≤ 3
+pub flat-width : (f : Token → List ℕ) → ((t : Token) → length (f t) ≤ 3) → (ts : List Token) → length (flat f (symbols ts)) ≤ 3 * length ts
 unfolding flat symbols
-one-width f t h = go (isSymbol t)
+flat-width f w [] = omega arith
+flat-width f w (t ∷ ts) = go (isSymbol t) (flat-width f w ts)
   where
-    go : (b : Bool) → length (flat f (cond b (t ∷ []) [] ++ [])) ≤ 3
-    go true = omega (arith, length-append (f t) [])
-    go false = omega arith
+    go : (b : Bool) → length (flat f (symbols ts)) ≤ 3 * length ts → length (flat f (cond b (t ∷ []) [] ++ symbols ts)) ≤ 3 * suc (length ts)
+    go true h = omega (arith, length-append (f t) (flat f (symbols ts)), w t)
+    go false h = omega arith
 
 -- ---- commas
 comma-no : (t : Token) → t .kind ≡ 8 → isSymbol t ≡ false
@@ -111,8 +113,90 @@ module _ (ts : List Token) (i r : ℕ) (e : r ≡ pastComma ts i) where
       go false q = inl (e ∙ rw q)
 
   -- the loops over a list that a comma parts: what is left falls
-  pub past-falls : (to j : ℕ) → i ≡ j + 1 → j < to → to - r < to - j
-  past-falls to j g h = ⊎-elim (λ (p : r ≡ i). omega arith) (λ (p : r ≡ i + 1). omega arith) past-cases
+  pub past-falls : (to j k : ℕ) → i ≡ j + 1 → j < to → r ≤ k → to - k < to - j
+  past-falls to j k g h l = ⊎-elim (λ (p : r ≡ i). omega arith) (λ (p : r ≡ i + 1). omega arith) past-cases
+
+  past-near : r ≤ i + 1
+  past-near = ⊎-elim (λ (p : r ≡ i). omega arith) (λ (p : r ≡ i + 1). omega arith) past-cases
+
+-- ---- a quoted character and a comma
+module _ (w : List ℕ) (i : ℕ) (t : Token) (at : t ≡ tokenIn w i) where
+  pub quoted-yes : (u : Token) → t .kind ≡ 2 → u ≡ tokenIn w (i + 1) → eqb (u .kind) 8 ≡ quotedPair w i
+  quoted-yes u q e = let z : eqb (tokenIn w i .kind) 2 ≡ true = ap (λ (t : Token). eqb (t .kind) 2) (sym at) ∙ eq-eqb (t .kind) 2 q in rw z (ap (λ (u : Token). eqb (u .kind) 8) e)
+
+  pub quoted-no : (t .kind ≡ 2 → ⊥) → false ≡ quotedPair w i
+  quoted-no q = let z : eqb (tokenIn w i .kind) 2 ≡ false = ap (λ (t : Token). eqb (t .kind) 2) (sym at) ∙ ne-eqb (t .kind) 2 q in rw z
+
+pair-comma : (count : ℕ) (w : List ℕ) (i : ℕ) → 4 * count ≤ length w → i + 1 < count → quotedPair w i ≡ true → peek (rows count w) (i + 1) .kind ≡ 8
+pair-comma count w i h l e =
+    ap (λ (t : Token). t .kind) (sym (row-read count w (i + 1) (tokenIn w (i + 1)) h l refl)) ∙ eqb-true (tokenIn w (i + 1) .kind) 8 (go (eqb (tokenIn w i .kind) 2) (eqb (tokenIn w (i + 1) .kind) 8) e)
+  where
+    go : (a b : Bool) → cond a b false ≡ true → b ≡ true
+    go true b q = q
+    go false b q = absurd (let n : _≡_ {A = ℕ} 0 1 = cc in omega arith)
+
+-- ---- ranges in two parts
+range-split : (ts : List Token) (i j k : ℕ) → i ≤ j → j - i ≤ k - i → range ts i k ≡ range ts i j ++ range ts j k
+range-split ts i j k h g =
+    let e : k - i ≡ j - i + (k - j) = omega arith in
+    let z : i + (j - i) ≡ j = omega arith in
+    ap (λ (m : ℕ). take m (drop i ts)) e ∙ take-add (j - i) (k - j) (drop i ts)
+    ∙ ap (λ (l : List Token). range ts i j ++ take (k - j) l) (drop-drop (j - i) i ts ∙ ap (λ (m : ℕ). drop m ts) z)
+
+symbols-append : (xs ys : List Token) → symbols (xs ++ ys) ≡ symbols xs ++ symbols ys
+unfolding symbols
+symbols-append [] ys = refl
+symbols-append (t ∷ xs) ys =
+    let l : List Token = cond (isSymbol t) (t ∷ []) [] in
+    ap (λ (r : List Token). l ++ r) (symbols-append xs ys) ∙ sym (append-assoc l (symbols xs) (symbols ys))
+
+words-split : (f : Token → List ℕ) (ts : List Token) (i j k : ℕ) → i ≤ j → j - i ≤ k - i → flat f (symbols (range ts i k)) ≡ flat f (symbols (range ts i j)) ++ flat f (symbols (range ts j k))
+words-split f ts i j k h g =
+    ap (λ (l : List Token). flat f (symbols l)) (range-split ts i j k h g) ∙ ap (flat f) (symbols-append (range ts i j) (range ts j k))
+    ∙ flat-append f (symbols (range ts i j)) (symbols (range ts j k))
+
+words-near : (f : Token → List ℕ) (ts : List Token) (i j : ℕ) (o : List ℕ) (n : ℕ) (o′ : List ℕ) (n′ : ℕ) → ((t : Token) → length (f t) ≤ 3) → i ≤ j → Stored (flat f (symbols (range ts i j))) o n o′ n′ → n′ + 3 * i ≤ n + 3 * j
+words-near f ts i j o n o′ n′ narrow h s = omega (arith, s .behind, flat-width f narrow (range ts i j), length-take (j - i) (drop i ts))
+
+-- ---- a run of symbols, as words f: it has come to the index i
+pub record Running (f : Token → List ℕ) (ts : List Token) (from to : ℕ) (o₀ : List ℕ) (n₀ : ℕ) (o : List ℕ) (n i : ℕ) : Type 0 where
+  pub low : from ≤ i
+  pub high : i - from ≤ to - from
+  pub stored : Stored (flat f (symbols (range ts from i))) o₀ n₀ o n
+  pub near : n + 3 * from ≤ n₀ + 3 * i
+
+pub running-start : (f : Token → List ℕ) (ts : List Token) (from to : ℕ) (o : List ℕ) (n : ℕ) → Running f ts from to o n o n from
+unfolding flat symbols
+running-start f ts from to o n = record {
+  low = omega arith;
+  high = omega arith;
+  stored = stored-none (flat f (symbols (range ts from from))) o n (ap (λ (l : List Token). flat f (symbols l)) (range-none ts from from (omega arith)));
+  near = omega arith;
+}
+
+-- a symbol and a comma
+pub running-on : (f : Token → List ℕ) (count : ℕ) (w : List ℕ) (from to : ℕ) (o₀ : List ℕ) (n₀ : ℕ) (o : List ℕ) (n i : ℕ) → Running f (rows count w) from to o₀ n₀ o n i
+    → ((t : Token) → length (f t) ≤ 3) → 4 * count ≤ length w → (last : ℕ) → last ≡ min count to - 1 → i < last → (b : Bool) → b ≡ quotedPair w i → b ≡ true
+    → (t : Token) (o′ : List ℕ) (n′ : ℕ) → t ≡ tokenIn w i → Stored (flat f (symbols (t ∷ []))) o n o′ n′ → Running f (rows count w) from to o₀ n₀ o′ n′ (i + 2)
+unfolding symbols
+running-on f count w from to o₀ n₀ o n i r narrow room last ends h b pair is t o′ n′ e s =
+    let ts : List Token = rows count w in
+    let at : t ≡ peek ts i = row-read count w i t room (omega arith) e in
+    let comma : peek ts (i + 1) .kind ≡ 8 = pair-comma count w i room (omega arith) (sym pair ∙ is) in
+    let two : symbols (range ts i (i + 2)) ≡ symbols (t ∷ []) =
+    symbols-on ts i (i + 2) (omega arith)
+    ∙ ap (λ (l : List Token). symbols (peek ts i ∷ []) ++ l) (symbols-past ts (i + 1) (i + 2) comma ∙ ap symbols (range-none ts (i + 1 + 1) (i + 2) (omega arith)))
+    ∙ append-nil (symbols (peek ts i ∷ [])) ∙ ap (λ (t : Token). symbols (t ∷ [])) (sym at) in
+    let both : Stored (flat f (symbols (range ts from (i + 2)))) o₀ n₀ o′ n′ =
+    stored-as (flat f (symbols (range ts from (i + 2)))) (flat f (symbols (range ts from i)) ++ flat f (symbols (t ∷ []))) o₀ o′ n₀ n′
+    (words-split f ts from i (i + 2) (r .low) (omega (arith, r .low)) ∙ ap (λ (l : List Token). flat f (symbols (range ts from i)) ++ flat f l) two)
+    (stored-append (flat f (symbols (range ts from i))) (flat f (symbols (t ∷ []))) o₀ o o′ n₀ n n′ (r .stored) s) in
+    record {
+      low = omega (arith, r .low);
+      high = omega (arith, r .low, r .high);
+      stored = both;
+      near = words-near f ts from (i + 2) o₀ n₀ o′ n′ narrow (omega (arith, r .low)) both;
+    }
 
 -- ---- the words f of the symbols of a range: the walk has come to the index i
 pub record Putting (f : Token → List ℕ) (ts : List Token) (from to : ℕ) (o₀ : List ℕ) (n₀ : ℕ) (o : List ℕ) (n i : ℕ) : Type 0 where
@@ -123,18 +207,18 @@ pub putting-start : (f : Token → List ℕ) (ts : List Token) (from to : ℕ) (
 putting-start f ts from to o n = record { writing = writing-start o n (flat f (symbols (range ts from to))); near = omega arith }
 
 module _ (f : Token → List ℕ) (ts : List Token) (from to : ℕ) (o₀ : List ℕ) (n₀ : ℕ) (o : List ℕ) (n i : ℕ) (p : Putting f ts from to o₀ n₀ o n i) where
-  pub putting-on : (t : Token) (o′ : List ℕ) (n′ : ℕ) → length (f t) ≤ 3 → i < to → t ≡ peek ts i → Stored (flat f (symbols (t ∷ []))) o n o′ n′ → Putting f ts from to o₀ n₀ o′ n′ (i + 1)
+  putting-on : (t : Token) (o′ : List ℕ) (n′ : ℕ) → ((t : Token) → length (f t) ≤ 3) → i < to → t ≡ peek ts i → Stored (flat f (symbols (t ∷ []))) o n o′ n′ → Putting f ts from to o₀ n₀ o′ n′ (i + 1)
   putting-on t o′ n′ narrow h e s =
       let ws : List ℕ = flat f (symbols (range ts from to)) in
       let split : flat f (symbols (range ts i to)) ≡ flat f (symbols (t ∷ [])) ++ flat f (symbols (range ts (i + 1) to)) =
       ap (flat f) (symbols-on ts i to h ∙ ap (λ (t : Token). symbols (t ∷ []) ++ symbols (range ts (i + 1) to)) (sym e)) ∙ flat-append f (symbols (t ∷ [])) (symbols (range ts (i + 1) to)) in
       record {
         writing = writing-on (sets o₀ n₀ ws) (n₀ + length ws) o n (flat f (symbols (range ts i to))) (p .writing) (flat f (symbols (t ∷ []))) (flat f (symbols (range ts (i + 1) to))) o′ n′ split s;
-        near = omega (arith, p .near, s .behind, one-width f t narrow);
+        near = omega (arith, p .near, s .behind, flat-width f narrow (t ∷ []));
       }
 
   -- a comma is no symbol
-  pub putting-past : (r : ℕ) → r ≡ pastComma ts i → Putting f ts from to o₀ n₀ o n r
+  putting-past : (r : ℕ) → r ≡ pastComma ts i → Putting f ts from to o₀ n₀ o n r
   unfolding pastComma
   putting-past r e = go (eqb (peek ts i .kind) 8) refl
     where
@@ -152,6 +236,23 @@ module _ (f : Token → List ℕ) (ts : List Token) (from to : ℕ) (o₀ : List
   pub putting-end : to ≤ i → Stored (flat f (symbols (range ts from to))) o₀ n₀ o n
   unfolding flat symbols
   putting-end h = written o₀ n₀ (flat f (symbols (range ts from to))) o n (flat f (symbols (range ts i to))) (p .writing) (ap (λ (l : List Token). flat f (symbols l)) (range-none ts i to h))
+
+-- one symbol, a comma or none behind it, and a run from there on
+module _ (f : Token → List ℕ) (ts : List Token) (from to : ℕ) (o₀ : List ℕ) (n₀ : ℕ) (o : List ℕ) (n i : ℕ) (p : Putting f ts from to o₀ n₀ o n i) (narrow : (t : Token) → length (f t) ≤ 3)
+    (t : Token) (o₁ : List ℕ) (n₁ : ℕ) (h : i < to) (e : t ≡ peek ts i) (s₁ : Stored (flat f (symbols (t ∷ []))) o n o₁ n₁) (k : ℕ) (past : k ≡ pastComma ts (i + 1)) where
+  at-run : Putting f ts from to o₀ n₀ o₁ n₁ k
+  at-run = putting-past f ts from to o₀ n₀ o₁ n₁ (i + 1) (putting-on f ts from to o₀ n₀ o n i p t o₁ n₁ narrow h e s₁) k past
+
+  pub turn-room : to < 2 ^ 32 → n₀ < 2 ^ 63 → n₁ + 3 * to < 2 ^ 64
+  turn-room few low = omega (arith, at-run .near, past-near ts (i + 1) k past)
+
+  pub turn-on : (j : ℕ) (o₂ : List ℕ) (n₂ : ℕ) → k ≤ j → j - k ≤ to - k → Stored (flat f (symbols (range ts k j))) o₁ n₁ o₂ n₂ → Putting f ts from to o₀ n₀ o₂ n₂ j
+  turn-on j o₂ n₂ low high s₂ =
+      let ws : List ℕ = flat f (symbols (range ts from to)) in
+      record {
+        writing = writing-on (sets o₀ n₀ ws) (n₀ + length ws) o₁ n₁ (flat f (symbols (range ts k to))) (at-run .writing) (flat f (symbols (range ts k j))) (flat f (symbols (range ts j to))) o₂ n₂ (words-split f ts k j to low high) s₂;
+        near = omega (arith, at-run .near, words-near f ts k j o₁ n₁ o₂ n₂ narrow low s₂);
+      }
 
 -- ---- the blank among symbols
 module _ (blank : ℕ) (t : Token) (b : Bool) (test : b ≡ isSymbol t) where
@@ -298,15 +399,6 @@ module _ (text : List ℕ) (b blank count : ℕ) (w first : List ℕ) (few : 4 *
     gamma-noted w₂ n₂ c = noting-end b (gammaCodes text blank (rows count w) first) w w₂ n₂ (noting-on b (gammaCodes text blank (rows count w) first) w w₁ n₁ (candidates text blank (rows count w₁) first) [] w₂ n₂ gamma-last c)
 
 -- ---- Γ and Σ in the sheet
-pub flat-width : (f : Token → List ℕ) → ((t : Token) → length (f t) ≤ 3) → (ts : List Token) → length (flat f (symbols ts)) ≤ 3 * length ts
-unfolding flat symbols
-flat-width f w [] = omega arith
-flat-width f w (t ∷ ts) = go (isSymbol t) (flat-width f w ts)
-  where
-    go : (b : Bool) → length (flat f (symbols ts)) ≤ 3 * length ts → length (flat f (cond b (t ∷ []) [] ++ symbols ts)) ≤ 3 * suc (length ts)
-    go true h = omega (arith, length-append (f t) (flat f (symbols ts)), w t)
-    go false h = omega arith
-
 module _ (blank : ℕ) (ts : List Token) (g : ℕ) (t : Token) (end : ℕ) (at : t ≡ peek ts g) (ends : end ≡ t .value) (o : List ℕ) (i : ℕ) where
   ends-is : end ≡ peek ts g .value
   ends-is = ends ∙ ap (λ (t : Token). t .value) at

@@ -5,6 +5,7 @@ use mathlib.Core.List.{List, [], _∷_, _++_, map}
 use lib.Dec.{eqb, ltb}
 use lib.ListN.{length, getD, take, drop}
 use Rattle.tokens.specs.declared.Token.{Token}
+use Rattle.tokens.specs.View.{tokenIn}
 use Rattle.parser.specs.Row.{peek}
 use Rattle.parser.specs.Views.{isSymbol}
 use Rattle.assembler.specs.Entries.{Entry, entries}
@@ -18,6 +19,10 @@ range ts i j = take (j - i) (drop i ts)
 -- the index behind a comma at the index i; i itself where none stands there
 unfoldable pub pastComma : List Token → ℕ → ℕ
 pastComma ts i = cond (eqb (peek ts i .kind) 8) (i + 1) i
+
+-- a quoted character and a comma stand from the index i on in a row of words
+abbrev pub quotedPair : List ℕ → ℕ → Bool
+quotedPair w i = cond (eqb (tokenIn w i .kind) 2) (eqb (tokenIn w (i + 1) .kind) 8) false
 
 -- the blank: U+2423 unless declared, by the line at d; `blank = _` gives U+2423
 unfoldable pub blankOf : List Token → ℕ → ℕ

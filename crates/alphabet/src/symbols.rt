@@ -2,7 +2,7 @@
 ghost use mathlib.Core.Path.{_≡_};
 ghost use mathlib.Core.Bool.{cond};
 ghost use mathlib.Core.List.{[], _∷_};
-ghost use Prim.Native.Nat.{_+_, _*_, _≤_, _<_, _^_};
+ghost use Prim.Native.Nat.{_+_, _*_, _-_, _≤_, _<_, _^_, min};
 ghost use lib.Dec.{eqb};
 ghost use lib.ListN.{length};
 ghost use Rattle.language.specs.Layout.{flat};
@@ -10,7 +10,7 @@ ghost use Rattle.assembler.specs.Rows.{rows};
 ghost use Rattle.sheet.specs.Stored.{Stored};
 ghost use Rattle.sheet.specs.Comments.{spanWords};
 ghost use Rattle.alphabet.specs.Codes.{notedAll, held, Codes, Room};
-ghost use Rattle.alphabet.specs.Symbols.{range, pastComma, symbols, symbolsIn, isBlank, hasBlank, codesOf};
+ghost use Rattle.alphabet.specs.Symbols.{range, pastComma, quotedPair, symbols, symbolsIn, isBlank, hasBlank, codesOf};
 ghost use Rattle.alphabet.specs.Alphabets.{listedWords, inferredWords, otherWords, lineCodes, candidates, gammaCodes, declaredGamma, gammaWords, inferredSigma, sigmaWords};
 use crate::codes;
 use crate::glyphs;
@@ -67,7 +67,71 @@ fn put_symbol(t: Token, blank: u32, out: &mut [u32], at: usize) -> usize
     at
 }
 
-// The symbols from an index to before another.
+// Where a run of symbols ends: the index behind it, and where the sheet goes on.
+pub struct Run {
+    pub next: usize,
+    pub at: usize,
+}
+
+// The last index below two ends; 0 where there is none.
+fn last_below(a: usize, b: usize) -> usize
+    ensures { λ r. ⌜ r ≡ min a b - 1 ⌝ }
+{
+    if a == 0 {
+        return 0;
+    }
+    if a <= b {
+        return a - 1;
+    }
+    if b == 0 {
+        return 0;
+    }
+    b - 1
+}
+
+// Whether a quoted character and a comma stand from an index on.
+fn quoted_pair(work: &[u32], i: usize) -> bool
+    requires { ⌜ 4 * i + 8 ≤ length (now work) ⌝ }
+    ensures { λ r. ⌜ r ≡ quotedPair (now (work .entry)) i ⌝ }
+{
+    let t = tokens::token_at(work, i);
+    if t.kind == kind::QUOTED {
+        let u = tokens::token_at(work, i + 1);
+        return u.kind == kind::COMMA;
+    }
+    false
+}
+
+// Quoted symbols from an index on, each with a comma behind it, while there is room. What is read says only whether to go on, so that no index waits for it.
+fn quoted_run(
+    work: &[u32],
+    count: usize,
+    from: usize,
+    to: usize,
+    blank: u32,
+    out: &mut [u32],
+    at: usize,
+) -> Run
+    requires { ⌜ (4 * count ≤ length (now work)) × (at + 3 * to < 2 ^ 64) ⌝ }
+    ensures { λ r. ⌜ (from ≤ r .next) × (r .next - from ≤ to - from) × Stored (flat (listedWords blank) (symbols (range (rows count (now (work .entry))) from (r .next)))) (now (out .entry)) at (now (out .exit)) (r .at) ⌝ }
+{
+    let last = last_below(count, to);
+    let mut n = at;
+    let mut i = from;
+    while i < last {
+        if !quoted_pair(work, i) {
+            return Run { next: i, at: n };
+        }
+        if out.len() < n + 3 {
+            return Run { next: i, at: n };
+        }
+        n = put_symbol(tokens::token_at(work, i), blank, out, n);
+        i += 2;
+    }
+    Run { next: i, at: n }
+}
+
+// The symbols from an index to before another: each turn takes one of any kind, and the run behind it.
 fn put_range(
     work: &[u32],
     count: usize,
@@ -85,6 +149,9 @@ fn put_range(
     while i < to {
         n = put_symbol(entry::token_at(work, count, i), blank, out, n);
         i = past_comma(work, count, i + 1);
+        let r = quoted_run(work, count, i, to, blank, out, n);
+        i = r.next;
+        n = r.at;
     }
     n
 }
@@ -118,6 +185,35 @@ fn put_other(t: Token, blank: u32, out: &mut [u32], at: usize) -> usize
     at
 }
 
+// Such a run as symbols of Σ, without the blank.
+fn quoted_others(
+    work: &[u32],
+    count: usize,
+    from: usize,
+    to: usize,
+    blank: u32,
+    out: &mut [u32],
+    at: usize,
+) -> Run
+    requires { ⌜ (4 * count ≤ length (now work)) × (at + 3 * to < 2 ^ 64) ⌝ }
+    ensures { λ r. ⌜ (from ≤ r .next) × (r .next - from ≤ to - from) × Stored (flat (otherWords blank) (symbols (range (rows count (now (work .entry))) from (r .next)))) (now (out .entry)) at (now (out .exit)) (r .at) ⌝ }
+{
+    let last = last_below(count, to);
+    let mut n = at;
+    let mut i = from;
+    while i < last {
+        if !quoted_pair(work, i) {
+            return Run { next: i, at: n };
+        }
+        if out.len() < n + 3 {
+            return Run { next: i, at: n };
+        }
+        n = put_other(tokens::token_at(work, i), blank, out, n);
+        i += 2;
+    }
+    Run { next: i, at: n }
+}
+
 // The symbols from an index to before another as those of Σ.
 fn put_others(
     work: &[u32],
@@ -136,6 +232,9 @@ fn put_others(
     while i < to {
         n = put_other(entry::token_at(work, count, i), blank, out, n);
         i = past_comma(work, count, i + 1);
+        let r = quoted_others(work, count, i, to, blank, out, n);
+        i = r.next;
+        n = r.at;
     }
     n
 }
