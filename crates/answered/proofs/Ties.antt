@@ -17,11 +17,12 @@ use Rattle.language.specs.Infer as I
 use Rattle.language.specs.Layout as L
 use Rattle.assembler.specs.Rows.{rows}
 use Rattle.assembler.specs.Entries.{Entry, entries}
-use Rattle.assembler.specs.Feeds.{Fed}
+use Rattle.assembler.specs.Feeds.{Fed, CommentsLast}
 use Rattle.assembler.specs.Declarations.{undeclared, declarations}
 use Rattle.assembler.proofs.Means.{AllMean}
 use Rattle.assembler.proofs.AssembledLaws.{length-entered}
 use Rattle.assembler.proofs.FeedLaws.{entered-fed}
+use Rattle.assembler.proofs.CommentLaws.{tokens-last, entered-last}
 use Rattle.shown.proofs.Shows.{Mentions, Said, Shown}
 use Rattle.shown.proofs.TextShown.{text-shown, text-said, no-rule-errors}
 use Rattle.infer.specs.States.{Scratch, stateSection, finalSection}
@@ -56,6 +57,10 @@ module _ (text : List ℕ) (count : ℕ) (w first : List ℕ) (r : Ready text co
   -- its lines end at their line feeds
   pub fed : Fed (rows count w)
   fed = subst Fed (sym (r .row)) (entered-fed (map tokenOf (tokens (decode text))))
+
+  -- and a comment stands only in front of these
+  pub last : CommentsLast (rows count w)
+  last = subst CommentsLast (sym (r .row)) (entered-last (map tokenOf (tokens (decode text))) (tokens-last (tokens (decode text)) (tokens-lexed text)))
 
   pub scratch : Scratch (length text + 1) count w
   scratch = scratch-of-text text count w few (r .room) (r .names) fed

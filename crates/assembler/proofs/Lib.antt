@@ -19,4 +19,5 @@ pub mod SetsMean
 pub mod NamesMean
 pub mod EntriesMean
 pub mod FeedLaws
+pub mod CommentLaws
 pub mod AssembledLaws

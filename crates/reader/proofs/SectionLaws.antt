@@ -8,7 +8,7 @@ use Rattle.tokens.specs.declared.Token.{Token}
 use Rattle.language.specs.Layout as L
 use Rattle.language.specs.Outcome.{zeros}
 use Rattle.assembler.specs.Rows.{rows}
-use Rattle.assembler.specs.Feeds.{Fed}
+use Rattle.assembler.specs.Feeds.{Fed, CommentsLast}
 use Rattle.sheet.specs.Stored.{Stored}
 use Rattle.sheet.specs.Comments.{textWords, header, trailing}
 use Rattle.sheet.specs.Rules.{ruleLengths}
@@ -23,7 +23,7 @@ use Rattle.answered.specs.Ready.{Ready}
 use Rattle.answered.specs.Sections.{Sections, sectionsOf, joined}
 use Rattle.infer.proofs.Widths.{states-width, finals-width}
 use Rattle.alphabet.proofs.SymbolWidths.{sigma-width, gamma-width}
-use Rattle.answered.proofs.Ties.{few, row-size, fed, scratch, ties}
+use Rattle.answered.proofs.Ties.{few, row-size, fed, last, scratch, ties}
 use Rattle.answered.proofs.Sheets as T
 use Rattle.reader.specs.Sheet.{endsOf, Written}
 
@@ -88,6 +88,9 @@ module _ (text : List ℕ) (count : ℕ) (w first : List ℕ) (r : Ready text co
 
       pub section-fed : Fed (rows count w₂)
       section-fed = subst Fed (sym row₂) (fed text count w first r)
+
+      pub section-last : CommentsLast (rows count w₂)
+      section-last = subst CommentsLast (sym row₂) (last text count w first r)
 
       pub lengths-are : (m : ℕ) → m ≡ ruleLengths (rows count w₂) → m ≡ ruleLengths (rows count w)
       lengths-are m e = e ∙ ap ruleLengths row₂

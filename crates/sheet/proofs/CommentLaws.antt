@@ -1,18 +1,17 @@
 -- Laws of the comments between two indices, and of what is pending.
 use mathlib.Core.Path.{_≡_, refl, sym, ap, subst, _∙_}
-use mathlib.Core.Bool.{Bool, true, false, cond, _&&_}
-use Rattle.chars.proofs.Tests.{and-both}
+use mathlib.Core.Bool.{Bool, true, false, cond}
 use mathlib.Core.List.{List, [], _∷_, _++_, append-assoc}
 use Prim.Native.Nat.{ℕ, zero, suc, _+_, _-_, _*_, _≤_, _<_, _^_, _%_, _/_}
 use native.Mathlib.Omega.{arith}
 use native.Mathlib.Numerals.{add-one}
 use native.Mathlib.Decide.{decLt}
-use borrow.Author.Tests.{le-leb, lt-leb, lt-ltb, le-ltb, eq-eqb, ne-eqb}
+use borrow.Author.Tests.{le-leb, lt-leb, lt-ltb, le-ltb, eq-eqb, ne-eqb, eqb-true}
 use lib.Dec.{eqb, leb, ltb}
 use lib.ListN.{length, getD, take, drop, length-append, length-take, length-drop, drop-of-length-le, List·getD-eq-default}
-use lib.Seq.{sets, drop-cons, take-nil}
+use lib.Seq.{sets, drop-cons, getD-drop, take-nil}
+use Rattle.diag.proofs.Cases.{by-test}
 use Rattle.tokens.specs.declared.Token.{Token}
-use Rattle.tokens.specs.View.{tokenIn}
 use Rattle.parser.specs.Row.{ended, peek}
 use Rattle.parser.specs.Lines.{lineLength}
 use Rattle.diag.specs.declared.Span.{Span}
@@ -20,12 +19,13 @@ use Rattle.language.specs.Layout.{flat}
 use Rattle.language.proofs.Counts.{flat-append}
 use Rattle.assembler.specs.Rows.{rows}
 use Rattle.assembler.specs.Entries.{Entry, entryAt, behind, entriesFrom, entries}
-use Rattle.assembler.specs.Feeds.{AllFed, Fed}
-use Rattle.assembler.proofs.Rows.{length-rows, row-read, entriesAt, entries-step, entries-end, fed-here, fed-on}
+use Rattle.assembler.specs.Feeds.{AllFed, Fed, CommentsLast}
+use Rattle.assembler.proofs.Rows.{length-rows, entriesAt, entries-step, entries-end, fed-here, fed-on}
+use Rattle.assembler.proofs.EntriesMean.{length-by}
 use Rattle.sheet.specs.declared.comments.Pending.{Pending}
 use Rattle.sheet.specs.Comments.{spanWords, textOf, textWords, commentsIn, between, next, nothing, passed, passedAll, leadFrom, headerOf, headerFrom, header, trailing}
 use Rattle.sheet.specs.Stored.{Stored}
-use Rattle.sheet.proofs.Writes.{stored-none, stored-as, stored-length, Writing, writing-start, writing-on, writing-room, written, written-last}
+use Rattle.sheet.proofs.Writes.{stored-none, stored-as, stored-append, stored-length, Writing, writing-start, writing-on, writing-room, written, written-last}
 
 -- ---- one token
 pub text-made : (t : Token) (s : ℕ) → s ≡ (t .start + t .value) % 2 ^ 32 → record { start = s; end = t .end } ≡ textOf t
@@ -154,46 +154,100 @@ module _ (count : ℕ) (work : List ℕ) (from to : ℕ) (o₀ : List ℕ) (at :
   gathered h = written o₀ at all o n (flat textWords (between ts i to)) g (ap (flat textWords) (between-none ts i to h))
 
 -- ---- tokens among which no comment stands
-pub quiet-here : (count : ℕ) (work : List ℕ) (i : ℕ) (t : Token) → 4 * count ≤ length work → i < count → t ≡ tokenIn work i → (t .kind ≡ 12 → ⊥) → true ≡ true → commentsIn (peek (rows count work) i ∷ []) ≡ []
-quiet-here count work i t room h e n _ = ap (λ (t : Token). commentsIn (t ∷ [])) (sym (row-read count work i t room h e)) ∙ comments-no t n
+between-split : (ts : List Token) (n i to : ℕ) → i + n ≤ to → between ts i to ≡ between ts i (i + n) ++ between ts (i + n) to
+between-split ts zero i to h =
+    let z : i + 0 ≡ i = omega arith in
+    ap (λ (k : ℕ). between ts k to) (sym z) ∙ ap (λ (l : List Token). l ++ between ts (i + 0) to) (sym (between-none ts i (i + 0) (omega arith)))
+between-split ts (suc n) i to h =
+    let z : i + 1 + n ≡ i + suc n = omega arith in
+    let c : List Token = commentsIn (peek ts i ∷ []) in
+    between-on ts i to (omega arith) ∙ ap (λ (l : List Token). c ++ l) (between-split ts n (i + 1) to (omega arith) ∙ ap (λ (k : ℕ). between ts (i + 1) k ++ between ts k to) z)
+    ∙ sym (append-assoc c (between ts (i + 1) (i + suc n)) (between ts (i + suc n) to)) ∙ ap (λ (l : List Token). l ++ between ts (i + suc n) to) (sym (between-on ts i (i + suc n) (omega arith)))
 
-pub quiet-not : (ts : List Token) (i : ℕ) → false ≡ true → commentsIn (peek ts i ∷ []) ≡ []
-quiet-not ts i e = cc
+quiet-run : (ts : List Token) (n i to : ℕ) → i + n ≤ to → ((k : ℕ) → k < n → eqb (peek ts (i + k) .kind) 12 ≡ false) → between ts (i + n) to ≡ between ts i to
+unfolding commentsIn
+quiet-run ts zero i to h q = let z : i + 0 ≡ i = omega arith in ap (λ (k : ℕ). between ts k to) z
+quiet-run ts (suc n) i to h q =
+    let z : i + suc n ≡ i + n + 1 = omega arith in
+    let none : commentsIn (peek ts (i + n) ∷ []) ≡ [] = rw (q n (omega arith), commentsIn) in
+    ap (λ (k : ℕ). between ts k to) z ∙ sym (between-on ts (i + n) to (omega arith) ∙ ap (λ (l : List Token). l ++ between ts (i + n + 1) to) none)
+    ∙ quiet-run ts n i to (omega arith) (λ k g. q k (omega arith))
 
-module _ (ts : List Token) (i : ℕ) where
-  quiet-step : (k to : ℕ) → i + k < to → commentsIn (peek ts (i + k) ∷ []) ≡ [] → between ts (i + (k + 1)) to ≡ between ts (i + k) to
-  quiet-step k to h e =
-      let z : i + (k + 1) ≡ i + k + 1 = omega arith in
-      ap (λ (j : ℕ). between ts j to) z ∙ sym (between-on ts (i + k) to h ∙ ap (λ (l : List Token). l ++ between ts (i + k + 1) to) e)
+-- before its line feed a line has none
+no-feed : (ws : List Token) (k : ℕ) → k < lineLength ws → eqb (peek ws k .kind) 13 ≡ false
+unfolding lineLength
+no-feed [] k h = absurd (omega arith)
+no-feed (w ∷ ws) k h = go (eqb (w .kind) 13) refl k h (λ k h. no-feed ws k h)
+  where
+    go : (b : Bool) → eqb (w .kind) 13 ≡ b → (k : ℕ) → k < elim b [ true ↦ 0 | false ↦ suc (lineLength ws) ] → ((k : ℕ) → k < lineLength ws → eqb (peek ws k .kind) 13 ≡ false)
+        → eqb (peek (w ∷ ws) k .kind) 13 ≡ false
+    go true e k h more = absurd (omega arith)
+    go false e zero h more = e
+    go false e (suc k) h more = more k (omega arith)
 
-  pub quiet-all : (a b c d : Bool) → (a ≡ true → commentsIn (peek ts i ∷ []) ≡ []) → (b ≡ true → commentsIn (peek ts (i + 1) ∷ []) ≡ [])
-      → (c ≡ true → commentsIn (peek ts (i + 2) ∷ []) ≡ []) → (d ≡ true → commentsIn (peek ts (i + 3) ∷ []) ≡ [])
-      → ((a && b) && (c && d)) ≡ true → (to : ℕ) → i + 4 ≤ to → between ts (i + 4) to ≡ between ts i to
-  quiet-all a b c d f g h k e to l =
-      let both = and-both _ _ e in
-      let ab = and-both a b (both .0) in
-      let cd = and-both c d (both .1) in
-      let z : i + 0 ≡ i = omega arith in
-      quiet-step 3 to (omega arith) (k (cd .1)) ∙ quiet-step 2 to (omega arith) (h (cd .0)) ∙ quiet-step 1 to (omega arith) (g (ab .1))
-      ∙ quiet-step 0 to (omega arith) (rw z (f (ab .0))) ∙ ap (λ (j : ℕ). between ts j to) z
+-- the line of a declaration has no comment but at its end
+line-quiet : (ts : List Token) (i : ℕ) (t : Token) → t ≡ peek ts i → i < length ts → behind i t ≡ lineLength (drop i ts) → CommentsLast ts → 16 ≤ t .kind
+    → between ts i (t .value) ≡ between ts (t .value - 1) (t .value)
+unfolding behind
+line-quiet ts i t e h f last high = go (lineLength (drop i ts)) refl
+  where
+    reach : behind i t ≡ t .value - i
+    reach = rw (le-leb 16 (t .kind) high)
 
-pub quiet-on : (ts : List Token) (from i to : ℕ) (b : Bool) → ((b ≡ true) → (to : ℕ) → i + 4 ≤ to → between ts (i + 4) to ≡ between ts i to) → b ≡ true → 4 ≤ to - i
-    → between ts i to ≡ between ts from to → between ts (i + 4) to ≡ between ts from to
-quiet-on ts from i to b q e h g = q e to (omega arith) ∙ g
+    some-tokens : lineLength (drop i ts) ≡ 0 → eqb (t .kind) 13 ≡ true
+    some-tokens z = by-test (eqb (t .kind) 13) (λ y. y) λ n.
+        let one : lineLength (t ∷ drop (suc i) ts) ≡ suc (lineLength (drop (suc i) ts)) = length-by t (drop (suc i) ts) false n in
+        let same : drop i ts ≡ t ∷ drop (suc i) ts = drop-cons ts i ended h ∙ ap (λ (t : Token). t ∷ drop (suc i) ts) (sym e) in
+        absurd (omega (arith, ap lineLength same, one, z))
 
--- the walk begins behind them
-pub gather-start : (count : ℕ) (work : List ℕ) (from to : ℕ) (o : List ℕ) (at i : ℕ) → between (rows count work) i to ≡ between (rows count work) from to → Gathering count work from to o at o at i
-gather-start count work from to o at i e =
-    let all : List ℕ = flat textWords (between (rows count work) from to) in
-    subst (λ (l : List Token). Writing (sets o at all) (at + length all) o at (flat textWords l)) (sym e) (writing-start o at all)
+    go : (b : ℕ) → lineLength (drop i ts) ≡ b → between ts i (t .value) ≡ between ts (t .value - 1) (t .value)
+    go zero z = absurd (omega (arith, eqb-true (t .kind) 13 (some-tokens z)))
+    go (suc n) z =
+        let v : t .value - 1 ≡ i + n = omega (arith, f, reach, z) in
+        let free : (k : ℕ) → k < n → eqb (peek ts (i + k) .kind) 12 ≡ false =
+        λ k g. by-test (eqb (peek ts (i + k) .kind) 12)
+        (λ y.
+        let q : suc (i + k) ≡ i + suc k = omega arith in
+        let feed : eqb (peek ts (i + suc k) .kind) 13 ≡ true = ap (λ (j : ℕ). eqb (peek ts j .kind) 13) (sym q) ∙ last (i + k) y in
+        let none : eqb (peek ts (i + suc k) .kind) 13 ≡ false =
+        ap (λ (x : Token). eqb (x .kind) 13) (sym (getD-drop i ts (suc k) ended)) ∙ no-feed (drop i ts) (suc k) (omega (arith, z)) in
+        cc)
+        (λ n. n) in
+        sym (ap (λ (k : ℕ). between ts k (t .value)) v ∙ quiet-run ts n i (t .value) (omega (arith, f, reach, z)) free)
+
+-- the comments before a declaration, and its own
+module _ (ts : List Token) (from i end : ℕ) (h : from ≤ i) (low : i < end) (quiet : between ts i end ≡ between ts (end - 1) end) where
+  declared-split : flat textWords (between ts from end) ≡ flat textWords (between ts from i) ++ flat textWords (between ts (end - 1) end)
+  declared-split =
+      let z : from + (i - from) ≡ i = omega arith in
+      ap (flat textWords) (between-split ts (i - from) from end (omega arith) ∙ ap (λ (k : ℕ). between ts from k ++ between ts k end) z ∙ ap (λ (l : List Token). between ts from i ++ l) quiet)
+      ∙ flat-append textWords (between ts from i) (between ts (end - 1) end)
+
+  declared-length : length (flat textWords (between ts from end)) ≡ length (flat textWords (between ts from i)) + length (flat textWords (between ts (end - 1) end))
+  declared-length = ap length declared-split ∙ length-append (flat textWords (between ts from i)) (flat textWords (between ts (end - 1) end))
+
+  module _ (o : List ℕ) (at : ℕ) (room : at + length (flat textWords (between ts from end)) < 2 ^ 64) where
+    pub before-room : at + length (flat textWords (between ts from i)) < 2 ^ 64
+    before-room = omega (arith, declared-length)
+
+    module _ (o′ : List ℕ) (n : ℕ) (s : Stored (flat textWords (between ts from i)) o at o′ n) where
+      pub own-room : n + length (flat textWords (between ts (end - 1) end)) < 2 ^ 64
+      own-room = omega (arith, declared-length, s .behind)
+
+      pub declared-stored : (o″ : List ℕ) (m : ℕ) → Stored (flat textWords (between ts (end - 1) end)) o′ n o″ m → Stored (flat textWords (between ts from end)) o at o″ m
+      declared-stored o″ m r =
+          let before : List ℕ = flat textWords (between ts from i) in
+          let own : List ℕ = flat textWords (between ts (end - 1) end) in
+          stored-as (flat textWords (between ts from end)) (before ++ own) o o″ at m declared-split (stored-append before own o o′ o″ at n m s r)
 
 -- ---- lines that end at their line feeds, from the index i on
 pub record Feeding (count : ℕ) (work : List ℕ) (i : ℕ) : Type 0 where
   pub fed : AllFed (entriesAt (rows count work) i)
+  pub last : CommentsLast (rows count work)
 
-pub feeding-start : (count : ℕ) (work : List ℕ) → Fed (rows count work) → Feeding count work 0
+pub feeding-start : (count : ℕ) (work : List ℕ) → Fed (rows count work) → CommentsLast (rows count work) → Feeding count work 0
 unfolding entries
-feeding-start count work f = record { fed = f }
+feeding-start count work f l = record { fed = f; last = l }
 
 module _ (count : ℕ) (work : List ℕ) (i : ℕ) (f : Feeding count work i) (room : 4 * count ≤ length work) (h : i < count) (t : Token) (e : t ≡ peek (rows count work) i) where
   here-below : i < length (rows count work)
@@ -203,10 +257,14 @@ module _ (count : ℕ) (work : List ℕ) (i : ℕ) (f : Feeding count work i) (r
   pub feeding-here : behind i t ≡ lineLength (drop i (rows count work))
   feeding-here = fed-here (rows count work) i (f .fed) here-below t e
 
+  -- the line of a declaration has no comment but at its end
+  pub feeding-quiet : 16 ≤ t .kind → between (rows count work) i (t .value) ≡ between (rows count work) (t .value - 1) (t .value)
+  feeding-quiet high = line-quiet (rows count work) i t e here-below feeding-here (f .last) high
+
   pub feeding-on : (j : ℕ) → j ≡ i + 1 + behind i t → Feeding count work j
   feeding-on j z =
       let next : i + 1 + behind i (peek (rows count work) i) ≡ j = ap (λ (t : Token). i + 1 + behind i t) (sym e) ∙ sym z in
-      record { fed = subst (λ (j : ℕ). AllFed (entriesAt (rows count work) j)) next (fed-on (rows count work) i (f .fed) here-below) }
+      record { fed = subst (λ (j : ℕ). AllFed (entriesAt (rows count work) j)) next (fed-on (rows count work) i (f .fed) here-below); last = f .last }
 
 -- ---- what is pending
 module _ (p : Pending) (i : ℕ) (t : Token) (j : ℕ) (behind-it : j ≡ next i t) where
@@ -231,6 +289,11 @@ unfolding leadFrom
 lead-block p h = rw h
 
 -- ---- the header comments of one line
+-- what is known of the line of a declaration, by its line feed's index e
+pub quiet-same : (ts : List Token) (t : Token) (j e : ℕ) → e ≡ t .value → 16 ≤ t .kind → (16 ≤ t .kind → between ts j (t .value) ≡ between ts (t .value - 1) (t .value))
+    → between ts j e ≡ between ts (e - 1) e
+quiet-same ts t j e q h f = subst (λ (e : ℕ). between ts j e ≡ between ts (e - 1) e) (sym q) (f h)
+
 module _ (ts : List Token) (p : Pending) (t : Token) where
   header-other : t .kind < 16 → headerOf ts p t ≡ []
   unfolding headerOf

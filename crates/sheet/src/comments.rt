@@ -1,14 +1,12 @@
 // Comments: header, trailing, and where those that lead a rule begin.
 ghost use mathlib.Core.Path.{_≡_};
-ghost use Prim.Native.Nat.{ℕ, _+_, _*_, _≤_, _<_, _^_};
+ghost use Prim.Native.Nat.{_+_, _-_, _*_, _≤_, _<_, _^_};
 ghost use lib.ListN.{length};
 ghost use Rattle.language.specs.Layout.{flat};
 ghost use Rattle.assembler.specs.Rows.{rows};
 ghost use mathlib.Core.List.{[], _∷_};
-ghost use mathlib.Core.Bool.{true};
-ghost use Rattle.parser.specs.Row.{peek};
 ghost use Rattle.assembler.specs.Entries.{entries};
-ghost use Rattle.assembler.specs.Feeds.{Fed};
+ghost use Rattle.assembler.specs.Feeds.{Fed, CommentsLast};
 ghost use Rattle.sheet.specs.Stored.{Stored};
 ghost use Rattle.sheet.specs.Comments.{textOf, textWords, commentsIn, between, nothing, passed, passedAll, leadFrom, headerOf, header, trailing};
 ghost use Rattle.sheet.specs.Rules.{ruleLengths};
@@ -56,48 +54,6 @@ fn comment(t: Token, out: &mut [u32], at: usize) -> usize
     at
 }
 
-// Whether the token at an index is no comment.
-fn is_quiet(work: &[u32], count: usize, i: usize) -> bool
-    requires { ⌜ (4 * count ≤ length (now work)) × (i < count) ⌝ }
-    ensures { λ r. ⌜ (r ≡ true → commentsIn (peek (rows count (now (work .entry))) i ∷ []) ≡ []) ⌝ }
-{
-    let t = tokens::token_at(work, i);
-    if t.kind == kind::COMMENT {
-        return false;
-    }
-    true
-}
-
-// Whether none of the four tokens at an index is one; no early exit, so that they are looked at at once.
-fn quiet_four(work: &[u32], count: usize, i: usize) -> bool
-    requires { ⌜ (4 * count ≤ length (now work)) × (i + 4 ≤ count) ⌝ }
-    ensures { λ r. ⌜ (r ≡ true → (to : ℕ) → i + 4 ≤ to → between (rows count (now (work .entry))) (i + 4) to ≡ between (rows count (now (work .entry))) i to) ⌝ }
-{
-    (is_quiet(work, count, i) & is_quiet(work, count, i + 1))
-        & (is_quiet(work, count, i + 2) & is_quiet(work, count, i + 3))
-}
-
-// An index to which no comment stands from another on, both to before `to`: a long declaration has one at its end, if any.
-fn quiet_part(work: &[u32], count: usize, from: usize, to: usize) -> usize
-    requires { ⌜ 4 * count ≤ length (now work) ⌝ }
-    ensures { λ r. ⌜ between (rows count (now (work .entry))) r to ≡ between (rows count (now (work .entry))) from to ⌝ }
-{
-    let mut i = from;
-    if to <= from {
-        return i;
-    }
-    if count < to {
-        return i;
-    }
-    while 4 <= to - i {
-        if !quiet_four(work, count, i) {
-            return i;
-        }
-        i += 4;
-    }
-    i
-}
-
 // The comments from the index `from` to before `to`: stored from the index `at` on where there is room, and the index behind them.
 pub fn comments(
     work: &[u32],
@@ -111,7 +67,7 @@ pub fn comments(
     ensures { λ r. ⌜ Stored (flat textWords (between (rows count (now (work .entry))) from to)) (now (out .entry)) at (now (out .exit)) r ⌝ }
 {
     let mut n = at;
-    let mut i = quiet_part(work, count, from, to);
+    let mut i = from;
     while i < to {
         let t = entry::token_at(work, count, i);
         n = comment(t, out, n);
@@ -162,9 +118,41 @@ pub fn lead_from(p: Pending) -> usize
     p.block
 }
 
-// The header comments of the line that begins with the token t.
-fn header_of(work: &[u32], count: usize, p: Pending, t: Token, out: &mut [u32], at: usize) -> usize
-    requires { ⌜ (4 * count ≤ length (now work)) × (at + length (flat textWords (headerOf (rows count (now work)) p t)) < 2 ^ 64) ⌝ }
+// The comments from the index `from` to before the line feed, at the index `end`, of a declaration that begins at the index i. Its line has none but
+// at its end, so a long one is not gone over.
+fn declared(
+    work: &[u32],
+    count: usize,
+    from: usize,
+    i: usize,
+    end: usize,
+    out: &mut [u32],
+    at: usize,
+) -> usize
+    requires { ⌜ (4 * count ≤ length (now work)) × (at + length (flat textWords (between (rows count (now work)) from end)) < 2 ^ 64) × (between (rows count (now work)) i end ≡ between (rows count (now work)) (end - 1) end) ⌝ }
+    ensures { λ r. ⌜ Stored (flat textWords (between (rows count (now (work .entry))) from end)) (now (out .entry)) at (now (out .exit)) r ⌝ }
+{
+    if i < from {
+        return comments(work, count, from, end, out, at);
+    }
+    if end <= i {
+        return comments(work, count, from, end, out, at);
+    }
+    let n = comments(work, count, from, i, out, at);
+    comments(work, count, end - 1, end, out, n)
+}
+
+// The header comments of the line that begins with the token t at the index i.
+fn header_of(
+    work: &[u32],
+    count: usize,
+    p: Pending,
+    i: usize,
+    t: Token,
+    out: &mut [u32],
+    at: usize,
+) -> usize
+    requires { ⌜ (4 * count ≤ length (now work)) × (at + length (flat textWords (headerOf (rows count (now work)) p t)) < 2 ^ 64) × (16 ≤ t .kind → between (rows count (now work)) i (t .value) ≡ between (rows count (now work)) (t .value - 1) (t .value)) ⌝ }
     ensures { λ r. ⌜ Stored (flat textWords (headerOf (rows count (now (work .entry))) p t)) (now (out .entry)) at (now (out .exit)) r ⌝ }
 {
     if t.kind < entry::ITEM {
@@ -172,7 +160,7 @@ fn header_of(work: &[u32], count: usize, p: Pending, t: Token, out: &mut [u32], 
     }
     if t.kind < entry::ITEM + TRANSITION {
         let end = entry::wide(t.value);
-        return comments(work, count, p.from, end, out, at);
+        return declared(work, count, p.from, i, end, out, at);
     }
     if t.kind == entry::ITEM + TRANSITION {
         if p.seen {
@@ -192,7 +180,7 @@ pub struct Headed {
 
 // The header comments of a row, and in the same walk over its lines the number of its rules' words.
 pub fn header(work: &[u32], count: usize, out: &mut [u32], at: usize) -> Headed
-    requires { ⌜ (4 * count ≤ length (now work)) × (count < 2 ^ 32) × (at + length (flat textWords (header (rows count (now work)))) < 2 ^ 64) × (ruleLengths (rows count (now work)) < 2 ^ 64) × Fed (rows count (now work)) ⌝ }
+    requires { ⌜ (4 * count ≤ length (now work)) × (count < 2 ^ 32) × (at + length (flat textWords (header (rows count (now work)))) < 2 ^ 64) × (ruleLengths (rows count (now work)) < 2 ^ 64) × Fed (rows count (now work)) × CommentsLast (rows count (now work)) ⌝ }
     ensures { λ r. ⌜ (Stored (flat textWords (header (rows count (now (work .entry))))) (now (out .entry)) at (now (out .exit)) (r .end)) × (r .left ≡ passedAll nothing (entries (rows count (now (work .entry))))) × (r .rules ≡ ruleLengths (rows count (now (work .entry)))) ⌝ }
 {
     let mut p = NOTHING;
@@ -201,7 +189,7 @@ pub fn header(work: &[u32], count: usize, out: &mut [u32], at: usize) -> Headed
     let mut i = 0;
     while i < count {
         let t = entry::token_at(work, count, i);
-        n = header_of(work, count, p, t, out, n);
+        n = header_of(work, count, p, i, t, out, n);
         m += lengths::line_length(work, count, p, i, t);
         p = passed(p, t, i);
         i = entry::behind_line(work, count, i, t);

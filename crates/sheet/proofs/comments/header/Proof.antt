@@ -7,7 +7,7 @@ use Rattle.assembler.specs.Entries.{entries}
 use Rattle.assembler.proofs.Rows.{entriesAt}
 use Rattle.sheet.specs.Comments.{nothing, passedAll}
 use Rattle.sheet.proofs.Writes.{writing-same}
-use Rattle.sheet.proofs.CommentLaws.{Feeding, feeding-start, feeding-here, feeding-on, Heading, heading-start, heading-room, heading-on, heading-seen, heading-rest, heading-last, heading-length, pending-start, pending-on, pending-end}
+use Rattle.sheet.proofs.CommentLaws.{Feeding, feeding-start, feeding-here, feeding-quiet, feeding-on, Heading, heading-start, heading-room, heading-on, heading-seen, heading-rest, heading-last, heading-length, pending-start, pending-on, pending-end}
 use Rattle.sheet.proofs.RowLaws.{Adding, adding-start, adding-fits, adding-on, added}
 use Rattle.sheet.proofs.comments.header.Statement.{statement}
 use Rattle.sheet.proofs.comments.header.Tie as tie
@@ -19,7 +19,7 @@ Inv-loop work count out₀ at p₀ n₀ m₀ i₀ out p n m i =
 abbrev μ-loop : tie.MeasureT-loop
 μ-loop work count out₀ at p₀ n₀ m₀ i₀ out p n m i = count - i
 
-ruleset laws = (needs, feeding-start, feeding-here, feeding-on, writing-same, heading-start, heading-room, heading-on, heading-seen, heading-rest, heading-last, heading-length, pending-start, pending-on, pending-end, adding-start, adding-fits, adding-on, added)
+ruleset laws = (needs, feeding-start, feeding-here, feeding-quiet, feeding-on, writing-same, heading-start, heading-room, heading-on, heading-seen, heading-rest, heading-last, heading-length, pending-start, pending-on, pending-end, adding-start, adding-fits, adding-on, added)
 
 pub header-spec : {M : Type 1} → statement M
 header-spec =
