@@ -1,3 +1,4 @@
 pub mod NameLaws
 pub mod IndexLaws
 pub mod OrderLaws
+pub mod RisingLaws

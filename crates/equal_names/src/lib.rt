@@ -396,6 +396,17 @@ fn by_table(
     index(text, work, count, a, b, letters, span, window)
 }
 
+// The row of first equal words where they stand in order, or else by a small table; false where a window of that is full.
+fn soon(text: &[u8], work: &mut [u32], count: usize, a: usize, b: usize, size: usize) -> bool
+    requires { ⌜ (4 * count ≤ a) × (a + count ≤ b) × (b + size ≤ length (now work)) × (128 ≤ size) × (count < 2 ^ 31) ⌝ }
+    ensures { λ r. ⌜ Tried (Interned (now (text .entry)) (rows count (now (work .entry))) a (now (work .exit))) a (now (work .entry)) (now (work .exit)) r ⌝ }
+{
+    if order::rising(text, work, count, a) {
+        return true;
+    }
+    by_table(text, work, count, a, b, size, SMALL, SMALL_WINDOW)
+}
+
 // The row of first equal words without a table: by sorting them, or by a search of each where there are fewer free words than tokens, as no caller has it.
 fn without_table(text: &[u8], work: &mut [u32], count: usize, a: usize, b: usize, size: usize)
     requires { ⌜ (4 * count ≤ a) × (a + count ≤ b) × (b + size ≤ length (now work)) × (count < 2 ^ 31) ⌝ }
@@ -407,8 +418,8 @@ fn without_table(text: &[u8], work: &mut [u32], count: usize, a: usize, b: usize
     order::by_order(text, work, count, a, b);
 }
 
-// The row of first equal words, from the word a on; `size` words from b on are free. Few names find room in a small table, which is soon emptied;
-// others in one that has two slots for each token, where there are so many words.
+// The row of first equal words, from the word a on; `size` words from b on are free. Names in order need no table; few find room in a small one, which
+// is soon emptied; others in one that has two slots for each token, where there are so many words.
 pub fn intern(text: &[u8], work: &mut [u32], count: usize, a: usize, b: usize, size: usize)
     requires { ⌜ (4 * count ≤ a) × (a + count ≤ b) × (b + size ≤ length (now work)) × (0 < size) × (count < 2 ^ 31) ⌝ }
     ensures { λ _. ⌜ Kept a (now (work .entry)) (now (work .exit)) × Interned (now (text .entry)) (rows count (now (work .entry))) a (now (work .exit)) ⌝ }
@@ -416,7 +427,7 @@ pub fn intern(text: &[u8], work: &mut [u32], count: usize, a: usize, b: usize, s
     if size < LEAST {
         return without_table(text, work, count, a, b, size);
     }
-    if by_table(text, work, count, a, b, size, SMALL, SMALL_WINDOW) {
+    if soon(text, work, count, a, b, size) {
         return;
     }
     if by_table(text, work, count, a, b, size, 2 * count + SMALL, WINDOW) {
