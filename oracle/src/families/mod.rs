@@ -5,6 +5,7 @@ mod examples;
 mod filled;
 mod grammar;
 pub mod limits;
+mod long;
 mod random;
 mod short;
 mod soup;
@@ -40,10 +41,14 @@ pub enum Family {
     Spliced,
     /// Texts of many names that are alike.
     Named,
+    /// Long lists of states in order and of quoted symbols.
+    Listed,
+    /// Texts of many lines.
+    Large,
 }
 
 impl Family {
-    pub const ALL: [Self; 12] = [
+    pub const ALL: [Self; 14] = [
         Self::Grammar,
         Self::Damaged,
         Self::Soup,
@@ -56,6 +61,8 @@ impl Family {
         Self::Filled,
         Self::Spliced,
         Self::Named,
+        Self::Listed,
+        Self::Large,
     ];
 
     /// Those of which answers are stored for the gate.
@@ -83,6 +90,8 @@ impl Family {
             Self::Filled => "filled",
             Self::Spliced => "spliced",
             Self::Named => "named",
+            Self::Listed => "listed",
+            Self::Large => "large",
         }
     }
 
@@ -107,6 +116,8 @@ impl Family {
             Self::Filled => filled::text(&mut self.random(index, seed)).into_bytes(),
             Self::Spliced => spliced::spliced(&mut self.random(index, seed)),
             Self::Named => spliced::named(&mut self.random(index, seed)),
+            Self::Listed => long::listed(&mut self.random(index, seed)),
+            Self::Large => long::large(&mut self.random(index, seed)),
         }
     }
 
@@ -127,7 +138,8 @@ impl Family {
             Self::Short | Self::Lines => 15,
             Self::Limits => 100,
             Self::Changed | Self::Joined | Self::Odd | Self::Filled | Self::Spliced => 10,
-            Self::Named => 1,
+            Self::Named | Self::Listed => 1,
+            Self::Large => 0,
         }
     }
 
