@@ -16,7 +16,7 @@ use sides::{Bench, Expected, Kept, Side};
 
 /// The least time that is measured for a text, and the least number of rounds.
 const BUDGET: Duration = Duration::from_millis(300);
-const ROUNDS: usize = 5;
+const ROUNDS: usize = 9;
 /// A text whose round takes longer is run once.
 const SLOW: Duration = Duration::from_secs(3);
 /// A size is left out if a call would take longer, were its time to grow with the square of the size.
