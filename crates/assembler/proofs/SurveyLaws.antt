@@ -1,8 +1,11 @@
 -- Laws of the walk that counts: what a log is given is what it counts, and the counts so far with those of the lines from here on are those of all lines.
 use mathlib.Core.Path.{_≡_, refl, sym, ap, subst, _∙_}
+use mathlib.Core.Bool.{false}
 use mathlib.Core.List.{List, [], _∷_, _++_}
 use Prim.Native.Nat.{ℕ, zero, suc, _+_, _-_, _*_, _≤_, _<_}
 use native.Mathlib.Omega.{arith}
+use borrow.Author.Tests.{lt-leb, ne-eqb}
+use lib.Dec.{leb}
 use lib.ListN.{length, drop, length-append}
 use Rattle.diag.specs.declared.Span.{Span}
 use Rattle.diag.specs.declared.Diagnostic.{Diagnostic}
@@ -13,12 +16,13 @@ use Rattle.parser.specs.Row.{peek}
 use Rattle.parser.specs.Lines.{lineLength}
 use Rattle.assembler.specs.declared.rules.Tally.{Tally}
 use Rattle.assembler.specs.declared.rules.Verdict.{Verdict}
+use Rattle.assembler.specs.declared.rules.Verdict.the-variants.{Other}
 use Rattle.assembler.specs.declared.survey.Counts.{Counts}
 use Rattle.assembler.specs.Rows.{rows, placeOf}
 use Rattle.assembler.specs.Entries.{Entry, entryAt, behind, entries}
 use Rattle.assembler.specs.Feeds.{AllFed, Fed}
 use Rattle.assembler.specs.Failures.{lineError, lineErrors}
-use Rattle.assembler.specs.Declarations.{declare, declarations, declarationError, declarationErrors}
+use Rattle.assembler.specs.Declarations.{declares, declare, declarations, declarationError, declarationErrors}
 use Rattle.assembler.specs.Rules.{noRules, verdict, after, ruleError, ruleErrors, ruleCount}
 use Rattle.assembler.specs.Survey.{Surveyed}
 use Rattle.assembler.proofs.Rows.{length-rows, entriesAt, entries-step, entries-end, fed-here, fed-on}
@@ -114,6 +118,19 @@ module _ (count : ℕ) (work first₀ first : List ℕ) (s : Tally) (f d r i : �
 
   none-left : count ≤ i → entriesAt ts i ≡ []
   none-left h = entries-end ts i (omega (arith, length-rows count work room))
+
+  -- a line that holds nothing, or a comment alone
+  pub survey-blank : (t : Token) (j : ℕ) → i < count → t ≡ peek (rows count work) i → t .kind < 16 → j ≡ i + 1 + behind i t → Surveying count work first₀ first s f d r j
+  unfolding lineError declares declare declarationError verdict after ruleError
+  survey-blank t j h et k ej =
+      let k′ : peek (rows count work) i .kind < 16 = subst (λ (t : Token). t .kind < 16) et k in
+      let low : leb 16 (peek (rows count work) i .kind) ≡ false = lt-leb 16 (peek (rows count work) i .kind) k′ in
+      let none : lineError t ≡ [] = rw (lt-leb 32 (t .kind) (omega arith)) in
+      let v : Other ≡ verdict (s .rules) (entryAt (rows count work) i) = rw (ne-eqb (peek (rows count work) i .kind) 27 (λ e. omega arith)) in
+      survey-on t f d r first Other (placeOf t) s j h et (omega (arith, ap length none)) (rw low) (omega (arith, ap length (undeclared-none low))) v refl (omega arith) refl ej
+    where
+      undeclared-none : leb 16 (peek (rows count work) i .kind) ≡ false → declarationError (rows count work) first (entryAt (rows count work) i) ≡ []
+      undeclared-none e = rw e
 
   pub survey-end : count ≤ i → Surveyed count work first₀ first (record { rules = s .rules; failures = f; names = d; wrong = r })
   unfolding declarations declarationErrors lineErrors ruleErrors ruleCount

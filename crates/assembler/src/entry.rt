@@ -88,14 +88,17 @@ pub fn behind_feed(work: &[u32], count: usize, at: usize) -> usize
     i + 1
 }
 
-// The index behind the line that begins with the token t at an index and ends at its first line feed: as t has it where the tokens are few or the line
-// is long, so that it is not gone over once more; else behind the line feed.
+// The index behind the line that begins with the token t at an index and ends at its first line feed: as t has it where the tokens are few, the line
+// holds nothing or a comment alone, or it is long, so that it is not gone over once more; else behind the line feed.
 pub fn behind_line(work: &[u32], count: usize, at: usize, t: Token) -> usize
     requires { ⌜ (4 * count ≤ length (now work)) × (at < count) × (at + 64 < 2 ^ 64) × (behind at t ≡ lineLength (drop at (rows count (now work)))) ⌝ }
     ensures { λ r. ⌜ r ≡ at + 1 + behind at t ⌝ }
 {
     let next = next_line(t, at);
     if count < FEW {
+        return next;
+    }
+    if t.kind < ITEM {
         return next;
     }
     if at + LONG <= next {

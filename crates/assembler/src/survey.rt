@@ -53,7 +53,7 @@ fn ruled(v: Verdict, cut: bool, place: Span, n: usize) -> usize
     rules::rule_error(v, cut, place, &mut none, n)
 }
 
-// Of all lines.
+// Of all lines; those that hold nothing, or a comment alone, change no count.
 pub fn survey(work: &[u32], count: usize, first: &mut [u32; 11]) -> Counts
     requires { ⌜ (4 * count ≤ length (now work)) × (count < 2 ^ 32) × Fed (rows count (now work)) ⌝ }
     ensures { λ r. ⌜ Surveyed count (now (work .entry)) (now (first .entry)) (now (first .exit)) r ⌝ }
@@ -68,12 +68,16 @@ pub fn survey(work: &[u32], count: usize, first: &mut [u32; 11]) -> Counts
     let mut at = 0;
     while at < count {
         let t = entry::token_at(work, count, at);
-        failures = failed(t, failures);
-        names = declared(work, count, at, first, names);
-        let v = rules::verdict_at(work, count, at, s.rules);
-        wrong = ruled(v, s.cut, entry::place_of(t), wrong);
-        s = rules::after(s, v);
-        at = entry::behind_line(work, count, at, t);
+        if t.kind < entry::ITEM {
+            at = entry::next_line(t, at);
+        } else {
+            failures = failed(t, failures);
+            names = declared(work, count, at, first, names);
+            let v = rules::verdict_at(work, count, at, s.rules);
+            wrong = ruled(v, s.cut, entry::place_of(t), wrong);
+            s = rules::after(s, v);
+            at = entry::behind_line(work, count, at, t);
+        }
     }
     Counts {
         rules: s.rules,
