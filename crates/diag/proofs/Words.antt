@@ -6,7 +6,7 @@ use native.Mathlib.Omega.{arith}
 use borrow.Author.Fill.{fill-more}
 use borrow.Author.Tests.{le-leb, lt-leb}
 use native.Mathlib.Numerals.{add-one}
-use lib.ListN.{length, set, take, drop, getD, replicate, length-set, drop-of-length-le}
+use lib.ListN.{length, set, take, drop, getD, replicate, length-set, length-take, length-drop, drop-of-length-le}
 use lib.Seq.{drop-cons, take-suc, length-take-le, set-at, sets, length-sets}
 use Rattle.diag.specs.declared.Diagnostic.{Diagnostic}
 use Rattle.diag.specs.Log.{words, logged, appended}
@@ -27,6 +27,16 @@ module _ (d l : List ℕ) (i : ℕ) (e : l ≡ replicate i 0 ++ drop i d) where
   cleared-all h g q =
       let z : i ≡ length d = omega arith in
       e ∙ ap (λ (r : List ℕ). replicate i 0 ++ r) (drop-of-length-le d {i = i} (omega arith)) ∙ append-nil (replicate i 0) ∙ ap (λ (k : ℕ). replicate k 0) z
+
+-- a row cleared from an index on
+pub cleared-from : (o : List ℕ) (at : ℕ) → at ≤ length o → (p : List ℕ) → p ≡ replicate (length (take (length o - at) (drop at o))) 0
+    → take at o ++ (p ++ drop (length o - at) (drop at o)) ≡ take at o ++ replicate (length o - at) 0
+cleared-from o at h p e =
+    let n : length (take (length o - at) (drop at o)) ≡ length o - at = omega (arith, length-take (length o - at) (drop at o), length-drop at o) in
+    let none : drop (length o - at) (drop at o) ≡ [] = drop-of-length-le (drop at o) {i = length o - at} (omega (arith, length-drop at o)) in
+    ap (λ (l : List ℕ). take at o ++ (l ++ drop (length o - at) (drop at o))) (e ∙ ap (λ (n : ℕ). replicate n 0) n)
+    ∙ ap (λ (l : List ℕ). take at o ++ (replicate (length o - at) 0 ++ l)) none
+    ∙ ap (λ (l : List ℕ). take at o ++ l) (append-nil (replicate (length o - at) 0))
 
 -- ---- copying the first n words of one row to the front of another
 module _ (s d l : List ℕ) (i n : ℕ) (e : l ≡ take i s ++ drop i d) where

@@ -7,7 +7,7 @@ use Prim.Native.Nat.{ℕ, _+_, _*_, _/_, _≤_, _<_}
 use native.Mathlib.Omega.{arith}
 use borrow.Author.Tests.{ltb-true, ltb-false}
 use lib.Dec.{ltb}
-use lib.ListN.{length, take, drop, replicate, length-append, length-drop, length-replicate, length-map}
+use lib.ListN.{length, take, drop, replicate, length-append, length-drop, length-map}
 use lib.Seq.{take-at}
 use Rattle.chars.specs.Utf8.{decode}
 use Rattle.lexer.specs.declared.Span.{Span}
@@ -107,9 +107,9 @@ module _ (t w : List ℕ) (a : refusalOf t (length w) ≡ none) where
           row = ap (rows count) e ∙ ap (λ l. take count l) (tokens-flat ts rest) ∙ take-at (map tokenOf ts) (tokensIn rest) count (length-map ts tokenOf ∙ sym n);
         }
 
-    module _ (L S log₁ w₂ log₂ : List ℕ) (r : Assembled) (z : log₁ ≡ replicate (length L) 0) (o : Outcome t count w₁ w₂ log₁ log₂ r) where
+    module _ (L S w₂ log₂ : List ℕ) (r : Assembled) (o : Outcome t count w₁ w₂ L log₂ r) where
       long : length log₂ ≡ length L
-      long = ap (λ (l : D.Log). length (l .row)) (o .written) ∙ append-all-length (D.logged log₁ 0) (recordsOf (A.diagnosticsOf (linesOf t))) ∙ ap length z ∙ length-replicate (length L) 0
+      long = ap (λ (l : D.Log). length (l .row)) (o .written) ∙ append-all-length (D.logged L 0) (recordsOf (A.diagnosticsOf (linesOf t)))
 
       -- the sort has room in work
       pub report-room : 5 * r .errors ≤ length w₂
@@ -117,11 +117,10 @@ module _ (t w : List ℕ) (a : refusalOf t (length w) ≡ none) where
 
       -- an answer that counts diagnostics
       module _ (some-errors : 0 < r .errors) (x : Answer) (log₃ sheet : List ℕ) (s : sheet ≡ replicate (length S) 0) (q : replyIn x ≡ reportReply (length log₂) (r .errors))
-          (l : (ds : List Diagnostic) → D.logged log₂ (r .errors) ≡ D.appendAll (D.logged (replicate (length log₂) 0) 0) ds → log₃ ≡ D.logAfter (length log₂) (D.sort ds)) where
+          (l : (row : List ℕ) (ds : List Diagnostic) → D.logged log₂ (r .errors) ≡ D.appendAll (D.logged row 0) ds → log₃ ≡ D.logAfter (length log₂) (D.sort ds)) where
         log-is : log₃ ≡ D.logAfter (length L) (D.sort (recordsOf (A.diagnosticsOf (linesOf t))))
         log-is =
-            let zs : log₁ ≡ replicate (length log₂) 0 = z ∙ ap (λ (n : ℕ). replicate n 0) (sym long) in
-            l (recordsOf (A.diagnosticsOf (linesOf t))) (o .written ∙ ap (λ (v : List ℕ). D.appendAll (D.logged v 0) (recordsOf (A.diagnosticsOf (linesOf t)))) zs)
+            l L (recordsOf (A.diagnosticsOf (linesOf t))) (o .written)
             ∙ ap (λ (n : ℕ). D.logAfter n (D.sort (recordsOf (A.diagnosticsOf (linesOf t))))) long
 
         pub report-outcome : readIn x log₃ sheet ≡ readOutcome t (length w) L S
@@ -155,12 +154,9 @@ module _ (t w : List ℕ) (a : refusalOf t (length w) ≡ none) where
           none-found = none-found;
         }
 
-        log-same : log₂ ≡ zeros (length L)
-        unfolding recordsOf D.appendAll
-        log-same = ap (λ (l : D.Log). l .row) (o .written ∙ ap (λ (k : List (A.Diagnostic Span)). D.appendAll (D.logged log₁ 0) (recordsOf k)) none-found) ∙ z
-
-        pub machine-is : (x : Answer) (sheet : List ℕ) → ((n : ℕ) → readIn x (zeros n) sheet ≡ readMachine (linesOf t) n (length S)) → readIn x log₂ sheet ≡ readOutcome t (length w) L S
-        machine-is x sheet m = ap (λ (l : List ℕ). readIn x l sheet) log-same ∙ m (length L) ∙ sym (machine-outcome t (length w) L S a none-found)
+        pub machine-is : (x : Answer) (log₃ sheet : List ℕ) → log₃ ≡ zeros (length log₂) → ((n : ℕ) → readIn x (zeros n) sheet ≡ readMachine (linesOf t) n (length S)) → readIn x log₃ sheet ≡ readOutcome t (length w) L S
+        machine-is x log₃ sheet e m =
+            ap (λ (l : List ℕ). readIn x l sheet) (e ∙ ap zeros long) ∙ m (length L) ∙ sym (machine-outcome t (length w) L S a none-found)
 
 -- ---- for callers in other languages
 number-leaves : (r : Reply) → leavesWorkNumber (replyNumber r) ≡ true → untouched r ≡ true

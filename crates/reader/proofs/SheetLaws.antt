@@ -59,16 +59,6 @@ module _ (ls : List (Line Place)) (log sheet : ℕ) where
 behind-cleared : (o ws : List ℕ) → length ws ≤ length o → take (length ws) (sets o 0 ws) ≡ ws
 behind-cleared o ws h = ap (take (length ws)) (sets-eq ws o 0 (omega arith)) ∙ take-at ws (drop (0 + length ws) o) (length ws) refl
 
--- a row cleared from an index on
-pub cleared-from : (o : List ℕ) (at : ℕ) → at ≤ length o → (p : List ℕ) → p ≡ replicate (length (take (length o - at) (drop at o))) 0
-    → take at o ++ (p ++ drop (length o - at) (drop at o)) ≡ take at o ++ zeros (length o - at)
-cleared-from o at h p e =
-    let n : length (take (length o - at) (drop at o)) ≡ length o - at = omega (arith, length-take (length o - at) (drop at o), length-drop at o) in
-    let none : drop (length o - at) (drop at o) ≡ [] = drop-of-length-le (drop at o) {i = length o - at} (omega (arith, length-drop at o)) in
-    ap (λ (l : List ℕ). take at o ++ (l ++ drop (length o - at) (drop at o))) (e ∙ ap zeros n)
-    ∙ ap (λ (l : List ℕ). take at o ++ (zeros (length o - at) ++ l)) none
-    ∙ ap (λ (l : List ℕ). take at o ++ l) (append-nil (zeros (length o - at)))
-
 pub sheet-long : (s : Sections) (o o₁ : List ℕ) (e : Ends) → Written s o o₁ e → length o₁ ≡ length o
 sheet-long s o o₁ e m = stored-length (joined s) o o₁ 0 (0 + length (joined s)) (record { words = m .words; behind = refl })
 

@@ -18,13 +18,13 @@ fn admitted(text: &[u8], work: &mut [u32], log: &mut [u32], sheet: &mut [u32]) -
     requires { ⌜ refusalOf (now text) (length (now work)) ≡ none ⌝ }
     ensures { λ r. ⌜ (readIn r (now (log .exit)) (now (sheet .exit)) ≡ readOutcome (now (text .entry)) (length (now (work .entry))) (now (log .entry)) (now (sheet .entry))) × (leavesWork r ≡ false) ⌝ }
 {
-    diag::clear(log);
     let count = lexer::tokenize(text, work);
     let a = assembler::assemble(text, work, count, log);
     if 0 < a.errors {
         diag::clear(sheet);
         return report::report(log, a.errors, work);
     }
+    diag::clear(log);
     written::machine(text, work, count, a, sheet)
 }
 

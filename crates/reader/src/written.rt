@@ -1,8 +1,7 @@
 // A machine in the sheet, and its head; or the words that it needs.
 ghost use mathlib.Core.Path.{_≡_};
-ghost use mathlib.Core.List.{_++_};
-ghost use Prim.Native.Nat.{ℕ, _-_, _≤_, _<_, _^_};
-ghost use lib.ListN.{length, take};
+ghost use Prim.Native.Nat.{ℕ, _<_, _^_};
+ghost use lib.ListN.{length};
 ghost use Rattle.language.specs.Infer.{machineOf};
 ghost use Rattle.language.specs.Outcome.{zeros, readMachine};
 ghost use Rattle.answered.specs.Ready.{linesOf, Ready};
@@ -46,15 +45,6 @@ fn first_state(sheet: &[u32], end: usize) -> Span
     }
 }
 
-// Clears the words of the sheet from an index on.
-fn clear_from(sheet: &mut [u32], at: usize)
-    requires { ⌜ at ≤ length (now sheet) ⌝ }
-    ensures { λ _. ⌜ now (sheet .exit) ≡ take at (now (sheet .entry)) ++ zeros (length (now (sheet .entry)) - at) ⌝ }
-{
-    let end = sheet.len();
-    diag::clear(&mut sheet[at..end]);
-}
-
 // The machine of a text without diagnostics. Only the words behind it are cleared: those that it takes are written over.
 pub fn machine(
     text: &[u8],
@@ -79,6 +69,6 @@ pub fn machine(
     expand::rules(work, count, 4 * size, 5 * size, blank, sheet, e.trailing);
     let s = first_state(sheet, e.states);
     let h = head::head(work, count, &first, s, counts(e, a.rules));
-    clear_from(sheet, needed);
+    diag::clear_from(sheet, needed);
     Answer::Machine(h)
 }

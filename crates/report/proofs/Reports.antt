@@ -1,10 +1,10 @@
 -- The log's words after row 5: cleared, or sorted.
 use mathlib.Core.Path.{_≡_, _∙_}
 use mathlib.Core.List.{List, _++_}
-use Prim.Native.Nat.{ℕ, _*_, _/_, _≤_, _<_}
+use Prim.Native.Nat.{ℕ, _-_, _*_, _/_, _≤_, _<_}
 use native.Mathlib.Omega.{arith}
 use borrow.Author.Tests.{lt-ltb, le-ltb}
-use lib.ListN.{length, drop, replicate}
+use lib.ListN.{length, take, drop, replicate}
 use Rattle.language.specs.Outcome.{diagnosed, refused, logTooShort}
 use Rattle.diag.specs.declared.Diagnostic.{Diagnostic}
 use Rattle.diag.specs.Log as D
@@ -21,9 +21,9 @@ module _ (n k : ℕ) where
   unfolding reportReply
   reply-given h = rw (reportReply, le-ltb (n / 5) k h)
 
-module _ (w w′ : List ℕ) (k : ℕ) (ds : List Diagnostic) (is : D.logged w k ≡ D.appendAll (D.logged (replicate (length w) 0) 0) ds) where
-  pub cleared-after : length w / 5 < k → w′ ≡ replicate (length w) 0 → w′ ≡ D.logAfter (length w) (D.sort ds)
-  cleared-after h e = e ∙ log-cleared (length w) w k ds is (omega arith)
+module _ (w : List ℕ) (k : ℕ) (row : List ℕ) (ds : List Diagnostic) (is : D.logged w k ≡ D.appendAll (D.logged row 0) ds) where
+  pub cleared-after : (w′ : List ℕ) → length w / 5 < k → w′ ≡ replicate (length w) 0 → w′ ≡ D.logAfter (length w) (D.sort ds)
+  cleared-after w′ h e = e ∙ log-cleared row w k ds is (omega arith)
 
-  pub sorted-after : k ≤ length w / 5 → w′ ≡ D.flat (D.sort (D.records k w)) ++ drop (5 * k) w → w′ ≡ D.logAfter (length w) (D.sort ds)
-  sorted-after h e = log-sorted (length w) w k ds is w′ (omega arith) e
+  pub sorted-after : (w₁ w′ : List ℕ) → k ≤ length w / 5 → w₁ ≡ take (5 * k) w ++ replicate (length w - 5 * k) 0 → w′ ≡ D.flat (D.sort (D.records k w₁)) ++ drop (5 * k) w₁ → w′ ≡ D.logAfter (length w) (D.sort ds)
+  sorted-after w₁ w′ h c e = log-sorted row w k ds is (omega arith) w₁ c w′ e

@@ -1,6 +1,6 @@
 //! `oracle bench`: the original's `parse` and the port's calls, on the same texts.
 //!
-//! The sides take turns, and medians of processor time are given. Dropping what the original gave is not counted, nor is
+//! The sides and the sizes of a case take turns, and medians of processor time are given. Dropping what the original gave is not counted, nor is
 //! making the buffers, which are lent once for a text; a call of the port clears log and sheet itself. The
 //! original is given a text that is known to be UTF-8, the port finds that out.
 
@@ -14,11 +14,11 @@ use std::time::Duration;
 use cases::{CASES, Case};
 use sides::{Bench, Expected, Kept, Side};
 
-/// The least time that is measured for a text, and the least number of rounds.
-const BUDGET: Duration = Duration::from_millis(300);
-const ROUNDS: usize = 9;
-/// A text whose round takes longer is run once.
-const SLOW: Duration = Duration::from_secs(3);
+/// The least time that is measured for a case, and the least number of rounds.
+const BUDGET: Duration = Duration::from_millis(600);
+const ROUNDS: usize = 15;
+/// A text whose first round takes longer, in seconds, is run once.
+const SLOW: f64 = 5.0;
 /// A size is left out if a call would take longer, were its time to grow with the square of the size.
 const TOO_SLOW: f64 = 30.0;
 /// Calls that take less are made several times in a row.
@@ -52,6 +52,65 @@ fn case(name: &str) -> Result<&'static Case, String> {
     found.ok_or_else(|| format!("{name} is no case; cases: {}", names.join(" ")))
 }
 
+/// A text that is measured, with the times of the calls on it.
+struct Text {
+    bench: Bench,
+    expected: Expected,
+    samples: [Vec<f64>; 3],
+    /// How many calls a sample has.
+    calls: [usize; 3],
+    rounds: usize,
+}
+
+impl Text {
+    fn new(case: &Case, size: usize) -> Self {
+        let text = text(case, size);
+        let expected = Expected::of(case, &text);
+        Self {
+            bench: Bench::new(text, expected.lent),
+            expected,
+            samples: Default::default(),
+            calls: [1; 3],
+            rounds: 0,
+        }
+    }
+
+    /// A sample of each side in turn.
+    fn round(&mut self, case: &Case) {
+        for side in Side::ALL {
+            if Bench::runs(case, side) {
+                let calls = &mut self.calls[side as usize];
+                let seconds = sample(&mut self.bench, side, *calls);
+                self.samples[side as usize].push(seconds);
+                *calls = ((SAMPLE / seconds) as usize).clamp(1, CALLS);
+            }
+        }
+        self.rounds += 1;
+    }
+
+    /// The time of the first round's calls.
+    fn first_round(&self) -> f64 {
+        let firsts = self.samples.iter().filter_map(|samples| samples.first());
+        firsts.sum()
+    }
+
+    /// The time of the slowest side's first call.
+    fn slowest(&self) -> f64 {
+        let firsts = self.samples.iter().filter_map(|samples| samples.first());
+        firsts.copied().fold(0.0, f64::max)
+    }
+
+    fn measured(self) -> Measured {
+        Measured {
+            bytes: self.bench.text.len(),
+            rules: self.expected.rules,
+            diagnostics: self.expected.diagnostics,
+            seconds: self.samples.map(median),
+            rounds: self.rounds,
+        }
+    }
+}
+
 /// What was measured of a text: the median of each side, and how many rounds there were.
 struct Measured {
     bytes: usize,
@@ -77,10 +136,6 @@ impl Measured {
     fn times(&self, side: Side) -> Option<f64> {
         Some(self.per_byte(Side::Rust)? / self.per_byte(side)?)
     }
-
-    fn slowest(&self) -> f64 {
-        self.seconds.into_iter().flatten().fold(0.0, f64::max)
-    }
 }
 
 /// Measures and prints a table; false if an answer is not the original's.
@@ -91,22 +146,28 @@ pub fn times(options: &Options<'_>) -> Result<bool, String> {
     println!("|---|{}", "--:|".repeat(12));
     let mut same = true;
     for case in options.cases()? {
-        let mut done: Vec<Measured> = Vec::new();
+        let mut texts: Vec<Text> = Vec::new();
+        let mut left_out = None;
         for size in options.sizes(case) {
-            if let Some(seconds) = expected_seconds(&done, size) {
-                println!(
-                    "| {} | {size} | left out: a call may take {seconds:.0} s |",
-                    case.name
-                );
+            left_out = texts.last().and_then(|last| too_slow(last, size));
+            if left_out.is_some() {
                 break;
             }
-            let text = text(case, size);
-            let expected = Expected::of(case, &text);
-            let mut bench = Bench::new(text, expected.lent);
-            same &= agrees(case, &mut bench, &expected);
-            let measured = measure(case, &mut bench, &expected);
-            print_row(case, &measured, done.first());
-            done.push(measured);
+            let mut text = Text::new(case, size);
+            same &= agrees(case, &mut text.bench, &text.expected);
+            text.round(case);
+            texts.push(text);
+        }
+        measure(case, &mut texts);
+        let measured: Vec<Measured> = texts.into_iter().map(Text::measured).collect();
+        for row in &measured {
+            print_row(case, row, &measured[0]);
+        }
+        if let Some((size, seconds)) = left_out {
+            println!(
+                "| {} | {size} | left out: a call may take {seconds:.0} s |",
+                case.name
+            );
         }
     }
     Ok(same)
@@ -116,12 +177,11 @@ fn text(case: &Case, size: usize) -> String {
     String::from_utf8((case.text)(size)).expect("a text in UTF-8")
 }
 
-/// The time of a call at the next size, if it may be too long to wait for.
-fn expected_seconds(done: &[Measured], size: usize) -> Option<f64> {
-    let last = done.last()?;
-    let growth = size as f64 / last.bytes as f64;
+/// The next size and the time of a call at it, if that may be too long to wait for.
+fn too_slow(last: &Text, size: usize) -> Option<(usize, f64)> {
+    let growth = size as f64 / last.bench.text.len() as f64;
     let seconds = last.slowest() * growth * growth;
-    (seconds > TOO_SLOW).then_some(seconds)
+    (seconds > TOO_SLOW).then_some((size, seconds))
 }
 
 /// Whether the reader answers as the original does. The buffers are in use from then on.
@@ -142,31 +202,18 @@ fn agrees(case: &Case, bench: &mut Bench, expected: &Expected) -> bool {
     same
 }
 
-/// Rounds in which each side is called in turn.
-fn measure(case: &Case, bench: &mut Bench, expected: &Expected) -> Measured {
-    let mut samples: [Vec<f64>; 3] = Default::default();
-    let mut calls = [1; 3];
+/// Rounds over all texts of a case, behind the first, which each has had: what slows the machine for a while slows all sizes.
+fn measure(case: &Case, texts: &mut [Text]) {
     let started = clock::now();
-    let mut rounds = 0;
+    let mut rounds = 1;
     while rounds < ROUNDS || clock::now() - started < BUDGET {
-        for side in Side::ALL {
-            if Bench::runs(case, side) {
-                let seconds = sample(bench, side, calls[side as usize]);
-                samples[side as usize].push(seconds);
-                calls[side as usize] = ((SAMPLE / seconds) as usize).clamp(1, CALLS);
-            }
+        for text in texts.iter_mut().filter(|text| text.first_round() < SLOW) {
+            text.round(case);
+        }
+        if texts.iter().all(|text| text.first_round() >= SLOW) {
+            return;
         }
         rounds += 1;
-        if rounds == 1 && clock::now() - started > SLOW {
-            break;
-        }
-    }
-    Measured {
-        bytes: bench.text.len(),
-        rules: expected.rules,
-        diagnostics: expected.diagnostics,
-        seconds: samples.map(median),
-        rounds,
     }
 }
 
@@ -185,10 +232,11 @@ fn median(mut samples: Vec<f64>) -> Option<f64> {
     samples.get(samples.len() / 2).copied()
 }
 
-fn print_row(case: &Case, measured: &Measured, first: Option<&Measured>) {
+/// A row of the table; growth is left out at the first size.
+fn print_row(case: &Case, measured: &Measured, first: &Measured) {
     let growth = |side| {
-        let before = first.and_then(|first| first.per_byte(side))?;
-        Some(measured.per_byte(side)? / before)
+        let grown = measured.per_byte(side)? / first.per_byte(side)?;
+        (measured.bytes > first.bytes).then_some(grown)
     };
     let number = |value: Option<f64>| value.map_or("-".into(), |value| format!("{value:.2}"));
     let columns = [

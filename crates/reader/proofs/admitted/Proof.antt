@@ -9,16 +9,16 @@ pub admitted-spec : {M : Type 1} → statement M
 admitted-spec =
     tie.close
     (tie.spec
-    (λ c κs. search needs)
     (λ c κs. search (needs, short, tokenize-room))
     (λ c κs. search (needs, tokenized))
     (λ c κs. search needs)
-    (λ c κs. let a = c .before .before .before .before .before .before .before .before .before .before .before .before in let n = a .before .before .before .before .before in let l = n .before .before .before .before in let z = l .before .before .before .before .before .before in report-room _ _ (z .pre) _ _ (n .tokenize .ensures .0) (n .tokenize .ensures .1) (z .args .log .now) [] _ _ _ _ (l .clear .ensures) (a .assemble .ensures))
+    (λ c κs. let a = c .before .before .before .before .before .before .before .before .before .before .before .before in let n = a .before .before .before .before .before in let z = n .before .before .before .before .before .before in report-room _ _ (z .pre) _ _ (n .tokenize .ensures .0) (n .tokenize .ensures .1) (z .args .log .now) [] _ _ _ (a .assemble .ensures))
     (λ c. search needs)
     (λ c. search needs)
     (λ c. search needs)
     (λ c. (search (needs, report-outcome), search (needs, report-work)))
-    (λ c κs. let a = c .before .before .before .before .before .before .before .before in let n = a .before .before .before .before .before in let l = n .before .before .before .before in let z = l .before .before .before .before .before .before in (machine-ready _ _ (z .pre) _ _ (n .tokenize .ensures .0) (n .tokenize .ensures .1) (z .args .log .now) [] _ _ _ _ (l .clear .ensures) (a .assemble .ensures) (search needs), a .assemble .ensures .rules))
+    (λ c κs. search needs)
+    (λ c κs. let a = c .before .before .before .before .before .before .before .before .before .before .before .before in let n = a .before .before .before .before .before in let z = n .before .before .before .before .before .before in (machine-ready _ _ (z .pre) _ _ (n .tokenize .ensures .0) (n .tokenize .ensures .1) (z .args .log .now) [] _ _ _ (a .assemble .ensures) (search needs), a .assemble .ensures .rules))
     (λ c. search needs)
     (λ c. search needs)
     (λ c. search needs)
