@@ -28,38 +28,40 @@ use Rattle.sheet.specs.Rules.{resolve}
 use Rattle.sheet.proofs.Writes.{stored-none, stored-as, stored-append, Writing, writing-start, writing-on, written}
 use Rattle.alphabet.specs.Codes.{noted, notedAll, held, Codes, Room}
 use Rattle.alphabet.specs.Symbols.{range, pastComma, quotedPair, symbols, symbolsIn, isBlank, hasBlank, lineRange, rulesSymbols, codesOf}
-use Rattle.alphabet.specs.Alphabets.{listedWords, inferredWords, otherWords, lineCodes, candidates, gammaCodes, declaredGamma, gammaWords, inferredSigma, sigmaWords}
+use Rattle.alphabet.specs.Alphabets.{listedWords, inferredWords, otherWords, symbolWords, lineCodes, candidates, gammaCodes, declaredGamma, gammaWords, inferredSigma, sigmaWords}
 use Rattle.alphabet.specs.Input.{inputOf}
 use Rattle.alphabet.proofs.CodeLaws.{held-length, held-at, Noting, noting-start, noting-room, noting-on, noting-end, noting-rows}
 use Rattle.infer.proofs.Pages.{kept-on, kept-rows}
 use Rattle.alphabet.proofs.GlyphLaws.{range-none, range-past, range-in, symbols-on, is-symbol, no-symbol}
 
 -- ---- one symbol
-module _ (blank : ℕ) (t : Token) (o : List ℕ) (i : ℕ) (b : Bool) (test : b ≡ isSymbol t) where
-  pub symbol-put : (c : ℕ) (p : Span) (o′ : List ℕ) (r : ℕ) → b ≡ true → c ≡ resolve blank t → p ≡ placeOf t → Stored (c ∷ spanWords p) o i o′ r → Stored (flat (listedWords blank) (symbols (t ∷ []))) o i o′ r
-  unfolding flat
-  symbol-put c p o′ r e ec ep s =
-      stored-as (flat (listedWords blank) (symbols (t ∷ []))) (c ∷ spanWords p) o o′ i r
-      (ap (flat (listedWords blank)) (is-symbol t b test e) ∙ ap (λ (c : ℕ). c ∷ spanWords (placeOf t)) (sym ec) ∙ ap (λ (p : Span). c ∷ spanWords p) (sym ep)) s
+-- a character of Γ in Σ
+module _ (blank c : ℕ) (o : List ℕ) (i : ℕ) where
+  pub other-blank : c ≡ blank → Stored (cond (eqb c blank) [] (inferredWords c)) o i o i
+  other-blank e = stored-none (cond (eqb c blank) [] (inferredWords c)) o i (rw (eq-eqb c blank e))
 
-  pub symbol-none : b ≡ false → Stored (flat (listedWords blank) (symbols (t ∷ []))) o i o i
-  unfolding flat
-  symbol-none e = stored-none (flat (listedWords blank) (symbols (t ∷ []))) o i (ap (flat (listedWords blank)) (no-symbol t b test e))
+  pub other-put : (o′ : List ℕ) (r : ℕ) → (c ≡ blank → ⊥) → Stored (c ∷ 0 ∷ 0 ∷ []) o i o′ r → Stored (cond (eqb c blank) [] (inferredWords c)) o i o′ r
+  other-put o′ r e s = stored-as (cond (eqb c blank) [] (inferredWords c)) (c ∷ 0 ∷ 0 ∷ []) o o′ i r (rw (ne-eqb c blank e)) s
 
--- ---- one symbol of Γ in Σ
-module _ (blank : ℕ) (t : Token) (o : List ℕ) (i : ℕ) (b : Bool) (test : b ≡ isSymbol t) where
-  pub other-no : b ≡ false → Stored (flat (otherWords blank) (symbols (t ∷ []))) o i o i
+module _ (blank : ℕ) (inferred : Bool) (t : Token) (o : List ℕ) (i : ℕ) (b : Bool) (test : b ≡ isSymbol t) where
+  pub symbol-none : b ≡ false → Stored (flat (symbolWords inferred blank) (symbols (t ∷ []))) o i o i
   unfolding flat
-  other-no e = stored-none (flat (otherWords blank) (symbols (t ∷ []))) o i (ap (flat (otherWords blank)) (no-symbol t b test e))
+  symbol-none e = stored-none (flat (symbolWords inferred blank) (symbols (t ∷ []))) o i (ap (flat (symbolWords inferred blank)) (no-symbol t b test e))
 
-  module _ (is : b ≡ true) (c : ℕ) (code : c ≡ resolve blank t) where
-    pub other-blank : c ≡ blank → Stored (flat (otherWords blank) (symbols (t ∷ []))) o i o i
+  module _ (o′ : List ℕ) (r : ℕ) (c : ℕ) (is : b ≡ true) (code : c ≡ resolve blank t) where
+    pub symbol-put : inferred ≡ false → (p : Span) → p ≡ placeOf t → Stored (c ∷ spanWords p) o i o′ r → Stored (flat (symbolWords inferred blank) (symbols (t ∷ []))) o i o′ r
+    unfolding flat
+    symbol-put k p ep s =
+        stored-as (flat (symbolWords inferred blank) (symbols (t ∷ []))) (c ∷ spanWords p) o o′ i r
+        (ap (λ (k : Bool). flat (symbolWords k blank) (symbols (t ∷ []))) k ∙ ap (flat (listedWords blank)) (is-symbol t b test is)
+        ∙ ap (λ (c : ℕ). c ∷ spanWords (placeOf t)) (sym code) ∙ ap (λ (p : Span). c ∷ spanWords p) (sym ep)) s
+
+    pub symbol-other : inferred ≡ true → Stored (cond (eqb c blank) [] (inferredWords c)) o i o′ r → Stored (flat (symbolWords inferred blank) (symbols (t ∷ []))) o i o′ r
     unfolding flat otherWords
-    other-blank e = stored-none (flat (otherWords blank) (symbols (t ∷ []))) o i (ap (flat (otherWords blank)) (is-symbol t b test is) ∙ rw (← code, eq-eqb c blank e))
-
-    pub other-put : (o′ : List ℕ) (r : ℕ) → (c ≡ blank → ⊥) → Stored (c ∷ 0 ∷ 0 ∷ []) o i o′ r → Stored (flat (otherWords blank) (symbols (t ∷ []))) o i o′ r
-    unfolding flat otherWords
-    other-put o′ r e s = stored-as (flat (otherWords blank) (symbols (t ∷ []))) (c ∷ 0 ∷ 0 ∷ []) o o′ i r (ap (flat (otherWords blank)) (is-symbol t b test is) ∙ rw (← code, ne-eqb c blank e)) s
+    symbol-other k s =
+        stored-as (flat (symbolWords inferred blank) (symbols (t ∷ []))) (cond (eqb c blank) [] (inferredWords c)) o o′ i r
+        (ap (λ (k : Bool). flat (symbolWords k blank) (symbols (t ∷ []))) k ∙ ap (flat (otherWords blank)) (is-symbol t b test is)
+        ∙ append-nil (otherWords blank t) ∙ ap (λ (c : ℕ). cond (eqb c blank) [] (inferredWords c)) (sym code)) s
 
 -- at most three words each
 pub listed-width : (blank : ℕ) (t : Token) → length (listedWords blank t) ≤ 3
@@ -72,6 +74,10 @@ other-width blank t = go (eqb (resolve blank t) blank)
     go : (b : Bool) → length (cond b [] (inferredWords (resolve blank t))) ≤ 3
     go true = omega arith
     go false = omega arith
+
+pub symbol-width : (inferred : Bool) (blank : ℕ) (t : Token) → length (symbolWords inferred blank t) ≤ 3
+symbol-width true blank t = other-width blank t
+symbol-width false blank t = listed-width blank t
 
 pub flat-width : (f : Token → List ℕ) → ((t : Token) → length (f t) ≤ 3) → (ts : List Token) → length (flat f (symbols ts)) ≤ 3 * length ts
 unfolding flat symbols

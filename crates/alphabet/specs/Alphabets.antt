@@ -28,6 +28,10 @@ unfoldable pub otherWords : ℕ → Token → List ℕ
 unfolding resolve
 otherWords b t = cond (eqb (resolve b t) b) [] (inferredWords (resolve b t))
 
+-- a symbol of a line: of an undeclared Σ, or as it is listed
+abbrev pub symbolWords : Bool → ℕ → Token → List ℕ
+symbolWords inferred b = cond inferred (otherWords b) (listedWords b)
+
 -- the characters of the line at f
 abbrev pub lineCodes : ℕ → List Token → ℕ → List ℕ
 lineCodes b ts f = codesOf b (symbolsIn ts f)

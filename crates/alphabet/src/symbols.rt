@@ -11,7 +11,7 @@ ghost use Rattle.sheet.specs.Stored.{Stored};
 ghost use Rattle.sheet.specs.Comments.{spanWords};
 ghost use Rattle.alphabet.specs.Codes.{notedAll, held, Codes, Room};
 ghost use Rattle.alphabet.specs.Symbols.{range, pastComma, quotedPair, symbols, symbolsIn, isBlank, hasBlank, codesOf};
-ghost use Rattle.alphabet.specs.Alphabets.{listedWords, inferredWords, otherWords, lineCodes, candidates, gammaCodes, declaredGamma, gammaWords, inferredSigma, sigmaWords};
+ghost use Rattle.alphabet.specs.Alphabets.{inferredWords, symbolWords, lineCodes, candidates, gammaCodes, declaredGamma, gammaWords, inferredSigma, sigmaWords};
 use crate::codes;
 use crate::glyphs;
 use crate::input;
@@ -56,13 +56,28 @@ fn past_comma(work: &[u32], count: usize, i: usize) -> usize
     i
 }
 
-// A token in the sheet, if it is a symbol.
-fn put_symbol(t: Token, blank: u32, out: &mut [u32], at: usize) -> usize
+// A character of Γ as one of Σ, unless it is the blank.
+fn put_other(c: u32, blank: u32, out: &mut [u32], at: usize) -> usize
     requires { ⌜ at + 3 < 2 ^ 64 ⌝ }
-    ensures { λ r. ⌜ Stored (flat (listedWords blank) (symbols (t ∷ []))) (now (out .entry)) at (now (out .exit)) r ⌝ }
+    ensures { λ r. ⌜ Stored (cond (eqb c blank) [] (inferredWords c)) (now (out .entry)) at (now (out .exit)) r ⌝ }
+{
+    if c == blank {
+        return at;
+    }
+    put_code(out, at, c, NOWHERE)
+}
+
+// A token in the sheet, if it is a symbol: as it is listed, or as one of an undeclared Σ.
+fn put_symbol(t: Token, blank: u32, inferred: bool, out: &mut [u32], at: usize) -> usize
+    requires { ⌜ at + 3 < 2 ^ 64 ⌝ }
+    ensures { λ r. ⌜ Stored (flat (symbolWords inferred blank) (symbols (t ∷ []))) (now (out .entry)) at (now (out .exit)) r ⌝ }
 {
     if view::is_symbol(t) {
-        return put_code(out, at, rules::resolve(blank, t), entry::place_of(t));
+        let c = rules::resolve(blank, t);
+        if inferred {
+            return put_other(c, blank, out, at);
+        }
+        return put_code(out, at, c, entry::place_of(t));
     }
     at
 }
@@ -109,11 +124,12 @@ fn quoted_run(
     from: usize,
     to: usize,
     blank: u32,
+    inferred: bool,
     out: &mut [u32],
     at: usize,
 ) -> Run
     requires { ⌜ (4 * count ≤ length (now work)) × (at + 3 * to < 2 ^ 64) ⌝ }
-    ensures { λ r. ⌜ (from ≤ r .next) × (r .next - from ≤ to - from) × Stored (flat (listedWords blank) (symbols (range (rows count (now (work .entry))) from (r .next)))) (now (out .entry)) at (now (out .exit)) (r .at) ⌝ }
+    ensures { λ r. ⌜ (from ≤ r .next) × (r .next - from ≤ to - from) × Stored (flat (symbolWords inferred blank) (symbols (range (rows count (now (work .entry))) from (r .next)))) (now (out .entry)) at (now (out .exit)) (r .at) ⌝ }
 {
     let last = last_below(count, to);
     let mut n = at;
@@ -125,7 +141,7 @@ fn quoted_run(
         if out.len() < n + 3 {
             return Run { next: i, at: n };
         }
-        n = put_symbol(tokens::token_at(work, i), blank, out, n);
+        n = put_symbol(tokens::token_at(work, i), blank, inferred, out, n);
         i += 2;
     }
     Run { next: i, at: n }
@@ -138,18 +154,19 @@ fn put_range(
     from: usize,
     to: usize,
     blank: u32,
+    inferred: bool,
     out: &mut [u32],
     at: usize,
 ) -> usize
     requires { ⌜ (4 * count ≤ length (now work)) × (to < 2 ^ 32) × (at < 2 ^ 63) ⌝ }
-    ensures { λ r. ⌜ Stored (flat (listedWords blank) (symbols (range (rows count (now (work .entry))) from to))) (now (out .entry)) at (now (out .exit)) r ⌝ }
+    ensures { λ r. ⌜ Stored (flat (symbolWords inferred blank) (symbols (range (rows count (now (work .entry))) from to))) (now (out .entry)) at (now (out .exit)) r ⌝ }
 {
     let mut n = at;
     let mut i = from;
     while i < to {
-        n = put_symbol(entry::token_at(work, count, i), blank, out, n);
+        n = put_symbol(entry::token_at(work, count, i), blank, inferred, out, n);
         i = past_comma(work, count, i + 1);
-        let r = quoted_run(work, count, i, to, blank, out, n);
+        let r = quoted_run(work, count, i, to, blank, inferred, out, n);
         i = r.next;
         n = r.at;
     }
@@ -168,75 +185,6 @@ fn put_codes(work: &[u32], base: usize, n: usize, out: &mut [u32], at: usize) ->
         i += 1;
     }
     m
-}
-
-// A symbol of Γ as one of Σ, unless it is the blank.
-fn put_other(t: Token, blank: u32, out: &mut [u32], at: usize) -> usize
-    requires { ⌜ at + 3 < 2 ^ 64 ⌝ }
-    ensures { λ r. ⌜ Stored (flat (otherWords blank) (symbols (t ∷ []))) (now (out .entry)) at (now (out .exit)) r ⌝ }
-{
-    if view::is_symbol(t) {
-        let c = rules::resolve(blank, t);
-        if c == blank {
-            return at;
-        }
-        return put_code(out, at, c, NOWHERE);
-    }
-    at
-}
-
-// Such a run as symbols of Σ, without the blank.
-fn quoted_others(
-    work: &[u32],
-    count: usize,
-    from: usize,
-    to: usize,
-    blank: u32,
-    out: &mut [u32],
-    at: usize,
-) -> Run
-    requires { ⌜ (4 * count ≤ length (now work)) × (at + 3 * to < 2 ^ 64) ⌝ }
-    ensures { λ r. ⌜ (from ≤ r .next) × (r .next - from ≤ to - from) × Stored (flat (otherWords blank) (symbols (range (rows count (now (work .entry))) from (r .next)))) (now (out .entry)) at (now (out .exit)) (r .at) ⌝ }
-{
-    let last = last_below(count, to);
-    let mut n = at;
-    let mut i = from;
-    while i < last {
-        if !quoted_pair(work, i) {
-            return Run { next: i, at: n };
-        }
-        if out.len() < n + 3 {
-            return Run { next: i, at: n };
-        }
-        n = put_other(tokens::token_at(work, i), blank, out, n);
-        i += 2;
-    }
-    Run { next: i, at: n }
-}
-
-// The symbols from an index to before another as those of Σ.
-fn put_others(
-    work: &[u32],
-    count: usize,
-    from: usize,
-    to: usize,
-    blank: u32,
-    out: &mut [u32],
-    at: usize,
-) -> usize
-    requires { ⌜ (4 * count ≤ length (now work)) × (to < 2 ^ 32) × (at < 2 ^ 63) ⌝ }
-    ensures { λ r. ⌜ Stored (flat (otherWords blank) (symbols (range (rows count (now (work .entry))) from to))) (now (out .entry)) at (now (out .exit)) r ⌝ }
-{
-    let mut n = at;
-    let mut i = from;
-    while i < to {
-        n = put_other(entry::token_at(work, count, i), blank, out, n);
-        i = past_comma(work, count, i + 1);
-        let r = quoted_others(work, count, i, to, blank, out, n);
-        i = r.next;
-        n = r.at;
-    }
-    n
 }
 
 // Whether a token is a symbol that is the blank.
@@ -318,7 +266,7 @@ fn put_gamma(work: &[u32], count: usize, g: usize, blank: u32, out: &mut [u32], 
 {
     let t = entry::token_at(work, count, g);
     let end = crate::index(t.value);
-    let n = put_range(work, count, g + 1, end, blank, out, at);
+    let n = put_range(work, count, g + 1, end, blank, false, out, at);
     if has_blank(work, count, g + 1, end, blank) {
         return n;
     }
@@ -362,7 +310,16 @@ fn put_sigma(
 {
     if g < count {
         let t = entry::token_at(work, count, g);
-        return put_others(work, count, g + 1, crate::index(t.value), blank, out, at);
+        return put_range(
+            work,
+            count,
+            g + 1,
+            crate::index(t.value),
+            blank,
+            true,
+            out,
+            at,
+        );
     }
     if n == 0 {
         return at;
@@ -387,7 +344,16 @@ pub fn sigma(
     let s = crate::index(first[INPUT_ALPHABET]);
     if s < count {
         let t = entry::token_at(work, count, s);
-        return put_range(work, count, s + 1, crate::index(t.value), blank, out, at);
+        return put_range(
+            work,
+            count,
+            s + 1,
+            crate::index(t.value),
+            blank,
+            false,
+            out,
+            at,
+        );
     }
     let g = crate::index(first[TAPE_ALPHABET]);
     put_sigma(work, count, base, n, g, blank, out, at)

@@ -85,6 +85,9 @@ module _ (text : List ℕ) (count : ℕ) (w₀ : List ℕ) (p : S.Tokenized text
     pub intern-base : 4 * count ≤ 4 * (length text + 1)
     intern-base = omega (arith, few)
 
+    pub intern-few : count ≤ length text + 1
+    intern-few = few
+
     pub intern-names : 4 * (length text + 1) + count ≤ 5 * (length text + 1)
     intern-names = omega (arith, few)
 

@@ -96,6 +96,12 @@ eight-ascii t i x e l =
     (omega (arith, or-left b6 b7))
     (omega (arith, or-right b6 b7))
 
+-- and so are two
+two-ascii : (t : List ℕ) (i x : ℕ) → x ≡ bitOr (getD t i 0) (getD t (i + 1) 0) → x < 0x80 → (j : ℕ) → j < 2 → getD t (i + j) 0 < 0x80
+two-ascii t i x e l zero h = let z : i + 0 ≡ i = omega arith in rw z (omega (arith, or-left (getD t i 0) (getD t (i + 1) 0)))
+two-ascii t i x e l (suc zero) h = omega (arith, or-right (getD t i 0) (getD t (i + 1) 0))
+two-ascii t i x e l (suc (suc j)) h = absurd (omega arith)
+
 -- the loop of `ascii_blocks`
 module _ (t : List ℕ) (i x : ℕ) (h : 8 ≤ length t - i) (e : x ≡ ors t i) (l : x < 0x80) where
   pub block-valid : (v : ℕ) → i + sizes (decode (drop i t)) ≡ v → i + 8 + sizes (decode (drop (i + 8) t)) ≡ v
@@ -113,6 +119,18 @@ module _ (t : List ℕ) (i x : ℕ) (h : i < length t) (e : x ≡ getD t i 0) (l
 
   pub byte-outside : (v : Outside) → outsideFrom i (decode (drop i t)) ≡ v → outsideFrom (i + 1) (decode (drop (i + 1) t)) ≡ v
   byte-outside v p = ascii-outside t i h (omega arith) v p
+
+-- `ascii_two`
+module _ (t : List ℕ) (i x : ℕ) (h : i + 2 ≤ length t) (e : x ≡ bitOr (getD t i 0) (getD t (i + 1) 0)) (l : x < 0x80) where
+  pub two-valid : i + 2 + sizes (decode (drop (i + 2) t)) ≡ i + sizes (decode (drop i t))
+  two-valid =
+      let v : ℕ = i + sizes (decode (drop i t)) in
+      many t (λ (j : ℕ). j + sizes (decode (drop j t)) ≡ v) (λ (c : ℕ). c < 0x80) (λ j g k p. ascii-valid t j g k v p) 2 i h (two-ascii t i x e l) refl
+
+  pub two-outside : outsideFrom (i + 2) (decode (drop (i + 2) t)) ≡ outsideFrom i (decode (drop i t))
+  two-outside =
+      let v : Outside = outsideFrom i (decode (drop i t)) in
+      many t (λ (j : ℕ). outsideFrom j (decode (drop j t)) ≡ v) (λ (c : ℕ). c < 0x80) (λ j g k p. ascii-outside t j g k v p) 2 i h (two-ascii t i x e l) refl
 
 -- ---- the loop of `plain_up_to`
 module _ (t : List ℕ) (at : ℕ) (p : at + sizes (decode (drop at t)) ≡ validUpTo t) (q : outsideFrom at (decode (drop at t)) ≡ firstOutside t) where

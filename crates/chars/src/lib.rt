@@ -273,7 +273,20 @@ fn eight(text: &[u8], at: usize) -> u8
     x | (text[at + 4] | (text[at + 5] | (text[at + 6] | text[at + 7])))
 }
 
-// A place before which all bytes are ASCII, from one on: blocks of eight are passed over, unless the third byte says that there is none.
+// The place behind two bytes, if they are ASCII; else that of the first.
+fn ascii_two(text: &[u8], at: usize) -> usize
+    requires { ⌜ at + 2 ≤ length (now text) ⌝ }
+    ensures { λ r. ⌜ (at ≤ r) × (r ≤ length (now (text .entry))) × (r + sizes (decode (drop r (now (text .entry)))) ≡ at + sizes (decode (drop at (now (text .entry))))) × (outsideFrom r (decode (drop r (now (text .entry)))) ≡ outsideFrom at (decode (drop at (now (text .entry))))) ⌝ }
+{
+    let x = text[at] | text[at + 1];
+    if 0x80 <= x {
+        return at;
+    }
+    at + 2
+}
+
+// A place before which all bytes are ASCII, from one on: blocks of eight are passed over; where the third byte says that there is none, two bytes, such as
+// a comma and a quote between two symbols.
 fn ascii_blocks(text: &[u8], at: usize) -> usize
     requires { ⌜ at ≤ length (now text) ⌝ }
     ensures { λ r. ⌜ (at ≤ r) × (r ≤ length (now (text .entry))) × (r + sizes (decode (drop r (now (text .entry)))) ≡ at + sizes (decode (drop at (now (text .entry))))) × (outsideFrom r (decode (drop r (now (text .entry)))) ≡ outsideFrom at (decode (drop at (now (text .entry))))) ⌝ }
@@ -283,7 +296,7 @@ fn ascii_blocks(text: &[u8], at: usize) -> usize
         return at;
     }
     if 0x80 <= text[at + 2] {
-        return at;
+        return ascii_two(text, at);
     }
     while 8 <= text.len() - i {
         if 0x80 <= eight(text, i) {

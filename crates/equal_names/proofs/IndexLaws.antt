@@ -1,6 +1,6 @@
 -- Laws of the index: the hash, the search over a window of slots, and a word entered.
 use mathlib.Core.Path.{_≡_, refl, sym, ap, subst, _∙_}
-use mathlib.Core.Bool.{Bool, true, false, _&&_}
+use mathlib.Core.Bool.{Bool, true, false, _&&_, false≢true}
 use mathlib.Core.List.{List, [], _∷_, _++_}
 use Prim.Native.Nat.{ℕ, suc, _+_, _-_, _*_, _/_, _%_, _≤_, _<_, _^_}
 use native.Mathlib.Omega.{arith}
@@ -18,7 +18,7 @@ use Rattle.lexer.specs.Places.{part}
 use Rattle.tokens.specs.declared.Token.{Token}
 use Rattle.parser.specs.Row.{peek}
 use Rattle.equal_names.specs.Rows.{rows, Kept}
-use Rattle.equal_names.specs.Names.{isWord, sameWord, firstEqual, Interned}
+use Rattle.equal_names.specs.Names.{isWord, sameWord, firstEqual, NoWords, Interned}
 use Rattle.equal_names.specs.Index.{step, fourAt, restOf, hashFrom, letterOf, front, final, slotIn, slotOf, stops, filled, Probed, Room, Reached, Indexed, Tried}
 use Rattle.equal_names.proofs.NameLaws.{length-rows, kept-rows, kept-refl, kept-trans, word-part, first-before, first-equal, first-word, first-part, word-yes, partOf, first-same, first-again}
 
@@ -470,6 +470,13 @@ module _ (text : List ℕ) (count a b letters span window : ℕ) (w : List ℕ) 
   clear-indexed = record { names = λ x h e. absurd (omega arith); held = λ j l h n. absurd (n (zero-at j l h)); reached = λ x h e. absurd (omega arith); letter-word = λ c l n. absurd (n (zero-letter c l)); letter-part = λ c l n. absurd (n (zero-letter c l)) }
 
 -- ---- all tokens
+-- what is indexed up to a token is so up to another, where no word stands between
+indexed-on : (text : List ℕ) (ts : List Token) (a b letters span window : ℕ) (w : List ℕ) (n m : ℕ) → Indexed text ts a b letters span window w n → NoWords ts n m → Indexed text ts a b letters span window w m
+indexed-on text ts a b letters span window w n m i none =
+    let before : (y : ℕ) → y < m → isWord (peek ts y) ≡ true → y < n =
+    λ y h e. by-test (ltb y n) (λ l. ltb-true y n l) (λ l. let g = ltb-false y n l in absurd (false≢true (sym (none .none y g h) ∙ e))) in
+    record { names = λ y h e. i .names y (before y h e) e; held = i .held; reached = λ y h e. i .reached y (before y h e) e; letter-word = i .letter-word; letter-part = i .letter-part }
+
 pub record Indexing (text : List ℕ) (count a b letters span window : ℕ) (w₀ w : List ℕ) (x : ℕ) : Type 0 where
   pub kept : Kept a w₀ w
   pub room : Room count a b letters span window w
@@ -487,12 +494,14 @@ module _ (text : List ℕ) (count a b letters span window : ℕ) where
   }
 
   module _ (w₀ w w′ : List ℕ) (x : ℕ) (i : Indexing text count a b letters span window w₀ w x) (r : Bool) (tried : Tried (Indexed text (rows count w) a b letters span window w′ (x + 1)) a w w′ r) where
-    pub indexing-on : r ≡ true → Indexing text count a b letters span window w₀ w′ (x + 1)
-    indexing-on e = record {
-      kept = kept-trans a w₀ w w′ (i .kept) (tried .kept);
-      room = kept-room (tried .kept) (i .room);
-      indexed = subst (λ (ts : List Token). Indexed text ts a b letters span window w′ (x + 1)) (sym (kept-rows count a w w′ (tried .kept) (i .room .tokens))) (tried .done e);
-    }
+    pub next-room : 4 * count ≤ length w′
+    next-room = room-rows text count a b letters span window w′ (kept-room (tried .kept) (i .room))
+
+    pub indexing-on : r ≡ true → (m : ℕ) → NoWords (rows count w′) (x + 1) m → Indexing text count a b letters span window w₀ w′ m
+    indexing-on e m n =
+        let next : Indexed text (rows count w′) a b letters span window w′ (x + 1) =
+        subst (λ (ts : List Token). Indexed text ts a b letters span window w′ (x + 1)) (sym (kept-rows count a w w′ (tried .kept) (i .room .tokens))) (tried .done e) in
+        record { kept = kept-trans a w₀ w w′ (i .kept) (tried .kept); room = kept-room (tried .kept) (i .room); indexed = indexed-on text (rows count w′) a b letters span window w′ (x + 1) m next n }
 
     pub indexing-full : (w₁ : List ℕ) → Kept a w₁ w₀ → Tried (Interned text (rows count w₁) a w′) a w₁ w′ false
     indexing-full w₁ e = tried-false (kept-trans a w₁ w w′ (kept-trans a w₁ w₀ w e (i .kept)) (tried .kept))
@@ -506,56 +515,6 @@ module _ (text : List ℕ) (count a b letters span window : ℕ) where
         done = λ _.
             subst (λ (ts : List Token). Interned text ts a w) (kept-rows count a w₁ w kept (i .room .tokens)) (record { interned = λ y l q. i .indexed .names y (omega arith) q });
       }
-
--- ---- without an index
-first-bound : (text : List ℕ) (t : Token) (i : ℕ) (us : List Token) → firstEqual text t i us ≤ i + length us
-unfolding firstEqual
-first-bound text t i [] = omega arith
-first-bound text t i (u ∷ us) = go (sameWord text t u) (first-bound text t (suc i) us)
-  where
-    go : (b : Bool) → firstEqual text t (suc i) us ≤ suc i + length us → elim b [ true ↦ i | false ↦ firstEqual text t (suc i) us ] ≤ i + suc (length us)
-    go true h = omega arith
-    go false h = omega arith
-
-pub record Searching (text : List ℕ) (count a : ℕ) (w₀ w : List ℕ) (x : ℕ) : Type 0 where
-  pub kept : Kept a w₀ w
-  pub row : rows count w ≡ rows count w₀
-  pub names : (y : ℕ) → y < x → getD w (a + y) 0 ≡ firstEqual text (peek (rows count w₀) y) 0 (rows count w₀)
-
-module _ (text : List ℕ) (count a : ℕ) where
-  pub searching-start : (w : List ℕ) → Searching text count a w w 0
-  searching-start w = record { kept = kept-refl a w; row = refl; names = λ y h. absurd (omega arith) }
-
-  module _ (w₀ w : List ℕ) (x : ℕ) (s : Searching text count a w₀ w x) (tokens : 4 * count ≤ a) (long : a + count ≤ length w₀) where
-    pub searching-room : 4 * count ≤ length w
-    searching-room = omega (arith, s .kept .size)
-
-    module _ (t : Token) (f : ℕ) (low : x < count) (at : t ≡ peek (rows count w) x) (first : f ≡ firstEqual text t 0 (rows count w)) where
-      pub searching-fits : count < 2 ^ 31 → Fits w32 f
-      searching-fits h = record { fits = omega (arith, first-bound text t 0 (rows count w), length-rows count w searching-room) }
-
-      pub searching-on : Searching text count a w₀ (set w (a + x) f) (x + 1)
-      searching-on =
-          let w′ : List ℕ = set w (a + x) f in
-          let kept : Kept a w w′ = record { front = take-set-le a w (a + x) f (omega arith); size = length-set w (a + x) f } in
-          let is : f ≡ firstEqual text (peek (rows count w₀) x) 0 (rows count w₀) =
-          first ∙ ap (λ (t : Token). firstEqual text t 0 (rows count w)) at ∙ ap (λ (r : List Token). firstEqual text (peek r x) 0 r) (s .row) in
-          record {
-            kept = kept-trans a w₀ w w′ (s .kept) kept;
-            row = kept-rows count a w w′ kept tokens ∙ s .row;
-            names = λ y h.
-                by-equal y x
-                (λ q.
-                ap (λ (y : ℕ). getD w′ (a + y) 0) q ∙ getD-set-same w (a + x) f 0 (omega (arith, s .kept .size)) ∙ is
-                ∙ ap (λ (y : ℕ). firstEqual text (peek (rows count w₀) y) 0 (rows count w₀)) (sym q))
-                (λ n. getD-set-other w (a + x) (a + y) f 0 (λ q. n (omega arith)) ∙ s .names y (omega arith));
-          }
-
-    pub searching-kept : Kept a w₀ w
-    searching-kept = s .kept
-
-    pub searching-end : count ≤ x → Interned text (rows count w₀) a w
-    searching-end h = record { interned = λ y l e. s .names y (omega (arith, length-rows count w₀ (omega arith))) }
 
 -- ---- one table after another
 pub table-room : (count a b size letters span window : ℕ) (w : List ℕ) → 4 * count ≤ a → a + count ≤ b → b + size ≤ length w → letters ≤ 256 → 0 < window → span + window ≤ size → letters + 32 ≤ span → span < 2 ^ 34 → count < 2 ^ 31

@@ -1,12 +1,13 @@
 -- Laws of equal names: equal parts of the text, and the first equal word.
-use mathlib.Core.Path.{_≡_, refl, sym, ap, _∙_}
+use mathlib.Core.Path.{_≡_, refl, sym, ap, subst, _∙_}
 use mathlib.Core.Bool.{Bool, true, false, cond}
 use mathlib.Core.List.{List, [], _∷_}
 use Prim.Native.Nat.{ℕ, zero, suc, _+_, _*_, _≤_, _<_}
 use native.Mathlib.Omega.{arith}
 use native.Mathlib.Numerals.{add-one}
 use native.Mathlib.Nat.{le-of-suc-le-suc}
-use borrow.Author.Tests.{eq-eqb, ne-eqb}
+use borrow.Author.Tests.{eq-eqb, ne-eqb, ltb-true, ltb-false}
+use lib.Dec.{ltb}
 use lib.ListN.{length, take, drop, length-take, drop-of-length-le, List·getD-eq-default}
 use lib.Seq.{drop-cons, getD-take, take-take}
 use Rattle.diag.proofs.Cases.{by-test}
@@ -18,7 +19,7 @@ use Rattle.tokens.specs.View.{tokenIn}
 use Rattle.parser.specs.Row.{tokensIn, peek, ended}
 use Rattle.parser.proofs.Laws.{length-tokens, peek-read}
 use Rattle.equal_names.specs.Rows.{rows, Kept}
-use Rattle.equal_names.specs.Names.{sameName, isWord, sameWord, firstEqual}
+use Rattle.equal_names.specs.Names.{sameName, isWord, sameWord, firstEqual, NoWords}
 
 -- ---- the row
 pub length-rows : (n : ℕ) (w : List ℕ) → 4 * n ≤ length w → length (rows n w) ≡ n
@@ -63,29 +64,6 @@ word-other text t u h = rw (ne-eqb (u .kind) 0 h)
 pub word-same : (text : List ℕ) (t u : Token) (name other : List ℕ) (r : Bool) → u .kind ≡ 0 → name ≡ part text (t .start) (t .end) → other ≡ part text (u .start) (u .end) → r ≡ same other name → r ≡ sameWord text t u
 unfolding sameWord sameName
 word-same text t u name other r h n o e = rw (eq-eqb (u .kind) 0 h) (e ∙ ap (same other) n ∙ ap (λ (l : List ℕ). same l (part text (t .start) (t .end))) o)
-
--- ---- the search: the first from the index i on is the first of all
-module _ (text work : List ℕ) (count : ℕ) (t : Token) (i : ℕ) (inv : firstEqual text t i (drop i (rows count work)) ≡ firstEqual text t 0 (rows count work)) (room : 4 * count ≤ length work) where
-  here : i < count → drop i (rows count work) ≡ peek (rows count work) i ∷ drop (suc i) (rows count work)
-  here h = drop-cons (rows count work) i ended (omega (arith, length-rows count work room))
-
-  module _ (u : Token) (b : Bool) (low : i < count) (at : u ≡ peek (rows count work) i) (test : b ≡ sameWord text t u) where
-    tested : sameWord text t (peek (rows count work) i) ≡ b
-    tested = ap (sameWord text t) (sym at) ∙ sym test
-
-    pub equal-here : b ≡ true → i ≡ firstEqual text t 0 (rows count work)
-    unfolding firstEqual
-    equal-here e = let q : sameWord text t (peek (rows count work) i) ≡ true = tested ∙ e in sym (ap (firstEqual text t i) (here low) ∙ rw (q, firstEqual)) ∙ inv
-
-    pub equal-on : b ≡ false → firstEqual text t (i + 1) (drop (i + 1) (rows count work)) ≡ firstEqual text t 0 (rows count work)
-    unfolding firstEqual
-    equal-on e =
-        let q : sameWord text t (peek (rows count work) i) ≡ false = tested ∙ e in
-        ap (λ (k : ℕ). firstEqual text t k (drop k (rows count work))) (add-one i) ∙ sym (ap (firstEqual text t i) (here low) ∙ rw (q, firstEqual)) ∙ inv
-
-  pub equal-none : count ≤ i → i ≡ firstEqual text t 0 (rows count work)
-  unfolding firstEqual
-  equal-none h = sym (ap (firstEqual text t i) (drop-of-length-le (rows count work) {i = i} (omega (arith, length-rows count work room)))) ∙ inv
 
 -- ---- equal names have equal parts of the text
 abbrev pub partOf : List ℕ → Token → List ℕ
@@ -179,3 +157,23 @@ first-same text t v i (u ∷ us) e =
 -- the first equal word is its own
 pub first-again : (text : List ℕ) (ts : List Token) (x : ℕ) → x < length ts → isWord (peek ts x) ≡ true → firstEqual text (peek ts (firstEqual text (peek ts x) 0 ts)) 0 ts ≡ firstEqual text (peek ts x) 0 ts
 first-again text ts x h w = first-same text (peek ts (firstEqual text (peek ts x) 0 ts)) (peek ts x) 0 ts (first-part text ts x h w)
+
+-- ---- `next_word`: no word is passed over
+pub none-yet : (ts : List Token) (i : ℕ) → NoWords ts i i
+none-yet ts i = record { order = omega arith; none = λ x h g. absurd (omega arith) }
+
+module _ (ts : List Token) (from i : ℕ) (n : NoWords ts from i) (t : Token) (here : t ≡ peek ts i) (other : t .kind ≡ 0 → ⊥) where
+  pub none-one : NoWords ts from (i + 1)
+  none-one = record {
+    order = omega (arith, n .order);
+    none = λ x h g.
+        by-test (ltb x i) (λ l. n .none x h (ltb-true x i l))
+        (λ l.
+        let same : i ≡ x = omega (arith, ltb-false x i l) in
+        ap (λ (y : ℕ). isWord (peek ts y)) (sym same) ∙ ap isWord (sym here) ∙ ne-eqb (t .kind) 0 other);
+  }
+
+pub none-two : (ts : List Token) (from i : ℕ) → NoWords ts from i → (t u : Token) → t ≡ peek ts i → (t .kind ≡ 0 → ⊥) → u ≡ peek ts (i + 1) → (u .kind ≡ 0 → ⊥) → NoWords ts from (i + 2)
+none-two ts from i n t u e f g h =
+    let two : i + 1 + 1 ≡ i + 2 = omega arith in
+    subst (NoWords ts from) two (none-one ts from (i + 1) (none-one ts from i n t e f) u g h)

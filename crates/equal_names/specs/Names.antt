@@ -1,5 +1,5 @@
 -- Equal names: words with the same characters, which are equal parts of the text.
-use Prim.Native.Nat.{ℕ, suc, _+_, _<_}
+use Prim.Native.Nat.{ℕ, suc, _+_, _≤_, _<_}
 use mathlib.Core.Path.{_≡_}
 use mathlib.Core.Bool.{Bool, true, false, cond}
 use mathlib.Core.List.{List, [], _∷_}
@@ -28,6 +28,11 @@ unfoldable pub firstEqual : List ℕ → Token → ℕ → List Token → ℕ
 unfolding sameWord
 firstEqual text t i [] = i
 firstEqual text t i (u ∷ us) = elim (sameWord text t u) [ true ↦ i | false ↦ firstEqual text t (suc i) us ]
+
+-- no word stands at an index from one on and before another
+pub record NoWords (ts : List Token) (from to : ℕ) : Type 0 where
+  pub order : from ≤ to
+  pub none : (x : ℕ) → from ≤ x → x < to → isWord (peek ts x) ≡ false
 
 -- the words w hold, from a on, the row of first equal words
 pub record Interned (text : List ℕ) (ts : List Token) (a : ℕ) (w : List ℕ) : Type 0 where

@@ -5,7 +5,7 @@ ghost use Prim.Native.Nat.{_+_, _*_, _-_, _/_, _%_, _<_, _≤_, _^_};
 ghost use lib.ListN.{length, getD, set, drop};
 ghost use Rattle.parser.specs.Row.{peek};
 ghost use Rattle.equal_names.specs.Rows.{rows, Kept};
-ghost use Rattle.equal_names.specs.Names.{isWord, sameWord, firstEqual, Interned};
+ghost use Rattle.equal_names.specs.Names.{isWord, sameWord, firstEqual, NoWords, Interned};
 ghost use Rattle.lexer.specs.Places.{part};
 ghost use Rattle.equal_names.specs.Index.{step, fourAt, restOf, hashFrom, letterOf, slotOf, stops, filled, Probed, Room, Indexed, Tried};
 
@@ -287,6 +287,24 @@ fn clear_table(
     diag::clear(&mut work[b..e]);
 }
 
+// The first index from one on where a word may stand: what is passed over is none. Two tokens at a time.
+fn next_word(work: &[u32], count: usize, from: usize) -> usize
+    requires { ⌜ (4 * count ≤ length (now work)) × (from ≤ count) × (count < 2 ^ 31) ⌝ }
+    ensures { λ r. ⌜ NoWords (rows count (now (work .entry))) from r × (r ≤ count) ⌝ }
+{
+    let mut i = from;
+    while i + 1 < count {
+        if token_at(work, count, i).kind == kind::WORD {
+            return i;
+        }
+        if token_at(work, count, i + 1).kind == kind::WORD {
+            return i + 1;
+        }
+        i += 2;
+    }
+    i
+}
+
 // The row of first equal words by an index; false where a window is full.
 fn index(
     text: &[u8],
@@ -305,43 +323,12 @@ fn index(
     let mut x = 0;
     while x < count {
         if enter_token(text, work, count, a, b, letters, span, window, x) {
-            x += 1;
+            x = next_word(work, count, x + 1);
         } else {
             return false;
         }
     }
     true
-}
-
-// The index of the first word that has the characters of t; the number of tokens if there is none.
-fn first_equal(text: &[u8], work: &[u32], count: usize, t: Token) -> usize
-    requires { ⌜ 4 * count ≤ length (now work) ⌝ }
-    ensures { λ r. ⌜ r ≡ firstEqual (now (text .entry)) t 0 (rows count (now (work .entry))) ⌝ }
-{
-    let name = names::part_of(text, t.start as usize, t.end as usize);
-    let mut i = 0;
-    while i < count {
-        let u = token_at(work, count, i);
-        if same_word(text, name, t, u) {
-            return i;
-        }
-        i += 1;
-    }
-    i
-}
-
-// The row of first equal words without an index, each looked for from the first token on.
-fn search(text: &[u8], work: &mut [u32], count: usize, a: usize)
-    requires { ⌜ (4 * count ≤ a) × (a + count ≤ length (now work)) × (count < 2 ^ 31) ⌝ }
-    ensures { λ _. ⌜ Kept a (now (work .entry)) (now (work .exit)) × Interned (now (text .entry)) (rows count (now (work .entry))) a (now (work .exit)) ⌝ }
-{
-    let mut x = 0;
-    while x < count {
-        let t = token_at(work, count, x);
-        let f = first_equal(text, work, count, t);
-        work[a + x] = f as u32;
-        x += 1;
-    }
 }
 
 // The number of slots for letters.
@@ -407,25 +394,14 @@ fn soon(text: &[u8], work: &mut [u32], count: usize, a: usize, b: usize, size: u
     by_table(text, work, count, a, b, size, SMALL, SMALL_WINDOW)
 }
 
-// The row of first equal words without a table: by sorting them, or by a search of each where there are fewer free words than tokens, as no caller has it.
-fn without_table(text: &[u8], work: &mut [u32], count: usize, a: usize, b: usize, size: usize)
-    requires { ⌜ (4 * count ≤ a) × (a + count ≤ b) × (b + size ≤ length (now work)) × (count < 2 ^ 31) ⌝ }
-    ensures { λ _. ⌜ Kept a (now (work .entry)) (now (work .exit)) × Interned (now (text .entry)) (rows count (now (work .entry))) a (now (work .exit)) ⌝ }
-{
-    if size < count {
-        return search(text, work, count, a);
-    }
-    order::by_order(text, work, count, a, b);
-}
-
 // The row of first equal words, from the word a on; `size` words from b on are free. Names in order need no table; few find room in a small one, which
-// is soon emptied; others in one that has two slots for each token, where there are so many words.
+// is soon emptied; others in one that has two slots for each token, where there are so many words; else they are sorted.
 pub fn intern(text: &[u8], work: &mut [u32], count: usize, a: usize, b: usize, size: usize)
-    requires { ⌜ (4 * count ≤ a) × (a + count ≤ b) × (b + size ≤ length (now work)) × (0 < size) × (count < 2 ^ 31) ⌝ }
+    requires { ⌜ (4 * count ≤ a) × (a + count ≤ b) × (b + size ≤ length (now work)) × (count ≤ size) × (count < 2 ^ 31) ⌝ }
     ensures { λ _. ⌜ Kept a (now (work .entry)) (now (work .exit)) × Interned (now (text .entry)) (rows count (now (work .entry))) a (now (work .exit)) ⌝ }
 {
     if size < LEAST {
-        return without_table(text, work, count, a, b, size);
+        return order::by_order(text, work, count, a, b);
     }
     if soon(text, work, count, a, b, size) {
         return;
@@ -433,5 +409,5 @@ pub fn intern(text: &[u8], work: &mut [u32], count: usize, a: usize, b: usize, s
     if by_table(text, work, count, a, b, size, 2 * count + SMALL, WINDOW) {
         return;
     }
-    without_table(text, work, count, a, b, size);
+    order::by_order(text, work, count, a, b);
 }

@@ -6,5 +6,6 @@ pub mod Steps
 pub mod Parts
 pub mod Leads
 pub mod Writes
+pub mod Commas
 pub mod Placed
 pub mod Examples

@@ -3,6 +3,7 @@ use Prim.Native.Nat.{ℕ, zero, suc, _+_, _%_}
 use mathlib.Core.Bool.{cond}
 use mathlib.Core.List.{List, [], _∷_}
 use lib.Dec.{eqb}
+use lib.ListN.{getD}
 use Rattle.chars.specs.Class.{classOf}
 use Rattle.chars.specs.declared.Class.the-variants.{Letter, Digit, Space, Sign, Other}
 use Rattle.lexer.specs.Words.{signNumber}
@@ -38,3 +39,7 @@ quickValue k c = cond (eqb k 1) (c % 16) (cond (eqb k 13) 0 c)
 unfoldable pub quickPiece : ℕ → ℕ → ℕ → Piece
 unfolding quickValue
 quickPiece o k c = cond (eqb k 16) (Gap (o + 1)) (Tok k (o + 1) (quickValue k c) (o + 1))
+
+-- the words of the comma that stands at a place as a token; none where no comma stands there
+unfoldable pub commaWords : List ℕ → ℕ → List ℕ
+commaWords t o = cond (eqb (getD t o 0) 0x2C) (8 ∷ o ∷ (o + 1) ∷ 0x2C ∷ []) []

@@ -1,13 +1,13 @@
 // Tokens of the description language (the source's dsl/lexer.rs), as words in a lent row.
 ghost use mathlib.Core.Path.{_≡_};
-ghost use Prim.Native.Nat.{_+_, _*_, _≤_};
+ghost use Prim.Native.Nat.{_+_, _*_, _<_, _≤_};
 ghost use mathlib.Core.List.{[], _∷_};
 ghost use lib.ListN.{length};
 ghost use lib.Seq.{sets};
 ghost use Rattle.chars.specs.Utf8.{decode};
 ghost use Rattle.lexer.specs.Tokens.{tokens};
 ghost use Rattle.lexer.specs.Words.{flat, onto, tokenized};
-ghost use Rattle.lexer.specs.Quick.{leads};
+ghost use Rattle.lexer.specs.Quick.{leads, commaWords};
 
 mod block;
 pub mod kind;
@@ -56,7 +56,23 @@ fn push(work: &mut [u32], n: usize, kind: u32, start: u32, end: u32, value: u32)
     work[o + 3] = value;
 }
 
-// The tokens of a text, as `tokenize` has them: of one ASCII character by the table, of any other by what stands at the place.
+// The comma at a place, if one stands there, as token number n; answers how many tokens that is.
+fn comma(text: &[u8], at: usize, work: &mut [u32], n: usize) -> usize
+    requires { ⌜ (length (now text) ≤ 0x400000) × (at < length (now text) → 4 * n + 4 ≤ length (now work)) ⌝ }
+    ensures { λ r. ⌜ (r ≤ 1) × (4 * r ≡ length (commaWords (now (text .entry)) at)) × (now (work .exit) ≡ sets (now (work .entry)) (4 * n) (commaWords (now (text .entry)) at)) ⌝ }
+{
+    if text.len() <= at {
+        return 0;
+    }
+    if text[at] != 0x2C {
+        return 0;
+    }
+    push(work, n, kind::COMMA, at as u32, (at + 1) as u32, 0x2C);
+    1
+}
+
+// The tokens of a text, as `tokenize` has them: of one ASCII character by the table, of any other by what stands at the place, together with a comma
+// behind it.
 fn fill(table: &[u8; 128], text: &[u8], work: &mut [u32]) -> usize
     requires { ⌜ (now table ≡ leads) × (length (now text) ≤ 0x400000) × (4 * length (now text) + 4 ≤ length (now work)) ⌝ }
     ensures { λ r. ⌜ (r ≡ length (tokens (decode (now (text .entry))))) × (now (work .exit) ≡ onto (flat (tokens (decode (now (text .entry))))) (now (work .entry))) ⌝ }
@@ -77,8 +93,9 @@ fn fill(table: &[u8; 128], text: &[u8], work: &mut [u32]) -> usize
             match p {
                 Piece::Token(kind, end, value, next) => {
                     push(work, n, kind, at as u32, end as u32, value);
-                    n += 1;
-                    at = next;
+                    let k = comma(text, next, work, n + 1);
+                    n = n + 1 + k;
+                    at = next + k;
                 }
                 Piece::Gap(next) => {
                     at = next;

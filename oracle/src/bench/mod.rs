@@ -15,7 +15,7 @@ use cases::{CASES, Case};
 use sides::{Bench, Expected, Kept, Side};
 
 /// The least time that is measured for a case, and the least number of rounds.
-const BUDGET: Duration = Duration::from_millis(600);
+const BUDGET: Duration = Duration::from_secs(2);
 const ROUNDS: usize = 15;
 /// A text whose first round takes longer, in seconds, is run once.
 const SLOW: f64 = 5.0;

@@ -1,10 +1,10 @@
 -- `assembler::enter` meets its contract: the lines are entered in the tokens, and the row of first equal words stands behind them.
 use borrow.Author.Needs.{needs}
-use Rattle.assembler.proofs.AssembledLaws.{enter-room, enter-few, intern-base, intern-names, intern-room, entered-rows}
+use Rattle.assembler.proofs.AssembledLaws.{enter-room, enter-few, intern-base, intern-few, intern-names, intern-room, entered-rows}
 use Rattle.assembler.proofs.enter.Statement.{statement}
 use Rattle.assembler.proofs.enter.Tie as tie
 
-ruleset laws = (needs, enter-room, enter-few, intern-base, intern-names, intern-room, entered-rows)
+ruleset laws = (needs, enter-room, enter-few, intern-base, intern-few, intern-names, intern-room, entered-rows)
 
 pub enter-spec : {M : Type 1} → statement M
 enter-spec =

@@ -27,6 +27,7 @@ ascii-blocks-spec =
     (λ c. search laws)
     (λ c. search laws)
     (λ c. search laws)
+    (λ c κs. search laws)
     (λ c. search laws)
     (λ c. search laws)
     (λ c. search laws)

@@ -1,7 +1,7 @@
 -- `equal_names::index` meets its contract: the invariant: the words passed are in the row and in the table.
 use borrow.Author.Needs.{needs}
 use Prim.Native.Nat.{_-_}
-use Rattle.equal_names.proofs.IndexLaws.{Indexing, indexing-start, indexing-on, indexing-full, indexing-end}
+use Rattle.equal_names.proofs.IndexLaws.{Indexing, indexing-start, next-room, indexing-on, indexing-full, indexing-end}
 use Rattle.equal_names.proofs.index.Statement.{statement}
 use Rattle.equal_names.proofs.index.Tie as tie
 
@@ -11,7 +11,7 @@ Inv-loop text work₀ count a b letters span window x₀ work x = Indexing text 
 abbrev μ-loop : tie.MeasureT-loop
 μ-loop text work₀ count a b letters span window x₀ work x = count - x
 
-ruleset laws = (needs, indexing-start, indexing-on, indexing-full, indexing-end)
+ruleset laws = (needs, indexing-start, next-room, indexing-on, indexing-full, indexing-end)
 
 pub index-spec : {M : Type 1} → statement M
 index-spec =
@@ -23,8 +23,9 @@ index-spec =
     (λ c. search laws)
     (λ c κs. search laws)
     (λ c. search laws)
+    (λ c κs. search laws)
     (λ c. search laws)
-    (λ c. indexing-on _ _ _ _ _ _ _ _ _ _ _ (c .before .before .before .before .before .before .loop .inv) _ (c .before .before .before .enter-token .ensures) (c .if1 .taken))
+    (λ c. search laws)
     (λ c. search laws)
     (λ c. search laws)
     (λ c. search laws)

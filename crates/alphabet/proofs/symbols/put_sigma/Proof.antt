@@ -19,7 +19,7 @@ put-sigma-spec =
     (λ c κs. search laws)
     (λ c κs. (c .before .before .before .before .before .before .pre .0, c .before .index .ensures .1, omega (arith, c .before .before .before .before .before .before .pre .3)))
     (λ c. search laws)
-    (λ c. others-line _ _ _ _ (length-rows _ _ (c .before .before .before .before .before .before .before .before .before .pre .0)) _ _ _ _ _ (c .before .before .before .before .before .before .if1 .taken) (line-put (c .before .before .before .before .before .before .before .before .before .args .blank) _ _ _ _ (c .before .before .before .before .before .token-at .ensures) (c .before .before .before .before .index .ensures .0) _ _ (otherWords (c .before .before .before .before .before .before .before .before .before .args .blank)) _ _ (c .before .before .put-others .ensures)))
+    (λ c. others-line _ _ _ _ (length-rows _ _ (c .before .before .before .before .before .before .before .before .before .pre .0)) _ _ _ _ _ (c .before .before .before .before .before .before .if1 .taken) (line-put (c .before .before .before .before .before .before .before .before .before .args .blank) _ _ _ _ (c .before .before .before .before .before .token-at .ensures) (c .before .before .before .before .index .ensures .0) _ _ (otherWords (c .before .before .before .before .before .before .before .before .before .args .blank)) _ _ (c .before .before .put-range .ensures)))
     (λ c. others-codes _ _ _ _ (length-rows _ _ (c .before .before .before .before .pre .0)) _ _ _ _ _ (c .before .if1 .left) (codes-none (c .before .before .before .before .args .base) (c .before .before .before .before .args .n) (c .before .before .before .before .args .work .now) _ _ (c .if2 .taken)))
     (λ c. search laws)
     (λ c. search laws)
