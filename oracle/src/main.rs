@@ -59,7 +59,7 @@ usage:
   oracle store COUNT SEED              stored answers for COUNT texts of each family
   oracle self [COUNT [SEED [FAMILY]]] [--plant layout|form|leading|sizes]
   oracle compare [tokens|read|write|read-records|write-records|list] [COUNT [SEED [FAMILY]]]
-  oracle bench [--callgrind] [--size BYTES] [CASE..]
+  oracle bench [--callgrind] [--small-pages] [--size BYTES] [CASE..]
                                        time, or instructions, of the original and of the port
 families: grammar damaged soup short lines limits changed joined odd filled spliced named listed large";
 
@@ -115,12 +115,16 @@ fn run(arguments: &[&str]) -> Result<bool, String> {
 }
 
 fn bench_options<'a>(arguments: &[&'a str]) -> Result<bench::Options<'a>, String> {
+    let (pages, arguments) = match arguments {
+        ["--small-pages", rest @ ..] => (bench::Pages::Small, rest),
+        rest => (bench::Pages::Large, rest),
+    };
     let (size, names) = match arguments {
         ["--size", size, names @ ..] => (Some(number(size)? as usize), names),
         names => (None, names),
     };
     let names = names.to_vec();
-    Ok(bench::Options { names, size })
+    Ok(bench::Options { names, size, pages })
 }
 
 /// One call with a text of the case and size, and buffers for log, sheet and output of these lengths.

@@ -93,9 +93,9 @@ fn fill(table: &[u8; 128], text: &[u8], work: &mut [u32]) -> usize
             match p {
                 Piece::Token(kind, end, value, next) => {
                     push(work, n, kind, at as u32, end as u32, value);
-                    let k = comma(text, next, work, n + 1);
-                    n = n + 1 + k;
-                    at = next + k;
+                    let m = comma(text, next, work, n + 1);
+                    n = n + 1 + m;
+                    at = next + m;
                 }
                 Piece::Gap(next) => {
                     at = next;

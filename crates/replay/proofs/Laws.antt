@@ -3,13 +3,13 @@ use mathlib.Core.Path.{_≡_, refl, sym, ap, _∙_}
 use Prim.Native.Nat.{ℕ, suc, _+_, _-_, _*_, _/_, _≤_, _<_}
 use native.Mathlib.Omega.{arith}
 use native.Mathlib.Numerals.{add-one}
-use mathlib.Core.Bool.{Bool, true, false, cond, _&&_}
+use mathlib.Core.Bool.{Bool, true, false, cond, _&&_, false≢true}
 use mathlib.Core.List.{List, [], _∷_, _++_, append-nil}
 use lib.Dec.{eqb, leb, ltb}
 use lib.ListN.{length, length-take, length-drop, replicate, set, getD, take, drop, drop-of-length-le}
 use lib.Seq.{drop-cons, getD-take, take-all}
 use borrow.Author.Fill.{fill-more}
-use borrow.Author.Tests.{eq-eqb, ne-eqb, le-leb, lt-leb, lt-ltb, le-ltb}
+use borrow.Author.Tests.{eq-eqb, ne-eqb, le-leb, lt-leb, leb-true, lt-ltb, le-ltb}
 use Rattle.language.specs.Outcome.{ReadOutcome, readOutcome, replyWords, replyNumber, WriteOutcome, WriteReply, writeOutcome, writeWords}
 use Rattle.lexer.proofs.Scans.{byTest}
 use Rattle.answer.specs.declared.Refusal.the-variants.{TextTooLong, WorkTooShort, InvalidUtf8, OutsideSet, LogTooShort, SheetTooShort}
@@ -19,7 +19,7 @@ use Rattle.answer.specs.Answer.{replyIn, readIn, leavesWork}
 use Rattle.reader.specs.Reading.{leavesWorkNumber}
 use Rattle.writer.specs.Given.{Given, given, givenBy}
 use Rattle.reply.specs.Words.{answerRow}
-use Rattle.replay.specs.Case.{wordAt, marked, wanted, leftFrom, left, rowsLeft, workLeft, byteWanted, outputFrom, outputLeft, outputAt, agrees, formAgrees, readingAgrees, writingAgrees}
+use Rattle.replay.specs.Case.{wordAt, marked, wanted, leftFrom, left, rowsLeft, workLeft, byteWanted, outputFrom, outputLeft, outputAt, agrees, formAgrees, Within, lengthsFit, readingAgrees, writingAgrees}
 
 -- ---- a word
 module _ (c : List ℕ) (i : ℕ) where
@@ -287,64 +287,69 @@ module _ (before c : List ℕ) (end n : ℕ) (row row′ log sheet out : List �
 text-part : (c : List ℕ) (n : ℕ) → n ≤ length c → take (length c - (length c - n)) (drop (length c - n) c) ≡ drop (length c - n) c
 text-part c n h = take-all (length c - (length c - n)) (drop (length c - n) c) (simp length-drop (omega arith))
 
-module _ (before c : List ℕ) (w l s n : ℕ) (ew : w ≡ wordAt c 2) (el : l ≡ wordAt c 3) (es : s ≡ wordAt c 4) (en : n ≡ wordAt c 1) where
-  pub case-work : 40960 < w → false ≡ readingAgrees before c
+-- whether the lengths fit
+module _ (c : List ℕ) where
+  pub fits-work : (w : ℕ) → w ≡ wordAt c 2 → 40960 < w → false ≡ lengthsFit c
+  unfolding lengthsFit
+  fits-work w ew h = rw (← ew, lt-leb w 40960 h)
+
+  module _ (w l : ℕ) (ew : w ≡ wordAt c 2) (hw : w ≤ 40960) (el : l ≡ wordAt c 3) where
+    pub fits-log : 16384 < l → false ≡ lengthsFit c
+    unfolding lengthsFit
+    fits-log h = rw (← ew, ← el, le-leb w 40960 hw, lt-leb l 16384 h)
+
+    module _ (s : ℕ) (hl : l ≤ 16384) (es : s ≡ wordAt c 4) where
+      pub fits-sheet : 16384 < s → false ≡ lengthsFit c
+      unfolding lengthsFit
+      fits-sheet h = rw (← ew, ← el, ← es, le-leb w 40960 hw, le-leb l 16384 hl, lt-leb s 16384 h)
+
+      module _ (hs : s ≤ 16384) (n : ℕ) (en : n ≡ wordAt c 1) (r : Bool) (test : r ≡ leb n (length c)) where
+        pub fits-text : r ≡ lengthsFit c
+        unfolding lengthsFit
+        fits-text = rw (← ew, ← el, ← es, ← en, le-leb w 40960 hw, le-leb l 16384 hl, le-leb s 16384 hs) test
+
+        pub fits-within : r ≡ true → Within c
+        fits-within e =
+            let t = leb-true n (length c) (sym test ∙ e) in
+            record { work = omega arith; log = omega arith; sheet = omega arith; text = omega arith }
+
+  pub fits-never : false ≡ true → Within c
+  fits-never e = absurd (false≢true e)
+
+-- the calls
+module _ (before c : List ℕ) (k : Bool) (ek : k ≡ lengthsFit c) where
+  pub read-unfit : k ≡ false → false ≡ readingAgrees before c
   unfolding readingAgrees
-  case-work h = rw (← ew, lt-ltb 40960 w h)
+  read-unfit e = rw (← ek, e)
 
-  module _ (hw : w ≤ 40960) where
-    pub case-log : 16384 < l → false ≡ readingAgrees before c
-    unfolding readingAgrees
-    case-log h = rw (← ew, ← el, le-ltb 40960 w hw, lt-ltb 16384 l h)
-
-    module _ (hl : l ≤ 16384) where
-      pub case-sheet : 16384 < s → false ≡ readingAgrees before c
-      unfolding readingAgrees
-      case-sheet h = rw (← ew, ← el, ← es, le-ltb 40960 w hw, le-ltb 16384 l hl, lt-ltb 16384 s h)
-
-      module _ (hs : s ≤ 16384) where
-        pub case-text : length c < n → false ≡ readingAgrees before c
-        unfolding readingAgrees
-        case-text h = rw (← ew, ← el, ← es, ← en, le-ltb 40960 w hw, le-ltb 16384 l hl, le-ltb 16384 s hs, lt-ltb (length c) n h)
-
-        pub case-read : n ≤ length c → (r : Bool) (work log sheet : List ℕ) → r ≡ agrees before c (readOutcome (take (length c - (length c - n)) (drop (length c - n) c)) (length (take w work)) (take (length (take l log)) before) (take (length (take s sheet)) before)) → w ≤ length work → l ≤ length log → s ≤ length sheet → r ≡ readingAgrees before c
-        unfolding readingAgrees
-        case-read h r work log sheet q a b d =
-            let a′ : length (take w work) ≡ w = simp length-take (omega arith) in
-            let b′ : length (take l log) ≡ l = simp length-take (omega arith) in
-            let d′ : length (take s sheet) ≡ s = simp length-take (omega arith) in
-            rw (← ew, ← el, ← es, ← en, le-ltb 40960 w hw, le-ltb 16384 l hl, le-ltb 16384 s hs, le-ltb (length c) n h) (rw (text-part c n h, a′, b′, d′) at q)
-
-module _ (before c : List ℕ) (w l s o n : ℕ) (ew : w ≡ wordAt c 2) (el : l ≡ wordAt c 3) (es : s ≡ wordAt c 4) (eo : o ≡ wordAt c 5) (en : n ≡ wordAt c 1) where
-  pub form-work-long : 40960 < w → false ≡ writingAgrees before c
+  pub write-unfit : k ≡ false → false ≡ writingAgrees before c
   unfolding writingAgrees
-  form-work-long h = rw (← ew, lt-ltb 40960 w h)
+  write-unfit e = rw (← ek, e)
 
-  module _ (hw : w ≤ 40960) where
-    pub form-log-long : 16384 < l → false ≡ writingAgrees before c
+  module _ (yes : k ≡ true) where
+    pub write-long : (o : ℕ) → o ≡ wordAt c 5 → 65536 < o → false ≡ writingAgrees before c
     unfolding writingAgrees
-    form-log-long h = rw (← ew, ← el, le-ltb 40960 w hw, lt-ltb 16384 l h)
+    write-long o eo h = rw (← ek, yes, ← eo, lt-leb o 65536 h)
 
-    module _ (hl : l ≤ 16384) where
-      pub form-sheet-long : 16384 < s → false ≡ writingAgrees before c
+    module _ (w l s n : ℕ) (ew : w ≡ wordAt c 2) (el : l ≡ wordAt c 3) (es : s ≡ wordAt c 4) (en : n ≡ wordAt c 1) (within : Within c) (r : Bool) (work log sheet : List ℕ) (a : w ≤ length work) (b : l ≤ length log) (d : s ≤ length sheet) where
+      inside : n ≤ length c
+      inside = omega (arith, within .text)
+
+      a′ : length (take w work) ≡ w
+      a′ = simp length-take (omega arith)
+
+      b′ : length (take l log) ≡ l
+      b′ = simp length-take (omega arith)
+
+      d′ : length (take s sheet) ≡ s
+      d′ = simp length-take (omega arith)
+
+      pub case-read : r ≡ agrees before c (readOutcome (take (length c - (length c - n)) (drop (length c - n) c)) (length (take w work)) (take (length (take l log)) before) (take (length (take s sheet)) before)) → r ≡ readingAgrees before c
+      unfolding readingAgrees
+      case-read q = rw (← ek, yes, ← ew, ← el, ← es, ← en) (rw (text-part c n inside, a′, b′, d′) at q)
+
+      pub case-written : (o : ℕ) (out : List ℕ) → o ≡ wordAt c 5 → o ≤ 65536 → o ≤ length out → r ≡ formAgrees before c (length c - n) (writeOutcome (take (length c - (length c - n)) (drop (length c - n) c)) (length (take w work)) (take (length (take l log)) before) (take (length (take s sheet)) before) (replicate (length (take o out)) 165)) → r ≡ writingAgrees before c
       unfolding writingAgrees
-      form-sheet-long h = rw (← ew, ← el, ← es, le-ltb 40960 w hw, le-ltb 16384 l hl, lt-ltb 16384 s h)
-
-      module _ (hs : s ≤ 16384) where
-        pub form-output-long : 65536 < o → false ≡ writingAgrees before c
-        unfolding writingAgrees
-        form-output-long h = rw (← ew, ← el, ← es, ← eo, le-ltb 40960 w hw, le-ltb 16384 l hl, le-ltb 16384 s hs, lt-ltb 65536 o h)
-
-        module _ (ho : o ≤ 65536) where
-          pub form-text-long : length c < n → false ≡ writingAgrees before c
-          unfolding writingAgrees
-          form-text-long h = rw (← ew, ← el, ← es, ← eo, ← en, le-ltb 40960 w hw, le-ltb 16384 l hl, le-ltb 16384 s hs, le-ltb 65536 o ho, lt-ltb (length c) n h)
-
-          pub form-written : n ≤ length c → (r : Bool) (work log sheet out : List ℕ) → r ≡ formAgrees before c (length c - n) (writeOutcome (take (length c - (length c - n)) (drop (length c - n) c)) (length (take w work)) (take (length (take l log)) before) (take (length (take s sheet)) before) (replicate (length (take o out)) 165)) → w ≤ length work → l ≤ length log → s ≤ length sheet → o ≤ length out → r ≡ writingAgrees before c
-          unfolding writingAgrees
-          form-written h r work log sheet out q a b d f =
-              let a′ : length (take w work) ≡ w = simp length-take (omega arith) in
-              let b′ : length (take l log) ≡ l = simp length-take (omega arith) in
-              let d′ : length (take s sheet) ≡ s = simp length-take (omega arith) in
-              let f′ : length (take o out) ≡ o = simp length-take (omega arith) in
-              rw (← ew, ← el, ← es, ← eo, ← en, le-ltb 40960 w hw, le-ltb 16384 l hl, le-ltb 16384 s hs, le-ltb 65536 o ho, le-ltb (length c) n h) (rw (text-part c n h, a′, b′, d′, f′) at q)
+      case-written o out eo ho f q =
+          let f′ : length (take o out) ≡ o = simp length-take (omega arith) in
+          rw (← ek, yes, ← eo, le-leb o 65536 ho, ← ew, ← el, ← es, ← en) (rw (text-part c n inside, a′, b′, d′, f′) at q)

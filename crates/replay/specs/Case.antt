@@ -77,21 +77,29 @@ pub record Rooms (b w l s : List ℕ) : Type 0 where
   pub log : 16384 ≤ length l
   pub sheet : 16384 ≤ length s
 
+-- the lengths of a case are within the program's buffers, and its text within the case
+pub record Within (c : List ℕ) : Type 0 where
+  pub work : wordAt c 2 ≤ 40960
+  pub log : wordAt c 3 ≤ 16384
+  pub sheet : wordAt c 4 ≤ 16384
+  pub text : wordAt c 1 ≤ length c
+
+-- whether they are
+unfoldable pub lengthsFit : List ℕ → Bool
+lengthsFit c = leb (wordAt c 2) 40960 && (leb (wordAt c 3) 16384 && (leb (wordAt c 4) 16384 && leb (wordAt c 1) (length c)))
+
+-- the text of a case
+abbrev pub textOf : List ℕ → List ℕ
+textOf c = drop (length c - wordAt c 1) c
+
 -- whether reading the text of a case, with buffers of its lengths, has the stored outcome; not where a length is beyond the program's buffers
 unfoldable pub readingAgrees : List ℕ → List ℕ → Bool
-readingAgrees before c =
-    cond (ltb 40960 (wordAt c 2)) false (
-    cond (ltb 16384 (wordAt c 3)) false (
-    cond (ltb 16384 (wordAt c 4)) false (
-    cond (ltb (length c) (wordAt c 1)) false (
-    agrees before c (readOutcome (drop (length c - wordAt c 1) c) (wordAt c 2) (take (wordAt c 3) before) (take (wordAt c 4) before))))))
+unfolding lengthsFit
+readingAgrees before c = lengthsFit c && agrees before c (readOutcome (textOf c) (wordAt c 2) (take (wordAt c 3) before) (take (wordAt c 4) before))
 
 -- whether writing its form has
 unfoldable pub writingAgrees : List ℕ → List ℕ → Bool
+unfolding lengthsFit
 writingAgrees before c =
-    cond (ltb 40960 (wordAt c 2)) false (
-    cond (ltb 16384 (wordAt c 3)) false (
-    cond (ltb 16384 (wordAt c 4)) false (
-    cond (ltb 65536 (wordAt c 5)) false (
-    cond (ltb (length c) (wordAt c 1)) false (
-    formAgrees before c (length c - wordAt c 1) (writeOutcome (drop (length c - wordAt c 1) c) (wordAt c 2) (take (wordAt c 3) before) (take (wordAt c 4) before) (replicate (wordAt c 5) 165)))))))
+    lengthsFit c && (leb (wordAt c 5) 65536
+    && formAgrees before c (length c - wordAt c 1) (writeOutcome (textOf c) (wordAt c 2) (take (wordAt c 3) before) (take (wordAt c 4) before) (replicate (wordAt c 5) 165)))

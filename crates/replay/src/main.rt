@@ -2,10 +2,11 @@
 // written with dirty buffers of the lengths that it says, and every word of the answers and of what the calls leave behind is compared. Written are a line
 // for each case that differs, and how many of each kind of answer agreed.
 ghost use mathlib.Core.Path.{_≡_};
+ghost use mathlib.Core.Bool.{true};
 ghost use Prim.Native.Nat.{_+_, _<_, _≤_};
 ghost use lib.ListN.{length, replicate, take};
 ghost use Rattle.language.specs.Outcome.{readOutcome, writeOutcome};
-ghost use Rattle.replay.specs.Case.{wordAt, marked, wanted, left, rowsLeft, workLeft, agrees, byteWanted, outputLeft, outputAt, formAgrees, Rooms, readingAgrees, writingAgrees};
+ghost use Rattle.replay.specs.Case.{wordAt, marked, wanted, left, rowsLeft, workLeft, agrees, byteWanted, outputLeft, outputAt, formAgrees, Rooms, Within, lengthsFit, readingAgrees, writingAgrees};
 
 // The mark that says that a row is left untouched.
 const UNTOUCHED: u32 = 0xffff_ffff;
@@ -275,6 +276,22 @@ fn write_agrees(
     form_agrees(before, case, end, text, work, log, sheet, output)
 }
 
+// Whether the lengths of a case are within the program's buffers, and its text within the case.
+fn lengths_fit(case: &[u8]) -> bool
+    ensures { λ r. ⌜ (r ≡ lengthsFit (now (case .entry))) × (r ≡ true → Within (now (case .entry))) ⌝ }
+{
+    if WORK < size_at(case, 2) {
+        return false;
+    }
+    if ROW < size_at(case, 3) {
+        return false;
+    }
+    if ROW < size_at(case, 4) {
+        return false;
+    }
+    size_at(case, 1) <= case.len()
+}
+
 // Whether the reading call agrees with a case; one whose lengths are beyond the program's buffers does not.
 fn reading_agrees(
     before: &[u32],
@@ -286,23 +303,14 @@ fn reading_agrees(
     requires { ⌜ Rooms (now before) (now work) (now log) (now sheet) ⌝ }
     ensures { λ r. ⌜ r ≡ readingAgrees (now (before .entry)) (now (case .entry)) ⌝ }
 {
+    if !lengths_fit(case) {
+        return false;
+    }
     let w = size_at(case, 2);
     let l = size_at(case, 3);
     let s = size_at(case, 4);
     let n = size_at(case, 1);
     let e = case.len();
-    if WORK < w {
-        return false;
-    }
-    if ROW < l {
-        return false;
-    }
-    if ROW < s {
-        return false;
-    }
-    if e < n {
-        return false;
-    }
     read_agrees(
         before,
         case,
@@ -325,27 +333,18 @@ fn writing_agrees(
     requires { ⌜ Rooms (now before) (now work) (now log) (now sheet) × (65536 ≤ length (now output)) ⌝ }
     ensures { λ r. ⌜ r ≡ writingAgrees (now (before .entry)) (now (case .entry)) ⌝ }
 {
-    let w = size_at(case, 2);
-    let l = size_at(case, 3);
-    let s = size_at(case, 4);
+    if !lengths_fit(case) {
+        return false;
+    }
     let o = size_at(case, 5);
-    let n = size_at(case, 1);
-    let e = case.len();
-    if WORK < w {
-        return false;
-    }
-    if ROW < l {
-        return false;
-    }
-    if ROW < s {
-        return false;
-    }
     if OUTPUT < o {
         return false;
     }
-    if e < n {
-        return false;
-    }
+    let w = size_at(case, 2);
+    let l = size_at(case, 3);
+    let s = size_at(case, 4);
+    let n = size_at(case, 1);
+    let e = case.len();
     write_agrees(
         before,
         case,

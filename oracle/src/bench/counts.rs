@@ -5,7 +5,7 @@ use std::process::Command;
 
 use super::cases::Case;
 use super::sides::{Bench, Expected, Lent, Side};
-use super::{Options, case, text};
+use super::{Options, Pages, case, text};
 
 /// Longer texts are not counted unless asked for: a call takes some fifty times as long.
 const MOST: usize = 1 << 18;
@@ -97,6 +97,6 @@ pub fn once(side: &str, name: &str, size: usize, lent: [usize; 3]) -> Result<boo
     }
     let [log, sheet, output] = lent;
     let lent = Lent { log, sheet, output };
-    Bench::new(text(case, size), lent).call(side);
+    Bench::new(text(case, size), lent, Pages::Small).call(side);
     Ok(true)
 }

@@ -7,11 +7,13 @@
 mod cases;
 mod clock;
 mod counts;
+mod pages;
 mod sides;
 
 use std::time::Duration;
 
 use cases::{CASES, Case};
+pub use pages::Pages;
 use sides::{Bench, Expected, Kept, Side};
 
 /// The least time that is measured for a case, and the least number of rounds.
@@ -26,11 +28,12 @@ const SAMPLE: f64 = 200e-6;
 /// But not more often than this.
 const CALLS: usize = 64;
 
-/// Which cases are measured, and at which size if not at their own.
+/// Which cases are measured, at which size if not at their own, and on which pages buffers are lent.
 #[derive(Default)]
 pub struct Options<'a> {
     pub names: Vec<&'a str>,
     pub size: Option<usize>,
+    pub pages: Pages,
 }
 
 impl Options<'_> {
@@ -63,11 +66,11 @@ struct Text {
 }
 
 impl Text {
-    fn new(case: &Case, size: usize) -> Self {
+    fn new(case: &Case, size: usize, pages: Pages) -> Self {
         let text = text(case, size);
         let expected = Expected::of(case, &text);
         Self {
-            bench: Bench::new(text, expected.lent),
+            bench: Bench::new(text, expected.lent, pages),
             expected,
             samples: Default::default(),
             calls: [1; 3],
@@ -153,7 +156,7 @@ pub fn times(options: &Options<'_>) -> Result<bool, String> {
             if left_out.is_some() {
                 break;
             }
-            let mut text = Text::new(case, size);
+            let mut text = Text::new(case, size, options.pages);
             same &= agrees(case, &mut text.bench, &text.expected);
             text.round(case);
             texts.push(text);

@@ -8,6 +8,7 @@ use crate::outcome::{MAX_TEXT, ReadReply, Refusal, work_needed};
 use crate::reading::{self, Reading};
 
 use super::cases::Case;
+use super::pages::{Pages, buffer};
 
 /// Records that a log has room for even if the text has no diagnostic.
 const LOG_RECORDS: usize = 64;
@@ -114,12 +115,12 @@ pub enum Kept {
 
 impl Bench {
     /// Buffers of these lengths, every page of them touched.
-    pub fn new(text: String, lent: Lent) -> Self {
+    pub fn new(text: String, lent: Lent, pages: Pages) -> Self {
         let buffers = Buffers {
-            work: vec![DIRTY; work_needed(text.len())],
-            log: vec![DIRTY; lent.log],
-            sheet: vec![DIRTY; lent.sheet],
-            output: vec![DIRTY as u8; lent.output],
+            work: buffer(DIRTY, work_needed(text.len()), pages),
+            log: buffer(DIRTY, lent.log, pages),
+            sheet: buffer(DIRTY, lent.sheet, pages),
+            output: buffer(DIRTY as u8, lent.output, pages),
         };
         Self { text, buffers }
     }
