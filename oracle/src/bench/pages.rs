@@ -4,7 +4,8 @@
 
 use std::ffi::c_void;
 
-/// The number that Linux gives to this advice.
+/// The numbers that Linux gives to two advices: to give pages back, which the allocator may have had before, and to take large ones.
+const DONT_NEED: i32 = 4;
 const HUGE_PAGE: i32 = 14;
 /// What the start of an advised part is a multiple of.
 const PAGE: usize = 4096;
@@ -33,12 +34,14 @@ pub fn buffer<T: Copy>(value: T, len: usize, pages: Pages) -> Vec<T> {
     buffer
 }
 
-/// Asks for large pages; the system may have none, and then nothing changes.
+/// Asks for large pages where nothing was written yet; the system may have none, and then nothing changes.
 fn advise(start: usize, bytes: usize) {
     let from = start.next_multiple_of(PAGE);
     let to = (start + bytes) / PAGE * PAGE;
-    if from < to {
-        // SAFETY: the pages lie within a buffer of ours, and the advice changes no contents.
-        unsafe { madvise(from as *mut c_void, to - from, HUGE_PAGE) };
+    for advice in [DONT_NEED, HUGE_PAGE] {
+        if from < to {
+            // SAFETY: the pages lie within a buffer of ours whose contents nobody has looked at.
+            unsafe { madvise(from as *mut c_void, to - from, advice) };
+        }
     }
 }

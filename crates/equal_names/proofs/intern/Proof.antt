@@ -1,4 +1,4 @@
--- `equal_names::intern` meets its contract: by the small table, or else by the large one, or else by the search.
+-- `equal_names::intern` meets its contract: by the small table, or else by the large one, or else by sorting the words.
 use borrow.Author.Needs.{needs}
 use Rattle.equal_names.proofs.IndexLaws.{small-kept, small-done, next-kept, next-done, large-tried}
 use Rattle.equal_names.proofs.intern.Statement.{statement}
