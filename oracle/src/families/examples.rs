@@ -64,7 +64,7 @@ fn change_at(text: &str, at: usize, change: usize) -> String {
         0 => characters[at].clear(),
         1 if at + 1 < characters.len() => characters.swap(at, at + 1),
         1 => characters[at].clear(),
-        _ if change % 2 == 0 => characters[at].insert_str(0, piece(change - 2)),
+        _ if change.is_multiple_of(2) => characters[at].insert_str(0, piece(change - 2)),
         _ => characters[at] = piece(change - 2).into(),
     }
     characters.concat()
