@@ -12,7 +12,7 @@ use borrow.Author.Tests.{eq-eqb, ne-eqb, eqb-true, ltb-true, ltb-false, lt-ltb, 
 use borrow.Rule.Slice.PartMut.{midOf, postOf, putMid, same-len-mid, mid-len, take-put}
 use lib.Dec.{eqb, ltb, leb}
 use lib.ListN.{length, getD, take, drop, set, replicate, length-set, length-take, length-drop, length-replicate, getD-replicate, drop-of-length-le, List·getD-append}
-use lib.Seq.{drop-cons, getD-append-add, getD-set-same, getD-set-other, take-set-le, take-take, length-take-le}
+use lib.Seq.{set-getD, drop-cons, getD-append-add, getD-set-same, getD-set-other, take-set-le, take-take, length-take-le}
 use Rattle.diag.proofs.Cases.{by-test}
 use Rattle.lexer.specs.Places.{part}
 use Rattle.tokens.specs.declared.Token.{Token}
@@ -224,9 +224,16 @@ module _ (text : List ℕ) (ts : List Token) (w : List ℕ) (at window : ℕ) (t
     probing-end h = record { low = p .low; passed = p .passed; here = λ l. absurd (omega arith) }
 
 -- ---- a word stored
-pub stored : (w : List ℕ) (slot name x v : ℕ) → v ≡ filled (getD w slot 0) x
-    → set (set w slot v) name (v - 1) ≡ set (set w slot (filled (getD w slot 0) x)) name (filled (getD w slot 0) x - 1)
-stored w slot name x v e = ap (λ (v : ℕ). set (set w slot v) name (v - 1)) e
+pub stored-new : (w : List ℕ) (slot name x : ℕ) → getD w slot 0 ≡ 0
+    → set (set w slot (x + 1)) name x ≡ set (set w slot (filled (getD w slot 0) x)) name (filled (getD w slot 0) x - 1)
+stored-new w slot name x e =
+    let z : x + 1 - 1 ≡ x = omega arith in
+    ap (set (set w slot (x + 1)) name) (sym z) ∙ ap (λ (v : ℕ). set (set w slot v) name (v - 1)) (filled-empty (getD w slot 0) x e)
+
+pub stored-again : (w : List ℕ) (slot name x : ℕ) → (getD w slot 0 ≡ 0 → ⊥)
+    → set w name (getD w slot 0 - 1) ≡ set (set w slot (filled (getD w slot 0) x)) name (filled (getD w slot 0) x - 1)
+stored-again w slot name x n =
+    ap (λ (l : List ℕ). set l name (getD w slot 0 - 1)) (sym (set-getD w slot 0)) ∙ ap (λ (v : ℕ). set (set w slot v) name (v - 1)) (filled-held (getD w slot 0) x n)
 
 pub tried-false : {P : Type 0} {a : ℕ} {w₀ w : List ℕ} → Kept a w₀ w → Tried P a w₀ w false
 tried-false k = record { kept = k; done = λ e. absurd (let o : _≡_ {A = ℕ} 0 1 = cc in omega arith) }

@@ -195,25 +195,19 @@ fn probe(
     d
 }
 
-// What a slot holds once the word x was looked for.
-fn fill(held: u32, x: usize) -> u32
-    requires { ⌜ x < 2 ^ 31 ⌝ }
-    ensures { λ r. ⌜ (r ≡ filled held x) × (0 < r) ⌝ }
-{
-    if held == 0 {
-        return x as u32 + 1;
-    }
-    held
-}
-
-// Stores the word x in its slot, if that is empty, and the slot's word as the first that equals x.
+// Stores the word x in its slot, if that is empty, and the slot's word as the first that equals x. A filled slot is not written, so that the next
+// look at it need not wait for a store.
 fn store(work: &mut [u32], slot: usize, name: usize, x: usize)
     requires { ⌜ (slot < length (now work)) × (name < length (now work)) × (x < 2 ^ 31) ⌝ }
     ensures { λ _. ⌜ now (work .exit) ≡ set (set (now (work .entry)) slot (filled (getD (now (work .entry)) slot 0) x)) name (filled (getD (now (work .entry)) slot 0) x - 1) ⌝ }
 {
-    let v = fill(work[slot], x);
-    work[slot] = v;
-    work[name] = v - 1;
+    let held = work[slot];
+    if held == 0 {
+        work[slot] = x as u32 + 1;
+        work[name] = x as u32;
+        return;
+    }
+    work[name] = held - 1;
 }
 
 // Enters the word x, whose name is no letter with a slot of its own; false where its window is full.
