@@ -47,6 +47,14 @@ many t P Q step (suc k) i h f p =
     let e : i + k + 1 ≡ i + suc k = omega arith in
     subst P e (step (i + k) (omega arith) (f k (omega arith)) (many t P Q step k i (omega arith) (λ (j : ℕ) (g : j < k). f j (omega arith)) p))
 
+-- as many ASCII bytes as one likes
+module _ (t : List ℕ) (k i : ℕ) (h : i + k ≤ length t) (f : (j : ℕ) → j < k → getD t (i + j) 0 < 0x80) where
+  many-valid : (v : ℕ) → i + sizes (decode (drop i t)) ≡ v → i + k + sizes (decode (drop (i + k) t)) ≡ v
+  many-valid v = many t (λ (j : ℕ). j + sizes (decode (drop j t)) ≡ v) (λ (c : ℕ). c < 0x80) (λ j g l p. ascii-valid t j g l v p) k i h f
+
+  many-outside : (v : Outside) → outsideFrom i (decode (drop i t)) ≡ v → outsideFrom (i + k) (decode (drop (i + k) t)) ≡ v
+  many-outside v = many t (λ (j : ℕ). outsideFrom j (decode (drop j t)) ≡ v) (λ (c : ℕ). c < 0x80) (λ j g l p. ascii-outside t j g l v p) k i h f
+
 or-left : (a b : ℕ) → a ≤ bitOr a b
 or-left a b = omega (arith, or-add-and a b, and-le-r a b)
 
@@ -105,12 +113,10 @@ two-ascii t i x e l (suc (suc j)) h = absurd (omega arith)
 -- the loop of `ascii_blocks`
 module _ (t : List ℕ) (i x : ℕ) (h : 8 ≤ length t - i) (e : x ≡ ors t i) (l : x < 0x80) where
   pub block-valid : (v : ℕ) → i + sizes (decode (drop i t)) ≡ v → i + 8 + sizes (decode (drop (i + 8) t)) ≡ v
-  block-valid v =
-      many t (λ (j : ℕ). j + sizes (decode (drop j t)) ≡ v) (λ (c : ℕ). c < 0x80) (λ j g k p. ascii-valid t j g k v p) 8 i (omega arith) (eight-ascii t i x e l)
+  block-valid = many-valid t 8 i (omega arith) (eight-ascii t i x e l)
 
   pub block-outside : (v : Outside) → outsideFrom i (decode (drop i t)) ≡ v → outsideFrom (i + 8) (decode (drop (i + 8) t)) ≡ v
-  block-outside v =
-      many t (λ (j : ℕ). outsideFrom j (decode (drop j t)) ≡ v) (λ (c : ℕ). c < 0x80) (λ j g k p. ascii-outside t j g k v p) 8 i (omega arith) (eight-ascii t i x e l)
+  block-outside = many-outside t 8 i (omega arith) (eight-ascii t i x e l)
 
 -- the loop of `ascii_end`
 module _ (t : List ℕ) (i x : ℕ) (h : i < length t) (e : x ≡ getD t i 0) (l : x < 0x80) where
@@ -123,14 +129,25 @@ module _ (t : List ℕ) (i x : ℕ) (h : i < length t) (e : x ≡ getD t i 0) (l
 -- `ascii_two`
 module _ (t : List ℕ) (i x : ℕ) (h : i + 2 ≤ length t) (e : x ≡ bitOr (getD t i 0) (getD t (i + 1) 0)) (l : x < 0x80) where
   pub two-valid : i + 2 + sizes (decode (drop (i + 2) t)) ≡ i + sizes (decode (drop i t))
-  two-valid =
-      let v : ℕ = i + sizes (decode (drop i t)) in
-      many t (λ (j : ℕ). j + sizes (decode (drop j t)) ≡ v) (λ (c : ℕ). c < 0x80) (λ j g k p. ascii-valid t j g k v p) 2 i h (two-ascii t i x e l) refl
+  two-valid = many-valid t 2 i h (two-ascii t i x e l) (i + sizes (decode (drop i t))) refl
 
   pub two-outside : outsideFrom (i + 2) (decode (drop (i + 2) t)) ≡ outsideFrom i (decode (drop i t))
-  two-outside =
-      let v : Outside = outsideFrom i (decode (drop i t)) in
-      many t (λ (j : ℕ). outsideFrom j (decode (drop j t)) ≡ v) (λ (c : ℕ). c < 0x80) (λ j g k p. ascii-outside t j g k v p) 2 i h (two-ascii t i x e l) refl
+  two-outside = many-outside t 2 i h (two-ascii t i x e l) (outsideFrom i (decode (drop i t))) refl
+
+-- `ascii_three`
+module _ (t : List ℕ) (i a x : ℕ) (h : 3 ≤ length t - i) (ea : a ≡ getD t i 0) (la : a < 0x80)
+    (e : x ≡ bitOr (getD t (i + 1) 0) (getD t (i + 2) 0)) (l : x < 0x80) where
+  three-ascii : (j : ℕ) → j < 3 → getD t (i + j) 0 < 0x80
+  three-ascii zero g = let z : i + 0 ≡ i = omega arith in rw z (omega arith)
+  three-ascii (suc zero) g = omega (arith, or-left (getD t (i + 1) 0) (getD t (i + 2) 0))
+  three-ascii (suc (suc zero)) g = omega (arith, or-right (getD t (i + 1) 0) (getD t (i + 2) 0))
+  three-ascii (suc (suc (suc j))) g = absurd (omega arith)
+
+  pub three-valid : i + 3 + sizes (decode (drop (i + 3) t)) ≡ i + sizes (decode (drop i t))
+  three-valid = many-valid t 3 i (omega arith) three-ascii (i + sizes (decode (drop i t))) refl
+
+  pub three-outside : outsideFrom (i + 3) (decode (drop (i + 3) t)) ≡ outsideFrom i (decode (drop i t))
+  three-outside = many-outside t 3 i (omega arith) three-ascii (outsideFrom i (decode (drop i t))) refl
 
 -- ---- the loop of `plain_up_to`
 module _ (t : List ℕ) (at : ℕ) (p : at + sizes (decode (drop at t)) ≡ validUpTo t) (q : outsideFrom at (decode (drop at t)) ≡ firstOutside t) where

@@ -285,8 +285,25 @@ fn ascii_two(text: &[u8], at: usize) -> usize
     at + 2
 }
 
-// A place before which all bytes are ASCII, from one on: blocks of eight are passed over; where the third byte says that there is none, two bytes, such as
-// a comma and a quote between two symbols.
+// The place behind three bytes, if they are ASCII, as those between two quoted symbols are; else that of the first.
+fn ascii_three(text: &[u8], at: usize) -> usize
+    requires { ⌜ at ≤ length (now text) ⌝ }
+    ensures { λ r. ⌜ (at ≤ r) × (r ≤ length (now (text .entry))) × (r + sizes (decode (drop r (now (text .entry)))) ≡ at + sizes (decode (drop at (now (text .entry))))) × (outsideFrom r (decode (drop r (now (text .entry)))) ≡ outsideFrom at (decode (drop at (now (text .entry))))) ⌝ }
+{
+    if text.len() - at < 3 {
+        return at;
+    }
+    if 0x80 <= text[at] {
+        return at;
+    }
+    let x = text[at + 1] | text[at + 2];
+    if 0x80 <= x {
+        return at;
+    }
+    at + 3
+}
+
+// A place before which all bytes are ASCII, from one on: blocks of eight are passed over; where the third byte says that there is none, two bytes.
 fn ascii_blocks(text: &[u8], at: usize) -> usize
     requires { ⌜ at ≤ length (now text) ⌝ }
     ensures { λ r. ⌜ (at ≤ r) × (r ≤ length (now (text .entry))) × (r + sizes (decode (drop r (now (text .entry)))) ≡ at + sizes (decode (drop at (now (text .entry))))) × (outsideFrom r (decode (drop r (now (text .entry)))) ≡ outsideFrom at (decode (drop at (now (text .entry))))) ⌝ }
@@ -394,7 +411,7 @@ pub fn plain_up_to(text: &[u8]) -> usize
             if next == at {
                 return at;
             }
-            at = next;
+            at = ascii_three(text, next);
         }
     }
 }
