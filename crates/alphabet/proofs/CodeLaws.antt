@@ -132,6 +132,20 @@ unfolding notedAll
 noted-append cs [] ys = refl
 noted-append cs (x ∷ xs) ys = noted-append (noted cs x) xs ys
 
+-- what is noted is there
+member-append : (cs : List ℕ) (c : ℕ) → member eqb (cs ++ c ∷ []) c ≡ true
+unfolding member
+member-append [] c = rw (eq-eqb c c refl)
+member-append (x ∷ cs) c = or-true (eqb x c) (member eqb (cs ++ c ∷ []) c) (member-append cs c)
+
+pub noted-member : (cs : List ℕ) (c : ℕ) → member eqb (noted cs c) c ≡ true
+unfolding noted
+noted-member cs c = go (member eqb cs c) refl
+  where
+    go : (b : Bool) → member eqb cs c ≡ b → member eqb (cond b cs (cs ++ c ∷ [])) c ≡ true
+    go true e = e
+    go false e = member-append cs c
+
 -- nothing is taken away
 noted-more : (cs : List ℕ) (c : ℕ) → length cs ≤ length (noted cs c)
 unfolding noted

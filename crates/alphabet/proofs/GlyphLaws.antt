@@ -1,12 +1,12 @@
 -- Laws of the characters that rules use.
 use mathlib.Core.Path.{_≡_, refl, sym, ap, subst, _∙_}
-use mathlib.Core.Bool.{Bool, true, false, cond}
+use mathlib.Core.Bool.{Bool, true, false, cond, not, _||_, false≢true}
 use mathlib.Core.List.{List, [], _∷_, _++_, map, append-nil, append-assoc}
 use Prim.Native.Nat.{ℕ, zero, suc, _+_, _-_, _*_, _≤_, _<_}
 use native.Mathlib.Omega.{arith}
 use native.Mathlib.Numerals.{add-one}
 use native.Mathlib.Decide.{decLt}
-use borrow.Author.Tests.{eq-eqb, ne-eqb}
+use borrow.Author.Tests.{eq-eqb, ne-eqb, eqb-true}
 use lib.Dec.{eqb}
 use lib.ListN.{length, getD, take, drop, drop-of-length-le, List·getD-eq-default}
 use lib.Seq.{drop-cons, take-nil}
@@ -14,14 +14,15 @@ use Rattle.tokens.specs.declared.Token.{Token}
 use Rattle.parser.specs.Views.{isSymbol}
 use Rattle.alphabet.specs.declared.glyphs.Walk.{Walk}
 use Rattle.parser.specs.Row.{peek, ended}
+use Rattle.language.specs.Infer.{member}
 use Rattle.language.proofs.Facts.{map-append}
 use Rattle.assembler.specs.Rows.{rows}
-use Rattle.assembler.specs.Entries.{Entry, entryAt, behind, entries}
+use Rattle.assembler.specs.Entries.{Entry, entryAt, hasKind, behind, entries}
 use Rattle.assembler.proofs.Rows.{length-rows, entriesAt, entries-step, entries-end}
 use Rattle.sheet.specs.Rules.{resolve}
 use Rattle.alphabet.specs.Codes.{noted, notedAll, held, Codes, Room}
-use Rattle.alphabet.specs.Symbols.{range, symbols, takes, walked, firsts, outside, others, further, ruleSymbols, rulesSymbols, codesOf}
-use Rattle.alphabet.proofs.CodeLaws.{Noting, noting-start, noting-room, noting-on, noting-end, noting-rows, noted-none}
+use Rattle.alphabet.specs.Symbols.{range, symbols, isNew, takes, walked, firsts, outside, others, further, partSymbols, ruleSymbols, rulesSymbols, codesOf}
+use Rattle.alphabet.proofs.CodeLaws.{note-there, noted-member, Noting, noting-start, noting-room, noting-on, noting-end, noting-rows, noted-none}
 
 -- ---- a walk over read sets
 module _ (s : Walk) (t : Token) where
@@ -142,7 +143,7 @@ codes-append blank xs ys = map-append (resolve blank) xs ys
 -- ---- the walks have come to the index i
 module _ (b count blank : ℕ) (target w₀ w : List ℕ) (n i to : ℕ) (few : 4 * count ≤ b) where
   module _ (g : Noting b target w₀ w n (codesOf blank (symbols (range (rows count w₀) i to)))) where
-    pub range-end : to ≤ i → Codes b w₀ target w n
+    range-end : to ≤ i → Codes b w₀ target w n
     unfolding symbols
     range-end h = noting-end b target w₀ w n (subst (λ (l : List Token). Noting b target w₀ w n (codesOf blank (symbols l))) (range-none (rows count w₀) i to h) g)
 
@@ -155,10 +156,10 @@ module _ (b count blank : ℕ) (target w₀ w : List ℕ) (n i to : ℕ) (few : 
           (ap (codesOf blank) (symbols-on (rows count w₀) i to low ∙ ap (λ (t : Token). symbols (t ∷ []) ++ symbols (range (rows count w₀) (i + 1) to)) at₀)
           ∙ codes-append blank (symbols (t ∷ [])) (symbols (range (rows count w₀) (i + 1) to))) g
 
-      pub range-room : Room b n w (codesOf blank (symbols (t ∷ [])))
+      range-room : Room b n w (codesOf blank (symbols (t ∷ [])))
       range-room = noting-room b target w₀ w n (codesOf blank (symbols (t ∷ []))) (codesOf blank (symbols (range (rows count w₀) (i + 1) to))) split
 
-      pub range-next : (w′ : List ℕ) (n′ : ℕ) → Codes b w (notedAll (held b n w) (codesOf blank (symbols (t ∷ [])))) w′ n′ → Noting b target w₀ w′ n′ (codesOf blank (symbols (range (rows count w₀) (i + 1) to)))
+      range-next : (w′ : List ℕ) (n′ : ℕ) → Codes b w (notedAll (held b n w) (codesOf blank (symbols (t ∷ [])))) w′ n′ → Noting b target w₀ w′ n′ (codesOf blank (symbols (range (rows count w₀) (i + 1) to)))
       range-next w′ n′ c = noting-on b target w₀ w n (codesOf blank (symbols (t ∷ []))) (codesOf blank (symbols (range (rows count w₀) (i + 1) to))) w′ n′ split c
 
   module _ (s : Walk) where
@@ -189,6 +190,101 @@ module _ (b count blank : ℕ) (target w₀ w : List ℕ) (n i to : ℕ) (few : 
             → Noting b target w₀ w′ n′ (codesOf blank (firsts s′ (range (rows count w₀) (i + 1) to)))
         first-next w′ n′ s′ c e = subst (λ (s : Walk). Noting b target w₀ w′ n′ (codesOf blank (firsts s (range (rows count w₀) (i + 1) to)))) (sym e)
             (noting-on b target w₀ w n (codesOf blank here) (codesOf blank later) w′ n′ first-split c)
+
+-- ---- symbols that differ from the last
+module _ (last t : Token) (b : Bool) (test : b ≡ isSymbol t) where
+  pub new-no : b ≡ false → false ≡ isNew last t
+  unfolding isNew
+  new-no e = rw (← test, e)
+
+  pub new-symbol : b ≡ true → (not (eqb (t .kind) (last .kind)) || not (eqb (t .value) (last .value))) ≡ isNew last t
+  unfolding isNew
+  new-symbol e = rw (← test, e)
+
+-- a new one is a symbol
+new-is : (last t : Token) → isNew last t ≡ true → isSymbol t ≡ true
+unfolding isNew
+new-is last t e = go (isSymbol t) e
+  where
+    go : (b : Bool) → cond b (not (eqb (t .kind) (last .kind)) || not (eqb (t .value) (last .value))) false ≡ true → b ≡ true
+    go true e = refl
+    go false e = e
+
+-- one that is not new, and is a symbol, is like the last
+both-no : (x y : Bool) → (not x || not y) ≡ false → (x ≡ true) × (y ≡ true)
+both-no true true e = (refl, refl)
+both-no true false e = absurd (false≢true (sym e))
+both-no false y e = absurd (false≢true (sym e))
+
+new-like : (last t : Token) → isSymbol t ≡ true → isNew last t ≡ false → (t .kind ≡ last .kind) × (t .value ≡ last .value)
+unfolding isNew
+new-like last t s e =
+    let q : (not (eqb (t .kind) (last .kind)) || not (eqb (t .value) (last .value))) ≡ false = rw s at e in
+    let p : (eqb (t .kind) (last .kind) ≡ true) × (eqb (t .value) (last .value) ≡ true) = both-no (eqb (t .kind) (last .kind)) (eqb (t .value) (last .value)) q in
+    (eqb-true (t .kind) (last .kind) (p .0), eqb-true (t .value) (last .value) (p .1))
+
+resolve-like : (blank : ℕ) (last t : Token) → t .kind ≡ last .kind → t .value ≡ last .value → resolve blank last ≡ resolve blank t
+unfolding resolve
+resolve-like blank last t k v = rw (k, v)
+
+symbol-no-feed : (t : Token) → isSymbol t ≡ true → t .kind ≡ 13 → ⊥
+unfolding isSymbol
+symbol-no-feed t e k =
+    let z : false ≡ true = rw (ne-eqb (t .kind) 0 (λ e. omega arith), ne-eqb (t .kind) 1 (λ e. omega arith), ne-eqb (t .kind) 2 (λ e. omega arith), ne-eqb (t .kind) 11 (λ e. omega arith)) at e in
+    false≢true z
+
+-- the walk has come to the index i; the last symbol that was noted, if there is one, is among the codes
+pub record Ranging (b count blank : ℕ) (target w₀ w : List ℕ) (last : Token) (n i to : ℕ) : Type 0 where
+  pub noting : Noting b target w₀ w n (codesOf blank (symbols (range (rows count w₀) i to)))
+  pub known : (last .kind ≡ 13 → ⊥) → member eqb (held b n w) (resolve blank last) ≡ true
+
+pub ranging-start : (b count blank : ℕ) (w : List ℕ) (n from to : ℕ) → Room b n w (codesOf blank (symbols (range (rows count w) from to)))
+    → Ranging b count blank (notedAll (held b n w) (codesOf blank (symbols (range (rows count w) from to)))) w w ended n from to
+ranging-start b count blank w n from to h = record { noting = noting-start b w n (codesOf blank (symbols (range (rows count w) from to))) h; known = λ no. absurd (no refl) }
+
+-- behind a branch
+pub ranging-as : (b count blank : ℕ) (target w₀ w : List ℕ) (last : Token) (n i to : ℕ) (w′ : List ℕ) (last′ : Token) (n′ : ℕ) → w′ ≡ w → last′ ≡ last → n′ ≡ n
+    → Ranging b count blank target w₀ w last n i to → Ranging b count blank target w₀ w′ last′ n′ i to
+ranging-as b count blank target w₀ w last n i to w′ last′ n′ p q r g =
+    subst (λ (w : List ℕ). Ranging b count blank target w₀ w last′ n′ i to) (sym p)
+    (subst (λ (l : Token). Ranging b count blank target w₀ w l n′ i to) (sym q) (subst (λ (n : ℕ). Ranging b count blank target w₀ w last n i to) (sym r) g))
+
+module _ (b count blank : ℕ) (target w₀ w : List ℕ) (last : Token) (n i to : ℕ) (few : 4 * count ≤ b) (g : Ranging b count blank target w₀ w last n i to) where
+  pub ranging-end : to ≤ i → Codes b w₀ target w n
+  ranging-end h = range-end b count blank target w₀ w n i to few (g .noting) h
+
+  module _ (t : Token) (low : i < to) (at : t ≡ peek (rows count w) i) (new : Bool) (test : new ≡ isNew last t) where
+    room-here : Room b n w (codesOf blank (symbols (t ∷ [])))
+    room-here = range-room b count blank target w₀ w n i to few (g .noting) t low at
+
+    module _ (c : ℕ) (code : c ≡ resolve blank t) (yes-new : new ≡ true) where
+      one : symbols (t ∷ []) ≡ t ∷ []
+      one = symbols-one t (new-is last t (sym test ∙ yes-new))
+
+      pub ranging-room : Room b n w (c ∷ [])
+      ranging-room = one-room b n blank w t (symbols (t ∷ [])) one c code room-here
+
+      pub ranging-noted : (w′ : List ℕ) (n′ : ℕ) → Codes b w (noted (held b n w) c) w′ n′ → Ranging b count blank target w₀ w′ t n′ (i + 1) to
+      ranging-noted w′ n′ d = record {
+        noting = range-next b count blank target w₀ w n i to few (g .noting) t low at w′ n′ (one-noted b n blank w t (symbols (t ∷ [])) one c w′ n′ code d);
+        known = λ no. ap (λ (l : List ℕ). member eqb l (resolve blank t)) (d .codes) ∙ ap (λ (c : ℕ). member eqb (noted (held b n w) c) (resolve blank t)) code ∙ noted-member (held b n w) (resolve blank t);
+      }
+
+    -- what is passed over is no symbol, or its code is there
+    passed : (s : Bool) → isSymbol t ≡ s → isNew last t ≡ false → Codes b w (notedAll (held b n w) (codesOf blank (symbols (t ∷ [])))) w n
+    passed false e f = none-noted b n blank w (symbols (t ∷ [])) (symbols-no t e) room-here
+    passed true e f =
+        let l : (t .kind ≡ last .kind) × (t .value ≡ last .value) = new-like last t e f in
+        let there : member eqb (held b n w) (resolve blank t) ≡ true =
+        ap (member eqb (held b n w)) (sym (resolve-like blank last t (l .0) (l .1))) ∙ g .known (λ k. symbol-no-feed t e (l .0 ∙ k)) in
+        one-noted b n blank w t (symbols (t ∷ [])) (symbols-one t e) (resolve blank t) w n refl
+        (note-there b n (resolve blank t) w true (one-room b n blank w t (symbols (t ∷ [])) (symbols-one t e) (resolve blank t) refl room-here) (sym there) refl)
+
+    pub ranging-passed : new ≡ false → Ranging b count blank target w₀ w last n (i + 1) to
+    ranging-passed e = record {
+      noting = range-next b count blank target w₀ w n i to few (g .noting) t low at w n (passed (isSymbol t) refl (sym test ∙ e));
+      known = g .known;
+    }
 
 -- ---- further members
 pub other-room : (b n blank : ℕ) (w : List ℕ) (seen : Bool) (l : List Token) → seen ≡ true → Room b n w (codesOf blank (cond seen l [])) → Room b n w (codesOf blank l)
@@ -353,8 +449,116 @@ module _ (b count blank : ℕ) (target w₀ w : List ℕ) (n from to i : ℕ) (f
       low = omega (arith, g .low);
     }
 
--- ---- a rule: three parts, one on top of the other
-module _ (b count blank : ℕ) (w : List ℕ) (n e : ℕ) (few : 4 * count ≤ b) (t : Token) (at : t ≡ peek (rows count w) e)
+-- ---- reads without a set: each symbol is the first choice of its tape
+no-kind : (k : ℕ) (t : Token) (ts : List Token) → hasKind k (t ∷ ts) ≡ false → (eqb (t .kind) k ≡ false) × (hasKind k ts ≡ false)
+unfolding hasKind
+no-kind k t ts h = go (eqb (t .kind) k) h
+  where
+    go : (b : Bool) → elim b [ true ↦ true | false ↦ hasKind k ts ] ≡ false → (b ≡ false) × (hasKind k ts ≡ false)
+    go true h = absurd (false≢true (sym h))
+    go false h = (refl, h)
+
+walked-outside : (t : Token) → eqb (t .kind) 6 ≡ false → walked outside t ≡ outside
+unfolding walked
+walked-outside t e = rw e (go (eqb (t .kind) 7) (isSymbol t))
+  where
+    go : (x y : Bool) → cond x outside (cond y outside outside) ≡ outside
+    go true y = refl
+    go false true = refl
+    go false false = refl
+
+firsts-plain : (ts : List Token) → hasKind 6 ts ≡ false → firsts outside ts ≡ symbols ts
+unfolding firsts symbols takes
+firsts-plain [] h = refl
+firsts-plain (t ∷ ts) h =
+    let p : (eqb (t .kind) 6 ≡ false) × (hasKind 6 ts ≡ false) = no-kind 6 t ts h in
+    ap (λ (s : Walk). cond (isSymbol t) (t ∷ []) [] ++ firsts s ts) (walked-outside t (p .0)) ∙ ap (λ (l : List Token). cond (isSymbol t) (t ∷ []) [] ++ l) (firsts-plain ts (p .1))
+
+further-plain : (ts : List Token) → hasKind 6 ts ≡ false → further ts ≡ []
+unfolding further
+further-plain [] h = refl
+further-plain (t ∷ ts) h =
+    let p : (eqb (t .kind) 6 ≡ false) × (hasKind 6 ts ≡ false) = no-kind 6 t ts h in
+    ap (λ (b : Bool). further ts ++ cond b (others false ts) []) (p .0) ∙ append-nil (further ts) ∙ further-plain ts (p .1)
+
+-- ---- what is read and written: three parts, one on top of the other
+module _ (b count blank : ℕ) (w : List ℕ) (n from to u v : ℕ) (few : 4 * count ≤ b) (room : Room b n w (codesOf blank (partSymbols (rows count w) from to u v))) where
+  abbrev reads : List Token
+  reads = range (rows count w) from to
+
+  abbrev writes : List Token
+  writes = range (rows count w) u v
+
+  abbrev goal : List ℕ
+  goal = notedAll (held b n w) (codesOf blank (partSymbols (rows count w) from to u v))
+
+  parts-are : codesOf blank (partSymbols (rows count w) from to u v) ≡ codesOf blank (firsts outside reads) ++ (codesOf blank (symbols writes) ++ codesOf blank (further reads))
+  parts-are = codes-append blank (firsts outside reads) (symbols writes ++ further reads)
+      ∙ ap (λ (l : List ℕ). codesOf blank (firsts outside reads) ++ l) (codes-append blank (symbols writes) (further reads))
+
+  at-first : Noting b goal w w n (codesOf blank (firsts outside reads) ++ (codesOf blank (symbols writes) ++ codesOf blank (further reads)))
+  at-first = subst (λ (l : List ℕ). Noting b goal w w n l) parts-are (noting-start b w n (codesOf blank (partSymbols (rows count w) from to u v)) room)
+
+  pub part-room : Room b n w (codesOf blank (firsts outside (range (rows count w) from to)))
+  part-room = noting-room b goal w w n (codesOf blank (firsts outside reads)) (codesOf blank (symbols writes) ++ codesOf blank (further reads)) at-first
+
+  module _ (w₁ : List ℕ) (n₁ : ℕ) (one : Codes b w (notedAll (held b n w) (codesOf blank (firsts outside (range (rows count w) from to)))) w₁ n₁) where
+    at-second : Noting b goal w w₁ n₁ (codesOf blank (symbols writes) ++ codesOf blank (further reads))
+    at-second = noting-on b goal w w n (codesOf blank (firsts outside reads)) (codesOf blank (symbols writes) ++ codesOf blank (further reads)) w₁ n₁ at-first one
+
+    rows₁ : rows count w₁ ≡ rows count w
+    rows₁ = noting-rows b count goal w w₁ n₁ (codesOf blank (symbols writes) ++ codesOf blank (further reads)) at-second few
+
+    writes-are : codesOf blank (symbols (range (rows count w₁) u v)) ≡ codesOf blank (symbols writes)
+    writes-are = ap (λ (ts : List Token). codesOf blank (symbols (range ts u v))) rows₁
+
+    pub part-room-2 : Room b n₁ w₁ (codesOf blank (symbols (range (rows count w₁) u v)))
+    part-room-2 = subst (λ (l : List ℕ). Room b n₁ w₁ l) (sym writes-are) (noting-room b goal w w₁ n₁ (codesOf blank (symbols writes)) (codesOf blank (further reads)) at-second)
+
+    module _ (w₂ : List ℕ) (n₂ : ℕ) (two : Codes b w₁ (notedAll (held b n₁ w₁) (codesOf blank (symbols (range (rows count w₁) u v)))) w₂ n₂) where
+      at-third : Noting b goal w w₂ n₂ (codesOf blank (further reads))
+      at-third = noting-on b goal w w₁ n₁ (codesOf blank (symbols writes)) (codesOf blank (further reads)) w₂ n₂ at-second
+          (subst (λ (l : List ℕ). Codes b w₁ (notedAll (held b n₁ w₁) l) w₂ n₂) writes-are two)
+
+      rows₂ : rows count w₂ ≡ rows count w
+      rows₂ = noting-rows b count goal w w₂ n₂ (codesOf blank (further reads)) at-third few
+
+      reads-are : codesOf blank (further (range (rows count w₂) from to)) ≡ codesOf blank (further reads)
+      reads-are = ap (λ (ts : List Token). codesOf blank (further (range ts from to))) rows₂
+
+      last : Noting b goal w w₂ n₂ (codesOf blank (further reads) ++ [])
+      last = subst (λ (l : List ℕ). Noting b goal w w₂ n₂ l) (sym (append-nil (codesOf blank (further reads)))) at-third
+
+      pub part-room-3 : Room b n₂ w₂ (codesOf blank (further (range (rows count w₂) from to)))
+      part-room-3 = subst (λ (l : List ℕ). Room b n₂ w₂ l) (sym reads-are) (noting-room b goal w w₂ n₂ (codesOf blank (further reads)) [] last)
+
+      pub parts-all : (w₃ : List ℕ) (n₃ : ℕ) → Codes b w₂ (notedAll (held b n₂ w₂) (codesOf blank (further (range (rows count w₂) from to)))) w₃ n₃
+          → Codes b w (notedAll (held b n w) (codesOf blank (partSymbols (rows count w) from to u v))) w₃ n₃
+      parts-all w₃ n₃ three = noting-end b goal w w₃ n₃
+          (noting-on b goal w w₂ n₂ (codesOf blank (further reads)) [] w₃ n₃ last (subst (λ (l : List ℕ). Codes b w₂ (notedAll (held b n₂ w₂) l) w₃ n₃) reads-are three))
+
+  -- without a set two parts
+  module _ (has : Bool) (test : has ≡ hasKind 6 (range (rows count w) from to)) (none : has ≡ false) where
+    plain : firsts outside reads ≡ symbols reads
+    plain = firsts-plain reads (sym test ∙ none)
+
+    pub plain-room : Room b n w (codesOf blank (symbols (range (rows count w) from to)))
+    plain-room = subst (λ (l : List Token). Room b n w (codesOf blank l)) plain part-room
+
+    module _ (w₁ : List ℕ) (n₁ : ℕ) (one : Codes b w (notedAll (held b n w) (codesOf blank (symbols (range (rows count w) from to)))) w₁ n₁) where
+      plain-one : Codes b w (notedAll (held b n w) (codesOf blank (firsts outside reads))) w₁ n₁
+      plain-one = subst (λ (l : List Token). Codes b w (notedAll (held b n w) (codesOf blank l)) w₁ n₁) (sym plain) one
+
+      pub plain-room-2 : Room b n₁ w₁ (codesOf blank (symbols (range (rows count w₁) u v)))
+      plain-room-2 = part-room-2 w₁ n₁ plain-one
+
+      pub plain-all : (w₂ : List ℕ) (n₂ : ℕ) → Codes b w₁ (notedAll (held b n₁ w₁) (codesOf blank (symbols (range (rows count w₁) u v)))) w₂ n₂
+          → Codes b w (notedAll (held b n w) (codesOf blank (partSymbols (rows count w) from to u v))) w₂ n₂
+      plain-all w₂ n₂ two = noting-end b goal w w₂ n₂
+          (subst (λ (l : List Token). Noting b goal w w₂ n₂ (codesOf blank l)) (further-plain reads (sym test ∙ none)) (at-third w₁ n₁ plain-one w₂ n₂ two))
+
+-- ---- a rule: what it reads and writes
+module _ (b count blank : ℕ) (w : List ℕ) (n e : ℕ) (t : Token) (at : t ≡ peek (rows count w) e)
     (room : Room b n w (codesOf blank (ruleSymbols (rows count w) (entryAt (rows count w) e)))) where
   rule-kind : entryAt (rows count w) e .first .kind ≡ t .kind
   rule-kind = ap (λ (t : Token). t .kind) (sym at)
@@ -363,67 +567,17 @@ module _ (b count blank : ℕ) (w : List ℕ) (n e : ℕ) (few : 4 * count ≤ b
   unfolding ruleSymbols
   rule-none h = none-noted b n blank w (ruleSymbols (rows count w) (entryAt (rows count w) e)) (rw (rule-kind, ne-eqb (t .kind) 27 h)) room
 
-  module _ (is : t .kind ≡ 27) (q : Token) (comma : q ≡ peek (rows count w) (e + 3)) where
-    abbrev reads : List Token
-    reads = range (rows count w) (e + 4) (q .start)
-
-    abbrev writes : List Token
-    writes = range (rows count w) (q .end) (q .value)
-
-    abbrev goal : List ℕ
-    goal = notedAll (held b n w) (codesOf blank (ruleSymbols (rows count w) (entryAt (rows count w) e)))
-
-    rule-is : codesOf blank (ruleSymbols (rows count w) (entryAt (rows count w) e)) ≡ codesOf blank (firsts outside reads) ++ (codesOf blank (symbols writes) ++ codesOf blank (further reads))
+  module _ (is : t .kind ≡ 27) (q : Token) (comma : q ≡ peek (rows count w) (e + 3)) (to u v : ℕ) (ends : to ≡ q .start) (begins : u ≡ q .end) (stops : v ≡ q .value) where
+    rule-is : ruleSymbols (rows count w) (entryAt (rows count w) e) ≡ partSymbols (rows count w) (e + 4) to u v
     unfolding ruleSymbols
-    rule-is =
-        rw (rule-kind, eq-eqb (t .kind) 27 is, ← comma)
-        (codes-append blank (firsts outside reads) (symbols writes ++ further reads) ∙ ap (λ (l : List ℕ). codesOf blank (firsts outside reads) ++ l) (codes-append blank (symbols writes) (further reads)))
+    rule-is = rw (rule-kind, eq-eqb (t .kind) 27 is, ← comma, ← ends, ← begins, ← stops)
 
-    at-first : Noting b goal w w n (codesOf blank (firsts outside reads) ++ (codesOf blank (symbols writes) ++ codesOf blank (further reads)))
-    at-first = subst (λ (l : List ℕ). Noting b goal w w n l) rule-is (noting-start b w n (codesOf blank (ruleSymbols (rows count w) (entryAt (rows count w) e))) room)
+    pub rule-room : Room b n w (codesOf blank (partSymbols (rows count w) (e + 4) to u v))
+    rule-room = subst (λ (l : List Token). Room b n w (codesOf blank l)) rule-is room
 
-    pub rule-room : (to : ℕ) → to ≡ q .start → Room b n w (codesOf blank (firsts outside (range (rows count w) (e + 4) to)))
-    rule-room to f = subst (λ (k : ℕ). Room b n w (codesOf blank (firsts outside (range (rows count w) (e + 4) k)))) (sym f)
-        (noting-room b goal w w n (codesOf blank (firsts outside reads)) (codesOf blank (symbols writes) ++ codesOf blank (further reads)) at-first)
-
-    module _ (to : ℕ) (ends : to ≡ q .start) (w₁ : List ℕ) (n₁ : ℕ) (one : Codes b w (notedAll (held b n w) (codesOf blank (firsts outside (range (rows count w) (e + 4) to)))) w₁ n₁) where
-      at-second : Noting b goal w w₁ n₁ (codesOf blank (symbols writes) ++ codesOf blank (further reads))
-      at-second = noting-on b goal w w n (codesOf blank (firsts outside reads)) (codesOf blank (symbols writes) ++ codesOf blank (further reads)) w₁ n₁ at-first
-          (subst (λ (k : ℕ). Codes b w (notedAll (held b n w) (codesOf blank (firsts outside (range (rows count w) (e + 4) k)))) w₁ n₁) ends one)
-
-      rows₁ : rows count w₁ ≡ rows count w
-      rows₁ = noting-rows b count goal w w₁ n₁ (codesOf blank (symbols writes) ++ codesOf blank (further reads)) at-second few
-
-      module _ (from till : ℕ) (begins : from ≡ q .end) (stops : till ≡ q .value) where
-        writes-are : codesOf blank (symbols (range (rows count w₁) from till)) ≡ codesOf blank (symbols writes)
-        writes-are =
-            ap (λ (ts : List Token). codesOf blank (symbols (range ts from till))) rows₁
-            ∙ ap (λ (k : ℕ). codesOf blank (symbols (range (rows count w) k till))) begins ∙ ap (λ (k : ℕ). codesOf blank (symbols (range (rows count w) (q .end) k))) stops
-
-        pub rule-room-2 : Room b n₁ w₁ (codesOf blank (symbols (range (rows count w₁) from till)))
-        rule-room-2 = subst (λ (l : List ℕ). Room b n₁ w₁ l) (sym writes-are) (noting-room b goal w w₁ n₁ (codesOf blank (symbols writes)) (codesOf blank (further reads)) at-second)
-
-        module _ (w₂ : List ℕ) (n₂ : ℕ) (two : Codes b w₁ (notedAll (held b n₁ w₁) (codesOf blank (symbols (range (rows count w₁) from till)))) w₂ n₂) where
-          at-third : Noting b goal w w₂ n₂ (codesOf blank (further reads))
-          at-third = noting-on b goal w w₁ n₁ (codesOf blank (symbols writes)) (codesOf blank (further reads)) w₂ n₂ at-second
-              (subst (λ (l : List ℕ). Codes b w₁ (notedAll (held b n₁ w₁) l) w₂ n₂) writes-are two)
-
-          rows₂ : rows count w₂ ≡ rows count w
-          rows₂ = noting-rows b count goal w w₂ n₂ (codesOf blank (further reads)) at-third few
-
-          reads-are : codesOf blank (further (range (rows count w₂) (e + 4) to)) ≡ codesOf blank (further reads)
-          reads-are = ap (λ (ts : List Token). codesOf blank (further (range ts (e + 4) to))) rows₂ ∙ ap (λ (k : ℕ). codesOf blank (further (range (rows count w) (e + 4) k))) ends
-
-          last : Noting b goal w w₂ n₂ (codesOf blank (further reads) ++ [])
-          last = subst (λ (l : List ℕ). Noting b goal w w₂ n₂ l) (sym (append-nil (codesOf blank (further reads)))) at-third
-
-          pub rule-room-3 : Room b n₂ w₂ (codesOf blank (further (range (rows count w₂) (e + 4) to)))
-          rule-room-3 = subst (λ (l : List ℕ). Room b n₂ w₂ l) (sym reads-are) (noting-room b goal w w₂ n₂ (codesOf blank (further reads)) [] last)
-
-          pub rule-all : (w₃ : List ℕ) (n₃ : ℕ) → Codes b w₂ (notedAll (held b n₂ w₂) (codesOf blank (further (range (rows count w₂) (e + 4) to)))) w₃ n₃
-              → Codes b w (notedAll (held b n w) (codesOf blank (ruleSymbols (rows count w) (entryAt (rows count w) e)))) w₃ n₃
-          rule-all w₃ n₃ three = noting-end b goal w w₃ n₃
-              (noting-on b goal w w₂ n₂ (codesOf blank (further reads)) [] w₃ n₃ last (subst (λ (l : List ℕ). Codes b w₂ (notedAll (held b n₂ w₂) l) w₃ n₃) reads-are three))
+    pub rule-all : (w′ : List ℕ) (r : ℕ) → Codes b w (notedAll (held b n w) (codesOf blank (partSymbols (rows count w) (e + 4) to u v))) w′ r
+        → Codes b w (notedAll (held b n w) (codesOf blank (ruleSymbols (rows count w) (entryAt (rows count w) e)))) w′ r
+    rule-all w′ r c = subst (λ (l : List Token). Codes b w (notedAll (held b n w) (codesOf blank l)) w′ r) (sym rule-is) c
 
 -- ---- all rules: the walk has come to the line at the index i
 abbrev pub leftRules : ℕ → ℕ → List ℕ → ℕ → List ℕ

@@ -1,6 +1,6 @@
 -- The symbols of a row with entries: the blank, Σ and Γ.
 use Prim.Native.Nat.{ℕ, _+_, _-_}
-use mathlib.Core.Bool.{Bool, true, false, cond, _||_}
+use mathlib.Core.Bool.{Bool, true, false, cond, not, _||_}
 use mathlib.Core.List.{List, [], _∷_, _++_, map}
 use lib.Dec.{eqb, ltb}
 use lib.ListN.{length, getD, take, drop}
@@ -34,6 +34,11 @@ unfoldable pub symbols : List Token → List Token
 unfolding isSymbol
 symbols [] = []
 symbols (t ∷ ts) = cond (isSymbol t) (t ∷ []) [] ++ symbols ts
+
+-- a symbol that differs in kind or value from the last one
+unfoldable pub isNew : Token → Token → Bool
+unfolding isSymbol
+isNew last t = cond (isSymbol t) (not (eqb (t .kind) (last .kind)) || not (eqb (t .value) (last .value))) false
 
 -- the tokens of the line at f behind its entry, which holds the index of its end
 abbrev pub lineRange : List Token → ℕ → List Token
@@ -92,13 +97,14 @@ further (t ∷ ts) = further ts ++ cond (eqb (t .kind) 6) (others false ts) []
 abbrev pub outside : Walk
 outside = record { inside = false; skip = false }
 
--- a rule's symbols: the first choice of each tape, what is written but `*`, the further choices; its comma holds the indices of `to`, the writes and the moves
+-- the first choice of each tape, what is written but `*`, the further choices: i to j is read, w to d written
+abbrev pub partSymbols : List Token → ℕ → ℕ → ℕ → ℕ → List Token
+partSymbols ts i j w d = firsts outside (range ts i j) ++ (symbols (range ts w d) ++ further (range ts i j))
+
+-- a rule's symbols; its comma holds the indices of `to`, the writes and the moves
 unfoldable pub ruleSymbols : List Token → Entry → List Token
 unfolding firsts symbols further
-ruleSymbols ts e =
-    let q = peek ts (e .at + 3) in
-    let reads = range ts (e .at + 4) (q .start) in
-    cond (eqb (e .first .kind) 27) (firsts outside reads ++ (symbols (range ts (q .end) (q .value)) ++ further reads)) []
+ruleSymbols ts e = let q = peek ts (e .at + 3) in cond (eqb (e .first .kind) 27) (partSymbols ts (e .at + 4) (q .start) (q .end) (q .value)) []
 
 unfoldable pub rulesSymbols : List Token → List Entry → List Token
 unfolding ruleSymbols

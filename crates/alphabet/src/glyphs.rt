@@ -9,7 +9,7 @@ ghost use lib.Dec.{eqb};
 ghost use Rattle.assembler.specs.Rows.{rows};
 ghost use Rattle.assembler.specs.Entries.{entryAt, entries};
 ghost use Rattle.alphabet.specs.Codes.{notedAll, held, Codes, Room};
-ghost use Rattle.alphabet.specs.Symbols.{range, symbols, takes, walked, firsts, outside, others, further, ruleSymbols, rulesSymbols, codesOf};
+ghost use Rattle.alphabet.specs.Symbols.{range, symbols, isNew, takes, walked, firsts, outside, others, further, partSymbols, ruleSymbols, rulesSymbols, codesOf};
 use crate::codes;
 use assembler::entry;
 use lexer::kind;
@@ -82,7 +82,18 @@ fn note_symbol(work: &mut [u32], base: usize, n: usize, t: Token, blank: u32) ->
     n
 }
 
-// The symbols from an index to before another.
+// Whether a token is a symbol that differs in kind or value from the last one that was noted.
+fn is_new(last: Token, t: Token) -> bool
+    ensures { λ r. ⌜ r ≡ isNew last t ⌝ }
+{
+    if view::is_symbol(t) {
+        return (t.kind != last.kind) | (t.value != last.value);
+    }
+    false
+}
+
+// The symbols from an index to before another. One like the last that was noted is passed over; at first that is a line feed, which no
+// symbol is like.
 pub(crate) fn note_range(
     work: &mut [u32],
     count: usize,
@@ -95,11 +106,20 @@ pub(crate) fn note_range(
     requires { ⌜ (4 * count ≤ base) × (Room base n (now work) (codesOf blank (symbols (range (rows count (now work)) from to)))) ⌝ }
     ensures { λ r. ⌜ Codes base (now (work .entry)) (notedAll (held base n (now (work .entry))) (codesOf blank (symbols (range (rows count (now (work .entry))) from to)))) (now (work .exit)) r ⌝ }
 {
+    let mut last = Token {
+        kind: kind::NEWLINE,
+        start: 0,
+        end: 0,
+        value: 0,
+    };
     let mut m = n;
     let mut i = from;
     while i < to {
         let t = entry::token_at(work, count, i);
-        m = note_symbol(work, base, m, t, blank);
+        if is_new(last, t) {
+            m = codes::note(work, base, m, rules::resolve(blank, t));
+            last = t;
+        }
         i += 1;
     }
     m
@@ -226,6 +246,31 @@ fn note_further(
     m
 }
 
+// The symbols of what is read, from an index to before another, and of what is written, from w to before d. Without a set each symbol that is read is the
+// first choice of its tape.
+fn note_parts(
+    work: &mut [u32],
+    count: usize,
+    base: usize,
+    n: usize,
+    from: usize,
+    to: usize,
+    w: usize,
+    d: usize,
+    blank: u32,
+) -> usize
+    requires { ⌜ (4 * count ≤ base) × (Room base n (now work) (codesOf blank (partSymbols (rows count (now work)) from to w d))) ⌝ }
+    ensures { λ r. ⌜ Codes base (now (work .entry)) (notedAll (held base n (now (work .entry))) (codesOf blank (partSymbols (rows count (now (work .entry))) from to w d))) (now (work .exit)) r ⌝ }
+{
+    if entry::has_kind(work, count, from, to, kind::L_BRACE) {
+        let i = note_firsts(work, count, base, n, from, to, blank);
+        let j = note_range(work, count, base, i, w, d, blank);
+        return note_further(work, count, base, j, from, to, blank);
+    }
+    let i = note_range(work, count, base, n, from, to, blank);
+    note_range(work, count, base, i, w, d, blank)
+}
+
 // The symbols of the line at an index, if it is a rule: the first choice of each tape, what is written, the further choices.
 fn note_rule(work: &mut [u32], count: usize, base: usize, n: usize, e: usize, blank: u32) -> usize
     requires { ⌜ (4 * count ≤ base) × (e < count) × (Room base n (now work) (codesOf blank (ruleSymbols (rows count (now work)) (entryAt (rows count (now work)) e)))) ⌝ }
@@ -237,17 +282,9 @@ fn note_rule(work: &mut [u32], count: usize, base: usize, n: usize, e: usize, bl
     }
     let q = entry::token_at(work, count, e + 3);
     let to = entry::wide(q.start);
-    let i = note_firsts(work, count, base, n, e + 4, to, blank);
-    let j = note_range(
-        work,
-        count,
-        base,
-        i,
-        entry::wide(q.end),
-        entry::wide(q.value),
-        blank,
-    );
-    note_further(work, count, base, j, e + 4, to, blank)
+    let w = entry::wide(q.end);
+    let d = entry::wide(q.value);
+    note_parts(work, count, base, n, e + 4, to, w, d, blank)
 }
 
 // The symbols of all rules.

@@ -4,16 +4,18 @@ use mathlib.Core.Bool.{Bool, true, false, cond}
 use mathlib.Core.List.{List, [], _∷_}
 use Prim.Native.Nat.{ℕ, zero, suc, _+_, _-_, _*_, _≤_, _<_}
 use native.Mathlib.Omega.{arith}
+use native.Mathlib.Numerals.{add-one}
 use borrow.Author.Tests.{le-leb, lt-leb, eq-eqb, ne-eqb}
 use lib.Dec.{eqb, leb}
-use lib.ListN.{length, drop, drop-of-length-le}
-use lib.Seq.{drop-cons, drop-drop}
+use lib.ListN.{length, take, drop, drop-of-length-le}
+use lib.Seq.{drop-cons, drop-drop, take-nil}
 use Rattle.tokens.specs.declared.Token.{Token}
+use Rattle.tokens.specs.View.{tokenIn}
 use Rattle.parser.specs.Row.{ended, peek}
 use Rattle.parser.specs.Lines.{lineLength}
 pub use Rattle.equal_names.proofs.NameLaws.{length-rows, row-read, row-past}
 use Rattle.assembler.specs.Rows.{rows}
-use Rattle.assembler.specs.Entries.{Entry, entryAt, behind, entriesFrom, entries}
+use Rattle.assembler.specs.Entries.{Entry, entryAt, hasKind, behind, entriesFrom, entries}
 use Rattle.assembler.specs.Feeds.{AllFed}
 
 -- ---- the lines
@@ -108,3 +110,36 @@ module _ (count : ℕ) (work : List ℕ) (a i : ℕ) (s : Seeking count work a i
   seeking-end h =
       let none : lineLength (drop i (rows count work)) ≡ 0 = ap lineLength (drop-of-length-le (rows count work) {i = i} (omega (arith, length-rows count work room))) in
       omega (arith, s .left, none)
+
+-- ---- the search for a kind: there is one from the index a on if there is one from the index i on
+abbrev pub kindFrom : ℕ → ℕ → List ℕ → ℕ → ℕ → Bool
+kindFrom k count work i to = hasKind k (take (to - i) (drop i (rows count work)))
+
+module _ (k count : ℕ) (work : List ℕ) (a to i : ℕ) (inv : kindFrom k count work i to ≡ kindFrom k count work a to) (room : 4 * count ≤ length work) where
+  pub kind-end : to ≤ i → false ≡ kindFrom k count work a to
+  unfolding hasKind
+  kind-end h = let e : to - i ≡ 0 = omega arith in sym (ap (λ (n : ℕ). hasKind k (take n (drop i (rows count work)))) e) ∙ inv
+
+  pub kind-past : count ≤ i → false ≡ kindFrom k count work a to
+  unfolding hasKind
+  kind-past h =
+      sym (ap (λ (l : List Token). hasKind k (take (to - i) l)) (drop-of-length-le (rows count work) {i = i} (omega (arith, length-rows count work room)))
+      ∙ ap (hasKind k) (take-nil {A = Token} (to - i))) ∙ inv
+
+  module _ (t : Token) (low : i < to) (within : i < count) (at : t ≡ tokenIn work i) where
+    kind-by : (b : Bool) → eqb (t .kind) k ≡ b → kindFrom k count work i to ≡ elim b [ true ↦ true | false ↦ kindFrom k count work (i + 1) to ]
+    unfolding hasKind
+    kind-by b e =
+        let ts : List Token = rows count work in
+        let more : to - i ≡ suc (to - (i + 1)) = omega arith in
+        ap (λ (n : ℕ). hasKind k (take n (drop i ts))) more
+        ∙ ap (λ (l : List Token). hasKind k (take (suc (to - (i + 1))) l)) (drop-cons ts i ended (omega (arith, length-rows count work room)))
+        ∙ ap (λ (b : Bool). elim b [ true ↦ true | false ↦ hasKind k (take (to - (i + 1)) (drop (suc i) ts)) ])
+        (ap (λ (t : Token). eqb (t .kind) k) (sym (row-read count work i t room within at)) ∙ e)
+        ∙ ap (λ (n : ℕ). elim b [ true ↦ true | false ↦ hasKind k (take (to - (i + 1)) (drop n ts)) ]) (sym (add-one i))
+
+    pub kind-here : t .kind ≡ k → true ≡ kindFrom k count work a to
+    kind-here e = sym (kind-by true (eq-eqb (t .kind) k e)) ∙ inv
+
+    pub kind-on : (t .kind ≡ k → ⊥) → kindFrom k count work (i + 1) to ≡ kindFrom k count work a to
+    kind-on e = sym (kind-by false (ne-eqb (t .kind) k e)) ∙ inv

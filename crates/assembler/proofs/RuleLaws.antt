@@ -1,6 +1,6 @@
 -- Laws of the pass over rules.
 use mathlib.Core.Path.{_≡_, refl, sym, ap, subst, _∙_}
-use mathlib.Core.Bool.{Bool, true, false, cond}
+use mathlib.Core.Bool.{Bool, true, false, cond, false≢true}
 use mathlib.Core.List.{List, [], _∷_, _++_}
 use Prim.Native.Nat.{ℕ, zero, suc, _+_, _-_, _*_, _≤_, _<_, _^_, min}
 use native.Mathlib.Omega.{arith}
@@ -24,7 +24,7 @@ use Rattle.parser.specs.Lines.{lineLength}
 use Rattle.parser.specs.Row.{peek, ended}
 use Rattle.parser.specs.Views.{isSymbol}
 use Rattle.assembler.specs.Rows.{rows, placeOf}
-use Rattle.assembler.specs.Entries.{Entry, entryAt, behind, entries}
+use Rattle.assembler.specs.Entries.{Entry, entryAt, hasKind, behind, entries}
 use Rattle.assembler.specs.Feeds.{Fed}
 use Rattle.assembler.specs.Rules.{counted, combinationsFrom, combinations, sameArity, readPart, verdict, after, ruleError, ruleErrors, noRules}
 use Rattle.assembler.proofs.Rows.{length-rows, fed-here}
@@ -109,6 +109,30 @@ combinations-low-from s (t ∷ ts) h = combinations-low-from (counted s t) ts (c
 pub combinations-low : (ts : List Token) → combinations ts ≤ 262145
 unfolding combinations
 combinations-low ts = combinations-low-from (record { product = 1; size = 0 }) ts (omega arith)
+
+-- without a `}` nothing is multiplied
+counted-kept : (s : Sets) (t : Token) → eqb (t .kind) 7 ≡ false → counted s t .product ≡ s .product
+unfolding counted
+counted-kept s t e = rw e (go (eqb (t .kind) 6) (isSymbol t))
+  where
+    go : (x z : Bool) → cond x (record { product = s .product; size = 0 }) (cond z (record { product = s .product; size = s .size + 1 }) s) .product ≡ s .product
+    go true z = refl
+    go false true = refl
+    go false false = refl
+
+combinations-kept : (s : Sets) (ts : List Token) → hasKind 7 ts ≡ false → combinationsFrom s ts ≡ s .product
+unfolding combinationsFrom hasKind
+combinations-kept s [] h = refl
+combinations-kept s (t ∷ ts) h = go (eqb (t .kind) 7) refl h (combinations-kept (counted s t) ts)
+  where
+    go : (b : Bool) → eqb (t .kind) 7 ≡ b → elim b [ true ↦ true | false ↦ hasKind 7 ts ] ≡ false → (hasKind 7 ts ≡ false → combinationsFrom (counted s t) ts ≡ counted s t .product)
+        → combinationsFrom (counted s t) ts ≡ s .product
+    go true e h rest = absurd (false≢true (sym h))
+    go false e h rest = rest h ∙ counted-kept s t e
+
+pub combinations-none : (b : Bool) (ts : List Token) → b ≡ hasKind 7 ts → b ≡ false → 1 ≡ combinations ts
+unfolding combinations
+combinations-none b ts e f = sym (combinations-kept (record { product = 1; size = 0 }) ts (sym e ∙ f))
 
 -- the walk has come to the index i
 pub record Counting (count : ℕ) (work : List ℕ) (from to : ℕ) (s : Sets) (i : ℕ) : Type 0 where

@@ -1,7 +1,7 @@
 -- The lines of a row whose first tokens are entries: what a line holds stands in its first token, and the line feed's index with it.
 -- An item's kind is 16 and its number, a failure's 32 and its code; a comment alone (12) and a line feed (13) are what they were.
 use Prim.Native.Nat.{ℕ, zero, suc, _+_, _-_}
-use mathlib.Core.Bool.{cond}
+use mathlib.Core.Bool.{Bool, true, false, cond}
 use mathlib.Core.List.{List, [], _∷_}
 use lib.Dec.{eqb, leb}
 use lib.ListN.{drop}
@@ -17,6 +17,11 @@ pub record Entry : Type 0 where
 -- the line that begins at an index
 abbrev pub entryAt : List Token → ℕ → Entry
 entryAt ts i = record { at = i; first = peek ts i; rest = drop (suc i) ts }
+
+-- tokens among which one is of the kind k
+unfoldable pub hasKind : ℕ → List Token → Bool
+hasKind k [] = false
+hasKind k (t ∷ ts) = elim (eqb (t .kind) k) [ true ↦ true | false ↦ hasKind k ts ]
 
 -- how many tokens of its line follow the first, t, at the index i
 unfoldable pub behind : ℕ → Token → ℕ

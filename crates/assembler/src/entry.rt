@@ -1,11 +1,11 @@
 // The tokens in a row of words, and the lines whose first tokens are entries.
 ghost use mathlib.Core.Path.{_≡_};
-ghost use Prim.Native.Nat.{_+_, _*_, _≤_, _<_, _^_};
-ghost use lib.ListN.{length, drop};
+ghost use Prim.Native.Nat.{_+_, _*_, _-_, _≤_, _<_, _^_};
+ghost use lib.ListN.{length, take, drop};
 ghost use Rattle.parser.specs.Row.{peek};
 ghost use Rattle.parser.specs.Lines.{lineLength};
 ghost use Rattle.assembler.specs.Rows.{rows, placeOf};
-ghost use Rattle.assembler.specs.Entries.{behind};
+ghost use Rattle.assembler.specs.Entries.{hasKind, behind};
 use diag::Span;
 use lexer::kind;
 use tokens::Token;
@@ -41,6 +41,24 @@ pub fn token_at(work: &[u32], count: usize, at: usize) -> Token
         end: 0,
         value: 0,
     }
+}
+
+// Whether a token of the kind k stands from an index to before another.
+pub fn has_kind(work: &[u32], count: usize, from: usize, to: usize, k: u32) -> bool
+    requires { ⌜ 4 * count ≤ length (now work) ⌝ }
+    ensures { λ r. ⌜ r ≡ hasKind k (take (to - from) (drop from (rows count (now (work .entry))))) ⌝ }
+{
+    let mut i = from;
+    while i < to {
+        if count <= i {
+            return false;
+        }
+        if tokens::token_at(work, i).kind == k {
+            return true;
+        }
+        i += 1;
+    }
+    false
 }
 
 // A token's place.

@@ -85,11 +85,14 @@ fn counted(s: Sets, t: Token) -> Sets
     }
 }
 
-// The product of the sizes of the sets from an index to before another, cut off above the limit.
+// The product of the sizes of the sets from an index to before another, cut off above the limit: 1 where none ends there.
 pub fn combinations(work: &[u32], count: usize, from: usize, to: usize) -> usize
     requires { ⌜ (4 * count ≤ length (now work)) × (count < 2 ^ 32) ⌝ }
     ensures { λ r. ⌜ r ≡ combinations (take (to - from) (drop from (rows count (now (work .entry))))) ⌝ }
 {
+    if !entry::has_kind(work, count, from, to, kind::R_BRACE) {
+        return 1;
+    }
     let mut s = Sets {
         product: 1,
         size: 0,
