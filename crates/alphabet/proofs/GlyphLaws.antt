@@ -1,6 +1,6 @@
 -- Laws of the characters that rules use.
 use mathlib.Core.Path.{_≡_, refl, sym, ap, subst, _∙_}
-use mathlib.Core.Bool.{Bool, true, false, cond, not, _||_, false≢true}
+use mathlib.Core.Bool.{Bool, true, false, cond, not, _||_, _&&_, false≢true}
 use mathlib.Core.List.{List, [], _∷_, _++_, map, append-nil, append-assoc}
 use Prim.Native.Nat.{ℕ, zero, suc, _+_, _-_, _*_, _≤_, _<_}
 use native.Mathlib.Omega.{arith}
@@ -480,6 +480,155 @@ further-plain [] h = refl
 further-plain (t ∷ ts) h =
     let p : (eqb (t .kind) 6 ≡ false) × (hasKind 6 ts ≡ false) = no-kind 6 t ts h in
     ap (λ (b : Bool). further ts ++ cond b (others false ts) []) (p .0) ∙ append-nil (further ts) ∙ further-plain ts (p .1)
+
+-- ---- one entry that is read, with `) = (` behind it, and one that is written, with a comma behind it
+sign-no : (t : Token) (k : ℕ) → t .kind ≡ k → 3 ≤ k → k < 11 → isSymbol t ≡ false
+unfolding isSymbol
+sign-no t k e h g = rw (ne-eqb (t .kind) 0 (λ z. omega arith), ne-eqb (t .kind) 1 (λ z. omega arith), ne-eqb (t .kind) 2 (λ z. omega arith), ne-eqb (t .kind) 11 (λ z. omega arith))
+
+takes-no : (s : Walk) (t : Token) → isSymbol t ≡ false → takes s t ≡ false
+unfolding takes
+takes-no s t e = go (s .skip)
+  where
+    go : (b : Bool) → cond b false (isSymbol t) ≡ false
+    go true = refl
+    go false = e
+
+-- past a token that is no symbol and no brace
+module _ (ts : List Token) (i to k : ℕ) (low : i < to) (is : peek ts i .kind ≡ k) (from : 3 ≤ k) (below : k < 11) (no-open : k ≡ 6 → ⊥) (no-close : k ≡ 7 → ⊥) where
+  mute : isSymbol (peek ts i) ≡ false
+  mute = sign-no (peek ts i) k is from below
+
+  firsts-past : (s : Walk) → firsts s (range ts i to) ≡ firsts (walked s (peek ts i)) (range ts (i + 1) to)
+  firsts-past s = firsts-on s ts i to low ∙ ap (λ (b : Bool). cond b (peek ts i ∷ []) [] ++ firsts (walked s (peek ts i)) (range ts (i + 1) to)) (takes-no s (peek ts i) mute)
+
+  symbols-past : symbols (range ts i to) ≡ symbols (range ts (i + 1) to)
+  symbols-past = symbols-on ts i to low ∙ ap (λ (l : List Token). l ++ symbols (range ts (i + 1) to)) (symbols-no (peek ts i) mute)
+
+  others-past : others false (range ts i to) ≡ others false (range ts (i + 1) to)
+  others-past = others-on false ts i to low (λ e. no-close (sym is ∙ e)) ∙ ap (λ (b : Bool). others b (range ts (i + 1) to)) mute
+
+  further-past : further (range ts i to) ≡ further (range ts (i + 1) to)
+  further-past = further-step ts i to low
+      ∙ ap (λ (b : Bool). further (range ts (i + 1) to) ++ cond b (others false (range ts (i + 1) to)) []) (ne-eqb (peek ts i .kind) 6 (λ e. no-open (sym is ∙ e)))
+      ∙ append-nil (further (range ts (i + 1) to))
+
+module _ (ts : List Token) (i to u v : ℕ) (four : to ≡ i + 4) (two : v ≡ u + 2)
+    (first : peek ts (i + 1) .kind ≡ 5) (second : peek ts (i + 2) .kind ≡ 9) (third : peek ts (i + 3) .kind ≡ 4) (comma : peek ts (u + 1) .kind ≡ 8) where
+  second′ : peek ts (i + 1 + 1) .kind ≡ 9
+  second′ = let z : i + 1 + 1 ≡ i + 2 = omega arith in ap (λ (k : ℕ). peek ts k .kind) z ∙ second
+
+  third′ : peek ts (i + 1 + 1 + 1) .kind ≡ 4
+  third′ = let z : i + 1 + 1 + 1 ≡ i + 3 = omega arith in ap (λ (k : ℕ). peek ts k .kind) z ∙ third
+
+  none-left : range ts (i + 1 + 1 + 1 + 1) to ≡ []
+  none-left = range-none ts (i + 1 + 1 + 1 + 1) to (omega arith)
+
+  no-firsts : (s : Walk) → firsts s (range ts (i + 1) to) ≡ []
+  unfolding firsts
+  no-firsts s =
+      let a : Walk = walked s (peek ts (i + 1)) in
+      let b : Walk = walked a (peek ts (i + 1 + 1)) in
+      firsts-past ts (i + 1) to 5 (omega arith) first (omega arith) (omega arith) (λ z. omega arith) (λ z. omega arith) s
+      ∙ firsts-past ts (i + 1 + 1) to 9 (omega arith) second′ (omega arith) (omega arith) (λ z. omega arith) (λ z. omega arith) a
+      ∙ firsts-past ts (i + 1 + 1 + 1) to 4 (omega arith) third′ (omega arith) (omega arith) (λ z. omega arith) (λ z. omega arith) b
+      ∙ ap (firsts (walked b (peek ts (i + 1 + 1 + 1)))) none-left
+
+  no-others : others false (range ts (i + 1) to) ≡ []
+  unfolding others
+  no-others =
+      others-past ts (i + 1) to 5 (omega arith) first (omega arith) (omega arith) (λ z. omega arith) (λ z. omega arith)
+      ∙ others-past ts (i + 1 + 1) to 9 (omega arith) second′ (omega arith) (omega arith) (λ z. omega arith) (λ z. omega arith)
+      ∙ others-past ts (i + 1 + 1 + 1) to 4 (omega arith) third′ (omega arith) (omega arith) (λ z. omega arith) (λ z. omega arith)
+      ∙ ap (others false) none-left
+
+  no-further : further (range ts (i + 1) to) ≡ []
+  unfolding further
+  no-further =
+      further-past ts (i + 1) to 5 (omega arith) first (omega arith) (omega arith) (λ z. omega arith) (λ z. omega arith)
+      ∙ further-past ts (i + 1 + 1) to 9 (omega arith) second′ (omega arith) (omega arith) (λ z. omega arith) (λ z. omega arith)
+      ∙ further-past ts (i + 1 + 1 + 1) to 4 (omega arith) third′ (omega arith) (omega arith) (λ z. omega arith) (λ z. omega arith)
+      ∙ ap further none-left
+
+  single-first : firsts outside (range ts i to) ≡ symbols (peek ts i ∷ [])
+  unfolding takes symbols
+  single-first = firsts-on outside ts i to (omega arith) ∙ ap (λ (l : List Token). cond (takes outside (peek ts i)) (peek ts i ∷ []) [] ++ l) (no-firsts (walked outside (peek ts i)))
+
+  single-further : further (range ts i to) ≡ []
+  single-further = further-step ts i to (omega arith) ∙ ap (λ (l : List Token). l ++ cond (eqb (peek ts i .kind) 6) (others false (range ts (i + 1) to)) []) no-further
+      ∙ ap (λ (l : List Token). cond (eqb (peek ts i .kind) 6) l []) no-others ∙ go (eqb (peek ts i .kind) 6)
+    where
+      go : (b : Bool) → _≡_ {A = List Token} (cond b [] []) []
+      go true = refl
+      go false = refl
+
+  single-written : symbols (range ts u v) ≡ symbols (peek ts u ∷ [])
+  unfolding symbols
+  single-written = symbols-on ts u v (omega arith)
+      ∙ ap (λ (l : List Token). symbols (peek ts u ∷ []) ++ l)
+      (symbols-past ts (u + 1) v 8 (omega arith) comma (omega arith) (omega arith) (λ z. omega arith) (λ z. omega arith) ∙ ap symbols (range-none ts (u + 1 + 1) v (omega arith)))
+      ∙ append-nil (symbols (peek ts u ∷ []))
+
+  single-parts : partSymbols ts i to u v ≡ symbols (peek ts i ∷ []) ++ symbols (peek ts u ∷ [])
+  single-parts =
+      ap (λ (l : List Token). l ++ (symbols (range ts u v) ++ further (range ts i to))) single-first
+      ∙ ap (λ (l : List Token). symbols (peek ts i ∷ []) ++ (l ++ further (range ts i to))) single-written
+      ∙ ap (λ (l : List Token). symbols (peek ts i ∷ []) ++ (symbols (peek ts u ∷ []) ++ l)) single-further
+      ∙ ap (λ (l : List Token). symbols (peek ts i ∷ []) ++ l) (append-nil (symbols (peek ts u ∷ [])))
+
+all-true : (a b c d : Bool) → ((a && b) && (c && d)) ≡ true → (a ≡ true) × (b ≡ true) × (c ≡ true) × (d ≡ true)
+all-true true true true true e = (refl, refl, refl, refl)
+all-true true true true false e = absurd (false≢true e)
+all-true true true false d e = absurd (false≢true e)
+all-true true false c d e = absurd (false≢true e)
+all-true false b c d e = absurd (false≢true e)
+
+pub single-is : (ts : List Token) (i to u v : ℕ) → to ≡ i + 4 → v ≡ u + 2 → (a b c d : Bool) → a ≡ eqb (peek ts (i + 1) .kind) 5 → b ≡ eqb (peek ts (i + 2) .kind) 9 → c ≡ eqb (peek ts (i + 3) .kind) 4
+    → d ≡ eqb (peek ts (u + 1) .kind) 8 → ((a && b) && (c && d)) ≡ true → partSymbols ts i to u v ≡ symbols (peek ts i ∷ []) ++ symbols (peek ts u ∷ [])
+single-is ts i to u v four two a b c d e f g h all =
+    let q : (a ≡ true) × (b ≡ true) × (c ≡ true) × (d ≡ true) = all-true a b c d all in
+    single-parts ts i to u v four two
+    (eqb-true (peek ts (i + 1) .kind) 5 (sym e ∙ q .0)) (eqb-true (peek ts (i + 2) .kind) 9 (sym f ∙ q .1)) (eqb-true (peek ts (i + 3) .kind) 4 (sym g ∙ q .2)) (eqb-true (peek ts (u + 1) .kind) 8 (sym h ∙ q .3))
+
+-- their symbols, one on top of the other
+module _ (b count blank : ℕ) (w : List ℕ) (n i v : ℕ) (t u : Token) (at-t : t ≡ peek (rows count w) i) (at-u : u ≡ peek (rows count w) v)
+    (room : Room b n w (codesOf blank (symbols (peek (rows count w) i ∷ []) ++ symbols (peek (rows count w) v ∷ [])))) where
+  abbrev single-goal : List ℕ
+  single-goal = notedAll (held b n w) (codesOf blank (symbols (peek (rows count w) i ∷ []) ++ symbols (peek (rows count w) v ∷ [])))
+
+  both-are : codesOf blank (symbols (peek (rows count w) i ∷ []) ++ symbols (peek (rows count w) v ∷ [])) ≡ codesOf blank (symbols (t ∷ [])) ++ (codesOf blank (symbols (u ∷ [])) ++ [])
+  both-are =
+      codes-append blank (symbols (peek (rows count w) i ∷ [])) (symbols (peek (rows count w) v ∷ []))
+      ∙ ap (λ (x : Token). codesOf blank (symbols (x ∷ [])) ++ codesOf blank (symbols (peek (rows count w) v ∷ []))) (sym at-t)
+      ∙ ap (λ (x : Token). codesOf blank (symbols (t ∷ [])) ++ codesOf blank (symbols (x ∷ []))) (sym at-u)
+      ∙ ap (λ (l : List ℕ). codesOf blank (symbols (t ∷ [])) ++ l) (sym (append-nil (codesOf blank (symbols (u ∷ [])))))
+
+  both : Noting b single-goal w w n (codesOf blank (symbols (t ∷ [])) ++ (codesOf blank (symbols (u ∷ [])) ++ []))
+  both = subst (λ (l : List ℕ). Noting b single-goal w w n l) both-are (noting-start b w n (codesOf blank (symbols (peek (rows count w) i ∷ []) ++ symbols (peek (rows count w) v ∷ []))) room)
+
+  pub single-room : Room b n w (codesOf blank (symbols (t ∷ [])))
+  single-room = noting-room b single-goal w w n (codesOf blank (symbols (t ∷ []))) (codesOf blank (symbols (u ∷ [])) ++ []) both
+
+  module _ (w₁ : List ℕ) (n₁ : ℕ) (one : Codes b w (notedAll (held b n w) (codesOf blank (symbols (t ∷ [])))) w₁ n₁) where
+    other : Noting b single-goal w w₁ n₁ (codesOf blank (symbols (u ∷ [])) ++ [])
+    other = noting-on b single-goal w w n (codesOf blank (symbols (t ∷ []))) (codesOf blank (symbols (u ∷ [])) ++ []) w₁ n₁ both one
+
+    pub single-room-2 : Room b n₁ w₁ (codesOf blank (symbols (u ∷ [])))
+    single-room-2 = noting-room b single-goal w w₁ n₁ (codesOf blank (symbols (u ∷ []))) [] other
+
+    pub single-all : (w₂ : List ℕ) (n₂ : ℕ) → Codes b w₁ (notedAll (held b n₁ w₁) (codesOf blank (symbols (u ∷ [])))) w₂ n₂
+        → Codes b w (notedAll (held b n w) (codesOf blank (symbols (peek (rows count w) i ∷ []) ++ symbols (peek (rows count w) v ∷ [])))) w₂ n₂
+    single-all w₂ n₂ two = noting-end b single-goal w w₂ n₂ (noting-on b single-goal w w₁ n₁ (codesOf blank (symbols (u ∷ []))) [] w₂ n₂ other two)
+
+pub kind-at : (t u : Token) (k : ℕ) → t ≡ u → eqb (t .kind) k ≡ eqb (u .kind) k
+kind-at t u k e = ap (λ (t : Token). eqb (t .kind) k) e
+
+module _ (b n blank : ℕ) (w : List ℕ) (xs ys : List Token) (e : xs ≡ ys) where
+  pub room-as : Room b n w (codesOf blank xs) → Room b n w (codesOf blank ys)
+  room-as h = subst (λ (l : List Token). Room b n w (codesOf blank l)) e h
+
+  pub noted-as : (w′ : List ℕ) (r : ℕ) → Codes b w (notedAll (held b n w) (codesOf blank ys)) w′ r → Codes b w (notedAll (held b n w) (codesOf blank xs)) w′ r
+  noted-as w′ r h = subst (λ (l : List Token). Codes b w (notedAll (held b n w) (codesOf blank l)) w′ r) (sym e) h
 
 -- ---- what is read and written: three parts, one on top of the other
 module _ (b count blank : ℕ) (w : List ℕ) (n from to u v : ℕ) (few : 4 * count ≤ b) (room : Room b n w (codesOf blank (partSymbols (rows count w) from to u v))) where

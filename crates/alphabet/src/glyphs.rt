@@ -1,9 +1,10 @@
 // The characters that rules use, in the order of first use.
 ghost use mathlib.Core.Path.{_≡_};
 ghost use mathlib.Core.Bool.{true, false, cond};
-ghost use mathlib.Core.List.{[], _∷_};
+ghost use mathlib.Core.List.{[], _∷_, _++_};
 ghost use Prim.Native.Nat.{_+_, _*_, _≤_, _<_, _^_};
 ghost use lib.ListN.{length};
+ghost use Rattle.parser.specs.Row.{peek};
 ghost use Rattle.parser.specs.Views.{isSymbol};
 ghost use lib.Dec.{eqb};
 ghost use Rattle.assembler.specs.Rows.{rows};
@@ -92,8 +93,7 @@ fn is_new(last: Token, t: Token) -> bool
     false
 }
 
-// The symbols from an index to before another. One like the last that was noted is passed over; at first that is a line feed, which no
-// symbol is like.
+// The symbols from an index to before another. One like the last that was noted is passed over; the line feed in front of them is like none.
 pub(crate) fn note_range(
     work: &mut [u32],
     count: usize,
@@ -248,7 +248,7 @@ fn note_further(
 
 // The symbols of what is read, from an index to before another, and of what is written, from w to before d. Without a set each symbol that is read is the
 // first choice of its tape.
-fn note_parts(
+fn note_tapes(
     work: &mut [u32],
     count: usize,
     base: usize,
@@ -269,6 +269,71 @@ fn note_parts(
     }
     let i = note_range(work, count, base, n, from, to, blank);
     note_range(work, count, base, i, w, d, blank)
+}
+
+// Whether a token of the kind k stands at an index.
+fn is_at(work: &[u32], count: usize, i: usize, k: u32) -> bool
+    requires { ⌜ 4 * count ≤ length (now work) ⌝ }
+    ensures { λ r. ⌜ r ≡ eqb (peek (rows count (now (work .entry))) i .kind) k ⌝ }
+{
+    entry::token_at(work, count, i).kind == k
+}
+
+// Whether what stands from an index to before another and from w to before d are one entry that is read, with `) = (` behind it, and one that is
+// written, with a comma behind it.
+fn is_single(work: &[u32], count: usize, from: usize, to: usize, w: usize, d: usize) -> bool
+    requires { ⌜ (4 * count ≤ length (now work)) × (from + 4 < 2 ^ 64) × (w + 2 < 2 ^ 64) ⌝ }
+    ensures { λ r. ⌜ (r ≡ true → partSymbols (rows count (now (work .entry))) from to w d ≡ symbols (peek (rows count (now (work .entry))) from ∷ []) ++ symbols (peek (rows count (now (work .entry))) w ∷ [])) ⌝ }
+{
+    if to != from + 4 {
+        return false;
+    }
+    if d != w + 2 {
+        return false;
+    }
+    let x = is_at(work, count, from + 1, kind::R_PAREN) & is_at(work, count, from + 2, kind::EQ);
+    let y = is_at(work, count, from + 3, kind::L_PAREN) & is_at(work, count, w + 1, kind::COMMA);
+    x & y
+}
+
+// The symbols of what is read at an index and of what is written at another, one of each.
+fn note_single(
+    work: &mut [u32],
+    count: usize,
+    base: usize,
+    n: usize,
+    from: usize,
+    w: usize,
+    blank: u32,
+) -> usize
+    requires { ⌜ (4 * count ≤ base) × (Room base n (now work) (codesOf blank (symbols (peek (rows count (now work)) from ∷ []) ++ symbols (peek (rows count (now work)) w ∷ [])))) ⌝ }
+    ensures { λ r. ⌜ Codes base (now (work .entry)) (notedAll (held base n (now (work .entry))) (codesOf blank (symbols (peek (rows count (now (work .entry))) from ∷ []) ++ symbols (peek (rows count (now (work .entry))) w ∷ [])))) (now (work .exit)) r ⌝ }
+{
+    let t = entry::token_at(work, count, from);
+    let u = entry::token_at(work, count, w);
+    let m = note_symbol(work, base, n, t, blank);
+    note_symbol(work, base, m, u, blank)
+}
+
+// The symbols of what is read, from an index to before another, and of what is written, from w to before d. Most rules have one of each.
+fn note_parts(
+    work: &mut [u32],
+    count: usize,
+    base: usize,
+    n: usize,
+    from: usize,
+    to: usize,
+    w: usize,
+    d: usize,
+    blank: u32,
+) -> usize
+    requires { ⌜ (4 * count ≤ base) × (from + 4 < 2 ^ 64) × (w + 2 < 2 ^ 64) × (Room base n (now work) (codesOf blank (partSymbols (rows count (now work)) from to w d))) ⌝ }
+    ensures { λ r. ⌜ Codes base (now (work .entry)) (notedAll (held base n (now (work .entry))) (codesOf blank (partSymbols (rows count (now (work .entry))) from to w d))) (now (work .exit)) r ⌝ }
+{
+    if is_single(work, count, from, to, w, d) {
+        return note_single(work, count, base, n, from, w, blank);
+    }
+    note_tapes(work, count, base, n, from, to, w, d, blank)
 }
 
 // The symbols of the line at an index, if it is a rule: the first choice of each tape, what is written, the further choices.

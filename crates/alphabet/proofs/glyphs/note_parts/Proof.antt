@@ -1,6 +1,6 @@
--- `alphabet::glyphs::note_parts` meets its contract: its three parts, one on top of the other; without a set the further choices are none.
+-- `alphabet::glyphs::note_parts` meets its contract: one entry of each is what the parts are, and any others go by their tapes.
 use borrow.Author.Needs.{needs}
-use Rattle.alphabet.proofs.GlyphLaws.{part-room, part-room-2, part-room-3, parts-all, plain-room, plain-room-2, plain-all}
+use Rattle.alphabet.proofs.GlyphLaws.{room-as, noted-as}
 use Rattle.alphabet.proofs.glyphs.note_parts.Statement.{statement}
 use Rattle.alphabet.proofs.glyphs.note_parts.Tie as tie
 
@@ -10,36 +10,15 @@ note-parts-spec =
     (tie.spec
     (λ c κs. search needs)
     (λ c κs.
-    let z = c .before .before .before .before .before in
-    (z .pre .0, part-room _ _ (z .args .blank) (z .args .work .now) _ (z .args .from) (z .args .to) (z .args .w) (z .args .d) (z .pre .0) (z .pre .1)))
-    (λ c κs.
-    let f = c .before .before .before in
-    let z = f .before .before .before .before .before .before in
-    (z .pre .0, part-room-2 _ _ (z .args .blank) (z .args .work .now) _ (z .args .from) (z .args .to) (z .args .w) (z .args .d) (z .pre .0) (z .pre .1) _ _ (f .note-firsts .ensures)))
-    (λ c κs.
-    let g = c .before .before .before in
-    let f = g .before .before .before .before in
-    let z = f .before .before .before .before .before .before in
-    (z .pre .0, part-room-3 _ _ (z .args .blank) (z .args .work .now) _ (z .args .from) (z .args .to) (z .args .w) (z .args .d) (z .pre .0) (z .pre .1) _ _ (f .note-firsts .ensures) _ _ (g .note-range .ensures)))
+    let i = c .before in
+    let z = i .before .before .before .before in
+    (z .pre .0, room-as (z .args .base) (z .args .n) (z .args .blank) (z .args .work .now) _ _ (i .before .is-single .ensures (i .if1 .taken)) (z .pre .3)))
     (λ c. search needs)
     (λ c.
-    let h = c .before .before in
-    let g = h .before .before .before .before in
-    let f = g .before .before .before .before in
-    let z = f .before .before .before .before .before .before in
-    parts-all _ _ (z .args .blank) (z .args .work .now) _ (z .args .from) (z .args .to) (z .args .w) (z .args .d) (z .pre .0) (z .pre .1) _ _ (f .note-firsts .ensures) _ _ (g .note-range .ensures) _ _ (h .note-further .ensures))
-    (λ c κs.
-    let z = c .before .before .before .before .before in
-    (z .pre .0, plain-room _ _ (z .args .blank) (z .args .work .now) _ (z .args .from) (z .args .to) (z .args .w) (z .args .d) (z .pre .0) (z .pre .1) _ (c .before .before .has-kind .ensures) (c .before .if1 .left)))
-    (λ c κs.
-    let f = c .before .before .before in
-    let i = f .before .before in
+    let s = c .before .before in
+    let i = s .before .before in
     let z = i .before .before .before .before in
-    (z .pre .0, plain-room-2 _ _ (z .args .blank) (z .args .work .now) _ (z .args .from) (z .args .to) (z .args .w) (z .args .d) (z .pre .0) (z .pre .1) _ (i .before .has-kind .ensures) (i .if1 .left) _ _ (f .note-range2 .ensures)))
+    noted-as (z .args .base) (z .args .n) (z .args .blank) (z .args .work .now) _ _ (i .before .is-single .ensures (i .if1 .taken)) _ _ (s .note-single .ensures))
+    (λ c κs. search needs)
     (λ c. search needs)
-    (λ c.
-    let g = c .before .before in
-    let f = g .before .before .before .before in
-    let i = f .before .before in
-    let z = i .before .before .before .before in
-    plain-all _ _ (z .args .blank) (z .args .work .now) _ (z .args .from) (z .args .to) (z .args .w) (z .args .d) (z .pre .0) (z .pre .1) _ (i .before .has-kind .ensures) (i .if1 .left) _ _ (f .note-range2 .ensures) _ _ (g .note-range3 .ensures)))
+    (λ c. search needs))

@@ -1,5 +1,6 @@
 -- `alphabet::glyphs::note_rule` meets its contract: a rule's comma says where its parts stand.
 use borrow.Author.Needs.{needs}
+use native.Mathlib.Omega.{arith}
 use Rattle.alphabet.proofs.GlyphLaws.{rule-none, rule-room, rule-all}
 use Rattle.alphabet.proofs.glyphs.note_rule.Statement.{statement}
 use Rattle.alphabet.proofs.glyphs.note_rule.Tie as tie
@@ -27,6 +28,8 @@ note-rule-spec =
     let t = i .before .before in
     let z = t .before .before .before in (
       z .pre .0,
+      omega (arith, z .pre .0, z .pre .1, z .fits .base .fits),
+      omega (arith, c .before .before .wide2 .ensures .1),
       rule-room (z .args .base) (z .args .count) (z .args .blank) (z .args .work .now) (z .args .n) (z .args .e) _ (t .token-at .ensures) (z .pre .2) (i .if1 .left)
           _ (u .before .token-at2 .ensures) _ _ _ (u .wide .ensures .0) (c .before .before .wide2 .ensures .0) (c .before .wide3 .ensures .0),
     ))
