@@ -6,18 +6,18 @@ use Prim.Native.Nat.{ℕ, _+_, _-_, _*_, _≤_, _<_}
 use native.Mathlib.Omega.{arith}
 use lib.Dec.{eqb, leb}
 use lib.ListN.{length, getD, drop, List·getD-eq-default}
-use lib.Seq.{sets}
-use mir.Syntax.{w64}
+use lib.Seq.{sets, length-sets}
+use mir.Syntax.{w32, w64}
 use mir.Val.{Fits}
 use borrow.Author.Tests.{eqb-true, eq-eqb, ne-eqb, leb-true, leb-false}
 use Rattle.chars.specs.Utf8.{decode}
 use Rattle.lexer.specs.Places.{piece}
-use Rattle.lexer.specs.Quick.{leadOf, leadsFrom, leads, quickValue, quickPiece, commaWords}
+use Rattle.lexer.specs.Quick.{leadOf, leadsFrom, leads, WordAt, quickValue, quickPiece, commaWords, WordPut}
 use Rattle.lexer.specs.declared.Piece.{Piece}
 use Rattle.lexer.specs.declared.Piece.the-variants.{Token as Tok}
 use Rattle.lexer.proofs.Scans.{byTest}
 use Rattle.lexer.proofs.Leads.{quick-lead}
-use Rattle.lexer.proofs.Writes.{State, token-falls, state-token, state-quick}
+use Rattle.lexer.proofs.Writes.{State, word-end-in, token-falls, state-token, state-quick}
 
 -- ---- `comma`
 module _ (t : List ℕ) (at : ℕ) where
@@ -104,3 +104,32 @@ module _ (t w₀ w : List ℕ) (at n : ℕ) (r : Piece) (st : State t w₀ w at 
 
   pub both-falls : (j : ℕ) → length t - (m + j) < length t - at
   both-falls j = omega (arith, token-falls t w₀ w at n r st s k e v m p)
+
+-- ---- a word by its end, and the comma behind it
+pub is-word : (t : List ℕ) (at k : ℕ) → (k ≡ 18 → WordAt t at) → k ≡ 18 → WordAt t at
+is-word t at k f e = f e
+
+module _ (t : List ℕ) (at e v : ℕ) (few : length t ≤ 0x400000) (s : Tok 0 e v e ≡ piece at (decode (drop at t))) where
+  pub word-end-fits : Fits w32 e
+  word-end-fits = omega (arith, word-end-in t at e v s .1)
+
+  pub word-place-fits : (j : ℕ) → j ≤ 1 → Fits w64 (e + j)
+  word-place-fits j h = omega (arith, word-end-in t at e v s .1)
+
+  pub word-comma-room : (w w′ : List ℕ) (n : ℕ) → n ≤ at → 4 * length t + 4 ≤ length w → w′ ≡ sets w (4 * n) (0 ∷ at ∷ e ∷ v ∷ []) → e < length t → 4 * (n + 1) + 4 ≤ length w′
+  word-comma-room w w′ n l h q b = omega (arith, word-end-in t at e v s .0, ap length q, length-sets w (4 * n) (0 ∷ at ∷ e ∷ v ∷ []))
+
+  pub word-put : (w w′ w″ : List ℕ) (n j : ℕ) → w′ ≡ sets w (4 * n) (0 ∷ at ∷ e ∷ v ∷ []) → 4 * j ≡ length (commaWords t e) → w″ ≡ sets w′ (4 * (n + 1)) (commaWords t e)
+      → WordPut t at n w w″ (e + j) (n + 1 + j)
+  word-put w w′ w″ n j q c g =
+      record { end = e; value = v; commas = j; token = s; comma = c; words = g ∙ ap (λ (l : List ℕ). sets l (4 * (n + 1)) (commaWords t e)) q; place = refl; count = refl }
+
+module _ (t w₀ w : List ℕ) (at n : ℕ) (st : State t w₀ w at n) (w″ : List ℕ) (at′ n′ : ℕ) (p : WordPut t at n w w″ at′ n′) where
+  pub put-falls : length t - at′ < length t - at
+  put-falls = omega (arith, p .place, both-falls t w₀ w at n (Tok 0 (p .end) (p .value) (p .end)) st (p .token) 0 (p .end) (p .value) (p .end) refl (p .commas))
+
+  pub state-put : State t w₀ w″ at′ n′
+  state-put =
+      subst (λ (i : ℕ). State t w₀ w″ i n′) (sym (p .place)) (subst (λ (i : ℕ). State t w₀ w″ (p .end + p .commas) i) (sym (p .count))
+      (state-both t w₀ w at n (Tok 0 (p .end) (p .value) (p .end)) st (p .token) 0 (p .end) (p .value) (p .end) refl
+      (sets w (4 * n) (0 ∷ at ∷ p .end ∷ p .value ∷ [])) refl (p .commas) w″ (p .comma) (p .words)))

@@ -5,9 +5,9 @@ use native.Mathlib.Omega.{arith}
 use native.Mathlib.Nat.{add-zero}
 use mathlib.Core.Bool.{Bool, true, false, cond, not}
 use mathlib.Core.List.{List, [], _∷_}
-use lib.Dec.{eqb, leb}
+use lib.Dec.{eqb, ltb, leb}
 use lib.ListN.{length, getD, drop}
-use borrow.Author.Tests.{eq-eqb, ne-eqb, eqb-true, eqb-false, le-leb, leb-true, lt-ltb}
+use borrow.Author.Tests.{eq-eqb, ne-eqb, eqb-true, eqb-false, le-leb, leb-true, ltb-true, lt-ltb}
 use Rattle.chars.specs.Utf8.{size, sizes, decode}
 use Rattle.chars.specs.Class.{classOf}
 use Rattle.chars.specs.declared.Class.{Class}
@@ -15,14 +15,14 @@ use Rattle.chars.specs.declared.Class.the-variants.{Letter, Digit, Space, Sign,
 use Rattle.chars.proofs.Laws.{decode-end}
 use Rattle.chars.proofs.Blocks.{ascii-decode}
 use Rattle.lexer.specs.Tokens.{sign, tok, isDigit, isAsciiDigit, isWordContinue, run, wordStep, numberStep, step}
-use Rattle.lexer.specs.Words.{signNumber, valueFrom, value}
-use Rattle.lexer.specs.Places.{pieceOf, piece}
-use Rattle.lexer.specs.Quick.{otherLead, leadOf, leadsFrom, leads, quickValue, quickPiece}
+use Rattle.lexer.specs.Words.{signNumber, position, keywordBytes, valueFrom, value}
+use Rattle.lexer.specs.Places.{part, pieceOf, piece}
+use Rattle.lexer.specs.Quick.{otherLead, leadOf, leadsFrom, leads, WordAt, quickValue, quickPiece}
 use Rattle.lexer.specs.declared.Piece.{Piece}
 use Rattle.lexer.specs.declared.Piece.the-variants.{Token as Tok, Gap}
 use Rattle.lexer.proofs.Scans.{byTest, run-true, run-false, run-nil, sizes-nil, digit-range}
 use Rattle.lexer.proofs.Keywords.{allBelow, all-below}
-use Rattle.lexer.proofs.Pieces.{word-one, number-token, step-class, step-word, step-sign, sign-token, piece-of, from-feed, from-space, from-sign}
+use Rattle.lexer.proofs.Pieces.{word-one, word-long, number-token, step-class, step-word, step-sign, sign-token, piece-of, from-feed, from-space, from-sign}
 
 -- ---- the table
 leads-from : (n c j : ℕ) → j < n → getD (leadsFrom n c) j 0 ≡ leadOf (c + j)
@@ -43,6 +43,11 @@ stops = refl
 ends : allBelow (λ (c : ℕ). cond (eqb (leadOf c) 1) true (not (isAsciiDigit c))) 128 ≡ true
 unfolding leadOf isAsciiDigit
 ends = refl
+
+-- none begins 18 or more
+leads-low : allBelow (λ (c : ℕ). ltb (leadOf c) 18) 128 ≡ true
+unfolding leadOf
+leads-low = refl
 
 not-false : (b : Bool) → not b ≡ true → b ≡ false
 not-false true e = cc
@@ -191,6 +196,35 @@ stop-end f t at b h e = ap (run f) (decode-end t at h) ∙ run-nil f
 pub stop-not : (f : ℕ → Bool) (t : List ℕ) (at : ℕ) → false ≡ true → run f (decode (drop at t)) ≡ []
 stop-not f t at e = cc
 
+-- what stands at a place where there is an ASCII character
+module _ (t : List ℕ) (at : ℕ) (h : at < length t) (ascii : getD t at 0 < 0x80) where
+  ascii-next : at + 1 ≡ at + size (getD t at 0)
+  ascii-next = omega (arith, size-ascii (getD t at 0) ascii)
+
+  ascii-seen : (y : Piece) → y ≡ pieceOf at (at + 1) (decode (drop (at + 1) t)) (step (getD t at 0) (decode (drop (at + 1) t))) → y ≡ piece at (decode (drop at t))
+  unfolding piece
+  ascii-seen y p =
+      p ∙ ap (λ (j : ℕ). pieceOf at j (decode (drop (at + 1) t)) (step (getD t at 0) (decode (drop (at + 1) t)))) ascii-next
+      ∙ sym (ap (piece at) (ascii-decode t at h ascii))
+
+-- ---- `word_value`
+module _ (t : List ℕ) (at end : ℕ) (w : WordAt t at) (g : end ≡ at + 1 + sizes (run isWordContinue (decode (drop (at + 1) t)))) where
+  word-seen : (y : Piece) → y ≡ pieceOf at (at + 1) (decode (drop (at + 1) t)) (wordStep (getD t at 0) (decode (drop (at + 1) t))) → y ≡ piece at (decode (drop at t))
+  word-seen y p =
+      let r : List ℕ = decode (drop (at + 1) t) in
+      ascii-seen t at (w .inside) (w .ascii) y (piece-of at (at + 1) r _ _ _ (word-lead (getD t at 0) r (w .lead)) p)
+
+  pub value-one : (c : ℕ) → c ≡ getD t at 0 → end ≡ at + 1 → Tok 0 end c end ≡ piece at (decode (drop at t))
+  value-one c e q =
+      ap (λ (x : ℕ). Tok 0 end x end) e
+      ∙ word-seen (Tok 0 end (getD t at 0) end)
+      (word-one t at (getD t at 0) (at + 1) end (ascii-next t at (w .inside) (w .ascii)) (ascii-decode t at (w .inside) (w .ascii)) (omega (arith, w .inside)) g q)
+
+  pub value-long : (name : List ℕ) (k : ℕ) → (end ≡ at + 1 → ⊥) → name ≡ part t at end → k ≡ position 1 keywordBytes name → Tok 0 end (0x110000 + k) end ≡ piece at (decode (drop at t))
+  value-long name k f p q =
+      word-seen (Tok 0 end (0x110000 + k) end)
+      (word-long t at (getD t at 0) (at + 1) end (ascii-next t at (w .inside) (w .ascii)) (ascii-decode t at (w .inside) (w .ascii)) (omega (arith, w .inside)) g name k f p q)
+
 module _ (t table : List ℕ) (at x k : ℕ) (i : table ≡ leads) (h : at < length t) (e : x ≡ getD t at 0) (l : x < 0x80) (g : k ≡ getD table x 0) where
   ascii : getD t at 0 < 0x80
   ascii = omega arith
@@ -211,13 +245,16 @@ module _ (t table : List ℕ) (at x k : ℕ) (i : table ≡ leads) (h : at < len
 
   -- ---- `lead_at`
   next : at + 1 ≡ at + size (getD t at 0)
-  next = omega (arith, size-ascii (getD t at 0) ascii)
+  next = ascii-next t at h ascii
 
   seen : (y : Piece) → y ≡ pieceOf at (at + 1) (decode (drop (at + 1) t)) (step (getD t at 0) (decode (drop (at + 1) t))) → y ≡ piece at (decode (drop at t))
-  unfolding piece
-  seen y p =
-      p ∙ ap (λ (j : ℕ). pieceOf at j (decode (drop (at + 1) t)) (step (getD t at 0) (decode (drop (at + 1) t)))) next
-      ∙ sym (ap (piece at) (ascii-decode t at h ascii))
+  seen = ascii-seen t at h ascii
+
+  pub no-word : k ≡ 18 → WordAt t at
+  no-word p = absurd (omega (arith, lead-is, ltb-true (leadOf (getD t at 0)) 18 (all-below (λ (c : ℕ). ltb (leadOf c) 18) 128 leads-low (getD t at 0) ascii)))
+
+  pub word-here : (j : ℕ) → k ≡ 0 → j ≡ 18 → WordAt t at
+  word-here j p q = record { inside = h; ascii = ascii; lead = sym lead-is ∙ p }
 
   pub quick-lead : 3 ≤ k → k < 17 → quickPiece at k (getD t at 0) ≡ piece at (decode (drop at t))
   quick-lead m n = seen (quickPiece at k (getD t at 0)) (lead-piece t at (getD t at 0) next k lead-is m n)
@@ -255,6 +292,15 @@ in-text t at k h l = h
 
 pub not-in-text : (t : List ℕ) (at : ℕ) → 17 < 17 → at < length t
 not-in-text t at h = absurd (omega arith)
+
+pub is-no-word : (t : List ℕ) (at k : ℕ) → k < 18 → k ≡ 18 → WordAt t at
+is-no-word t at k h e = absurd (omega arith)
+
+pub word-not-in-text : (t : List ℕ) (at : ℕ) → 18 < 17 → at < length t
+word-not-in-text t at h = absurd (omega arith)
+
+pub no-quick-word : (t : List ℕ) (at c : ℕ) → 18 < 17 → quickPiece at 18 c ≡ piece at (decode (drop at t))
+no-quick-word t at c h = absurd (omega arith)
 
 -- ---- `value_of`
 module _ (k b c : ℕ) (e : c ≡ b) where

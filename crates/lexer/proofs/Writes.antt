@@ -98,6 +98,10 @@ unfolding piece
 token-here [] t o k e v m p x = let z : _≡_ {A = ℕ} 0 1 = cc in absurd (omega arith)
 token-here (c ∷ r) t o k e v m p x = emitted (step c r) t o c r k e v m p (step-fits c r) refl x
 
+-- a word's end is behind its place and inside the text
+pub word-end-in : (t : List ℕ) (at e v : ℕ) → Tok 0 e v e ≡ piece at (decode (drop at t)) → (at < e) × (e ≤ length t)
+word-end-in t at e v s = let x = token-here (decode (drop at t)) t at 0 e v e refl (sym s) in (x .on, x .inside)
+
 -- white space: the tokens are those behind it
 pub record Passed (t : List ℕ) (o m : ℕ) : Type 0 where
   pub here : tokensFrom 0 o (decode (drop o t)) ≡ tokensFrom 0 m (decode (drop m t))

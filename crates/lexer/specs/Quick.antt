@@ -1,12 +1,16 @@
 -- Tokens of one ASCII character, told by a table.
-use Prim.Native.Nat.{ℕ, zero, suc, _+_, _%_}
+use mathlib.Core.Path.{_≡_}
+use Prim.Native.Nat.{ℕ, zero, suc, _+_, _*_, _%_, _<_}
 use mathlib.Core.Bool.{cond}
 use mathlib.Core.List.{List, [], _∷_}
 use lib.Dec.{eqb}
-use lib.ListN.{getD}
+use lib.ListN.{length, getD, drop}
+use lib.Seq.{sets}
+use Rattle.chars.specs.Utf8.{decode}
 use Rattle.chars.specs.Class.{classOf}
 use Rattle.chars.specs.declared.Class.the-variants.{Letter, Digit, Space, Sign, Other}
 use Rattle.lexer.specs.Words.{signNumber}
+use Rattle.lexer.specs.Places.{piece}
 use Rattle.lexer.specs.declared.Piece.{Piece}
 use Rattle.lexer.specs.declared.Piece.the-variants.{Token as Tok, Gap}
 
@@ -31,6 +35,12 @@ unfoldable pub leads : List ℕ
 unfolding leadsFrom
 leads = leadsFrom 128 0
 
+-- a word begins at a place with an ASCII character
+pub record WordAt (t : List ℕ) (at : ℕ) : Type 0 where
+  pub inside : at < length t
+  pub ascii : getD t at 0 < 0x80
+  pub lead : leadOf (getD t at 0) ≡ 0
+
 -- the value of a token that is the character c alone and begins k
 unfoldable pub quickValue : ℕ → ℕ → ℕ
 quickValue k c = cond (eqb k 1) (c % 16) (cond (eqb k 13) 0 c)
@@ -43,3 +53,14 @@ quickPiece o k c = cond (eqb k 16) (Gap (o + 1)) (Tok k (o + 1) (quickValue k c)
 -- the words of the comma that stands at a place as a token; none where no comma stands there
 unfoldable pub commaWords : List ℕ → ℕ → List ℕ
 commaWords t o = cond (eqb (getD t o 0) 0x2C) (8 ∷ o ∷ (o + 1) ∷ 0x2C ∷ []) []
+
+-- the word at a place as token number n, with the comma behind it, if one is there: what is written, where the text goes on, how many tokens there are then
+pub record WordPut (t : List ℕ) (at n : ℕ) (w w′ : List ℕ) (at′ n′ : ℕ) : Type 0 where
+  pub end : ℕ
+  pub value : ℕ
+  pub commas : ℕ
+  pub token : Tok 0 end value end ≡ piece at (decode (drop at t))
+  pub comma : 4 * commas ≡ length (commaWords t end)
+  pub words : w′ ≡ sets (sets w (4 * n) (0 ∷ at ∷ end ∷ value ∷ [])) (4 * (n + 1)) (commaWords t end)
+  pub place : at′ ≡ end + commas
+  pub count : n′ ≡ n + 1 + commas

@@ -4,10 +4,11 @@ ghost use Prim.Native.Nat.{_+_, _<_, _≤_};
 ghost use mathlib.Core.Bool.{true};
 ghost use mathlib.Core.List.{_∷_};
 ghost use lib.ListN.{length};
-ghost use Rattle.chars.specs.Utf8.{size};
-ghost use Rattle.lexer.specs.Tokens.{isAsciiDigit, step, wordStep, numberStep, stringStep, quotedStep, commentStep, slashStep, otherStep};
+ghost use Rattle.chars.specs.Utf8.{size, sizes};
+ghost use Rattle.lexer.specs.Tokens.{isWordContinue, isAsciiDigit, run, step, wordStep, numberStep, stringStep, quotedStep, commentStep, slashStep, otherStep};
 ghost use Rattle.lexer.specs.Words.{signNumber};
 ghost use Rattle.lexer.specs.Places.{rest, pieceOf, piece};
+ghost use Rattle.lexer.specs.Quick.{WordAt};
 use crate::Piece;
 use crate::StringEnd;
 use crate::kind;
@@ -43,6 +44,17 @@ fn word(text: &[u8], at: usize, c: u32, next: usize) -> Piece
     }
     let k = names::keyword_of(names::part_of(text, at, end));
     Piece::Token(kind::WORD, end, 0x110000 + k, end)
+}
+
+// The value of the word at a place that begins with an ASCII character, from where it ends.
+pub(crate) fn word_value(text: &[u8], at: usize, end: usize) -> u32
+    requires { ⌜ WordAt (now text) at × (end ≡ at + 1 + sizes (run isWordContinue (rest (now text) (at + 1)))) ⌝ }
+    ensures { λ r. ⌜ Piece.Token 0 end r end ≡ piece at (rest (now (text .entry)) at) ⌝ }
+{
+    if end == at + 1 {
+        return scan::wide(text[at]);
+    }
+    0x110000 + names::keyword_of(names::part_of(text, at, end))
 }
 
 // A number whose first digit is c; the next character stands at next.

@@ -7,7 +7,7 @@ ghost use lib.Seq.{sets};
 ghost use Rattle.chars.specs.Utf8.{decode};
 ghost use Rattle.lexer.specs.Tokens.{tokens};
 ghost use Rattle.lexer.specs.Words.{flat, onto, tokenized};
-ghost use Rattle.lexer.specs.Quick.{leads, commaWords};
+ghost use Rattle.lexer.specs.Quick.{leads, WordAt, commaWords, WordPut};
 
 mod block;
 pub mod kind;
@@ -44,6 +44,12 @@ pub enum StringEnd {
     Unclosed,
 }
 
+// Where the text goes on, and how many tokens there are.
+pub struct Cursor {
+    pub at: usize,
+    pub n: usize,
+}
+
 // Token number n, as four words of work.
 fn push(work: &mut [u32], n: usize, kind: u32, start: u32, end: u32, value: u32)
     requires { ⌜ 4 * n + 4 ≤ length (now work) ⌝ }
@@ -71,8 +77,23 @@ fn comma(text: &[u8], at: usize, work: &mut [u32], n: usize) -> usize
     1
 }
 
-// The tokens of a text, as `tokenize` has them: of one ASCII character by the table, of any other by what stands at the place, together with a comma
-// behind it.
+// The word at a place that begins with an ASCII character, as token number n, together with a comma behind it.
+fn word(text: &[u8], at: usize, work: &mut [u32], n: usize) -> Cursor
+    requires { ⌜ (length (now text) ≤ 0x400000) × (4 * length (now text) + 4 ≤ length (now work)) × (n ≤ at) × WordAt (now text) at ⌝ }
+    ensures { λ r. ⌜ WordPut (now (text .entry)) at n (now (work .entry)) (now (work .exit)) (r .at) (r .n) ⌝ }
+{
+    let end = scan::word_end(text, at + 1);
+    let v = lex::word_value(text, at, end);
+    push(work, n, kind::WORD, at as u32, end as u32, v);
+    let m = comma(text, end, work, n + 1);
+    Cursor {
+        at: end + m,
+        n: n + 1 + m,
+    }
+}
+
+// The tokens of a text, as `tokenize` has them: of one ASCII character by the table, longer words that begin with one by their end, any other by what
+// stands at the place; those of more than one character together with a comma behind them.
 fn fill(table: &[u8; 128], text: &[u8], work: &mut [u32]) -> usize
     requires { ⌜ (now table ≡ leads) × (length (now text) ≤ 0x400000) × (4 * length (now text) + 4 ≤ length (now work)) ⌝ }
     ensures { λ r. ⌜ (r ≡ length (tokens (decode (now (text .entry))))) × (now (work .exit) ≡ onto (flat (tokens (decode (now (text .entry))))) (now (work .entry))) ⌝ }
@@ -88,6 +109,10 @@ fn fill(table: &[u8; 128], text: &[u8], work: &mut [u32]) -> usize
             at += 1;
         } else if k == 16 {
             at += 1;
+        } else if k == 18 {
+            let c = word(text, at, work, n);
+            at = c.at;
+            n = c.n;
         } else {
             let p = lex::piece_at(text, at);
             match p {

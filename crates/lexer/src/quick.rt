@@ -6,7 +6,7 @@ ghost use mathlib.Core.List.{[]};
 ghost use lib.ListN.{length, getD};
 ghost use Rattle.lexer.specs.Tokens.{isWordContinue, isAsciiDigit, run};
 ghost use Rattle.lexer.specs.Places.{rest, piece};
-ghost use Rattle.lexer.specs.Quick.{leads, quickValue, quickPiece};
+ghost use Rattle.lexer.specs.Quick.{leads, WordAt, quickValue, quickPiece};
 
 // What each ASCII character begins: a word 0, a number 1, a quoted character 2, a sign its kind, a line feed 13, white space 16, a string or a
 // comment 17.
@@ -50,10 +50,11 @@ fn number_stops(table: &[u8; 128], text: &[u8], at: usize) -> bool
     wide(table[b as usize]) != 1
 }
 
-// What stands at a place: the kind of a token of one ASCII character, 16 for such white space, 17 for anything else.
+// What stands at a place: the kind of a token of one ASCII character, 16 for such white space, 18 for a word that begins with one and may go on, 17 for
+// anything else.
 pub(crate) fn lead_at(table: &[u8; 128], text: &[u8], at: usize) -> u32
     requires { ⌜ now table ≡ leads ⌝ }
-    ensures { λ r. ⌜ (r < 17 → at < length (now (text .entry))) × (r < 17 → quickPiece at r (getD (now (text .entry)) at 0) ≡ piece at (rest (now (text .entry)) at)) ⌝ }
+    ensures { λ r. ⌜ (r < 17 → at < length (now (text .entry))) × (r < 17 → quickPiece at r (getD (now (text .entry)) at 0) ≡ piece at (rest (now (text .entry)) at)) × (r ≡ 18 → WordAt (now (text .entry)) at) ⌝ }
 {
     if text.len() <= at {
         return 17;
@@ -70,7 +71,7 @@ pub(crate) fn lead_at(table: &[u8; 128], text: &[u8], at: usize) -> u32
         if word_stops(table, text, at + 1) {
             return 0;
         }
-        return 17;
+        return 18;
     }
     if k == 1 {
         if number_stops(table, text, at + 1) {

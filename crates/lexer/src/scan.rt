@@ -86,7 +86,7 @@ pub(crate) fn is_whitespace(c: u32) -> bool
 }
 
 // A byte as a number to count with.
-fn wide(b: u8) -> u32
+pub(crate) fn wide(b: u8) -> u32
     ensures { λ r. ⌜ r ≡ b ⌝ }
 {
     b as u32

@@ -2,7 +2,7 @@
 use Prim.Native.Nat.{_-_}
 use lib.ListN.{length}
 use Rattle.lexer.proofs.Writes.{State, state-start, end-fits, token-room, gap-falls, state-gap, end-room, done-count, done-words, quick-in, quick-room, quick-falls, state-quick, blank-in, blank-falls, state-blank}
-use Rattle.lexer.proofs.Commas.{comma-room, place-fits, state-both, both-falls}
+use Rattle.lexer.proofs.Commas.{comma-room, place-fits, state-both, both-falls, is-word, put-falls, state-put}
 use borrow.Author.Needs.{needs}
 use Rattle.lexer.proofs.fill.Statement.{statement}
 use Rattle.lexer.proofs.fill.Tie as tie
@@ -14,6 +14,8 @@ abbrev μ-loop : tie.MeasureT-loop
 μ-loop table text work₀ at₀ n₀ work at n = length text - at
 
 ruleset laws = (needs, state-start, end-fits, token-room, gap-falls, state-gap, end-room, done-count, done-words, quick-in, quick-room, quick-falls, state-quick, blank-in, blank-falls, state-blank, comma-room, place-fits, both-falls)
+
+ruleset words = (needs, is-word, put-falls)
 
 pub fill-spec : {M : Type 1} → statement M
 fill-spec =
@@ -36,6 +38,9 @@ fill-spec =
     (λ c. search laws)
     (λ c. search laws)
     (λ c. search laws)
+    (λ c κs. search words)
+    (λ c. search words)
+    (λ c. search (needs, state-put))
     (λ c κs. search laws)
     (λ c. search laws)
     (λ c. search laws)
