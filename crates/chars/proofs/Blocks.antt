@@ -134,20 +134,27 @@ module _ (t : List ℕ) (i x : ℕ) (h : i + 2 ≤ length t) (e : x ≡ bitOr (g
   pub two-outside : outsideFrom (i + 2) (decode (drop (i + 2) t)) ≡ outsideFrom i (decode (drop i t))
   two-outside = many-outside t 2 i h (two-ascii t i x e l) (outsideFrom i (decode (drop i t))) refl
 
--- `ascii_three`
-module _ (t : List ℕ) (i a x : ℕ) (h : 3 ≤ length t - i) (ea : a ≡ getD t i 0) (la : a < 0x80)
-    (e : x ≡ bitOr (getD t (i + 1) 0) (getD t (i + 2) 0)) (l : x < 0x80) where
-  three-ascii : (j : ℕ) → j < 3 → getD t (i + j) 0 < 0x80
-  three-ascii zero g = let z : i + 0 ≡ i = omega arith in rw z (omega arith)
-  three-ascii (suc zero) g = omega (arith, or-left (getD t (i + 1) 0) (getD t (i + 2) 0))
-  three-ascii (suc (suc zero)) g = omega (arith, or-right (getD t (i + 1) 0) (getD t (i + 2) 0))
-  three-ascii (suc (suc (suc j))) g = absurd (omega arith)
+-- `ascii_gap`
+module _ (t : List ℕ) (i : ℕ) (la : getD t i 0 < 0x80) where
+  module _ (x : ℕ) (h : 3 < length t - i) (e : x ≡ bitOr (getD t (i + 1) 0) (getD t (i + 2) 0)) (l : x < 0x80) where
+    three-ascii : (j : ℕ) → j < 3 → getD t (i + j) 0 < 0x80
+    three-ascii zero g = let z : i + 0 ≡ i = omega arith in rw z la
+    three-ascii (suc zero) g = omega (arith, or-left (getD t (i + 1) 0) (getD t (i + 2) 0))
+    three-ascii (suc (suc zero)) g = omega (arith, or-right (getD t (i + 1) 0) (getD t (i + 2) 0))
+    three-ascii (suc (suc (suc j))) g = absurd (omega arith)
 
-  pub three-valid : i + 3 + sizes (decode (drop (i + 3) t)) ≡ i + sizes (decode (drop i t))
-  three-valid = many-valid t 3 i (omega arith) three-ascii (i + sizes (decode (drop i t))) refl
+    pub three-valid : i + 3 + sizes (decode (drop (i + 3) t)) ≡ i + sizes (decode (drop i t))
+    three-valid = many-valid t 3 i (omega arith) three-ascii (i + sizes (decode (drop i t))) refl
 
-  pub three-outside : outsideFrom (i + 3) (decode (drop (i + 3) t)) ≡ outsideFrom i (decode (drop i t))
-  three-outside = many-outside t 3 i (omega arith) three-ascii (outsideFrom i (decode (drop i t))) refl
+    pub three-outside : outsideFrom (i + 3) (decode (drop (i + 3) t)) ≡ outsideFrom i (decode (drop i t))
+    three-outside = many-outside t 3 i (omega arith) three-ascii (outsideFrom i (decode (drop i t))) refl
+
+  module _ (h : i < length t) (r : ℕ) where
+    pub run-valid : r + sizes (decode (drop r t)) ≡ i + 1 + sizes (decode (drop (i + 1) t)) → r + sizes (decode (drop r t)) ≡ i + sizes (decode (drop i t))
+    run-valid m = m ∙ ascii-valid t i h la (i + sizes (decode (drop i t))) refl
+
+    pub run-outside : outsideFrom r (decode (drop r t)) ≡ outsideFrom (i + 1) (decode (drop (i + 1) t)) → outsideFrom r (decode (drop r t)) ≡ outsideFrom i (decode (drop i t))
+    run-outside m = m ∙ ascii-outside t i h la (outsideFrom i (decode (drop i t))) refl
 
 -- ---- the loop of `plain_up_to`
 module _ (t : List ℕ) (at : ℕ) (p : at + sizes (decode (drop at t)) ≡ validUpTo t) (q : outsideFrom at (decode (drop at t)) ≡ firstOutside t) where
@@ -172,13 +179,12 @@ module _ (t : List ℕ) (at : ℕ) (p : at + sizes (decode (drop at t)) ≡ vali
     unfolding plainUpTo
     plain-here c n w e g h = ap (λ (o : Outside). orElse o (validUpTo t)) (outside-here t at r s (firstOutside t) q c n e w g h)
 
-  -- behind an ASCII byte and those that follow it
-  module _ (a i : ℕ) (h : at < length t) (e : a ≡ getD t at 0) (l : a < 0x80) where
-    pub run-valid : i + sizes (decode (drop i t)) ≡ at + 1 + sizes (decode (drop (at + 1) t)) → i + sizes (decode (drop i t)) ≡ validUpTo t
-    run-valid m = m ∙ byte-valid t at a h e l (validUpTo t) p
+  -- behind ASCII bytes
+  pub gap-valid : (i : ℕ) → i + sizes (decode (drop i t)) ≡ at + sizes (decode (drop at t)) → i + sizes (decode (drop i t)) ≡ validUpTo t
+  gap-valid i m = m ∙ p
 
-    pub run-outside : outsideFrom i (decode (drop i t)) ≡ outsideFrom (at + 1) (decode (drop (at + 1) t)) → outsideFrom i (decode (drop i t)) ≡ firstOutside t
-    run-outside m = m ∙ byte-outside t at a h e l (firstOutside t) q
+  pub gap-outside : (i : ℕ) → outsideFrom i (decode (drop i t)) ≡ outsideFrom at (decode (drop at t)) → outsideFrom i (decode (drop i t)) ≡ firstOutside t
+  gap-outside i m = m ∙ q
 
 -- ---- a text that is UTF-8 and within the set to its end
 outside-below : (o i : ℕ) (cs : List ℕ) → outsideFrom o cs ≡ At i → i < o + sizes cs

@@ -210,17 +210,14 @@ module _ (t : List ℕ) (at n : ℕ) (s : n ≡ plainStep at (front (drop at t))
     pub step-le : n ≤ length t
     step-le = char-le t at (Char (found .0) n) (found .1) (found .0) n refl
 
-    -- and `ascii_three`, which gives i
-    module _ (i : ℕ) where
-      pub step-falls : n ≤ i → length t - i < length t - at
-      step-falls g = omega (arith, char-falls t at (Char (found .0) n) (found .1) (found .0) n refl)
+    pub step-falls : length t - n < length t - at
+    step-falls = char-falls t at (Char (found .0) n) (found .1) (found .0) n refl
 
-      pub step-valid : (v : ℕ) → at + sizes (decode (drop at t)) ≡ v → i + sizes (decode (drop i t)) ≡ n + sizes (decode (drop n t)) → i + sizes (decode (drop i t)) ≡ v
-      step-valid v p m = m ∙ valid-on t at (Char (found .0) n) (found .1) v p (found .0) n refl
+    pub step-valid : (v : ℕ) → at + sizes (decode (drop at t)) ≡ v → n + sizes (decode (drop n t)) ≡ v
+    step-valid v p = valid-on t at (Char (found .0) n) (found .1) v p (found .0) n refl
 
-      pub step-outside : (v : Outside) → outsideFrom at (decode (drop at t)) ≡ v → outsideFrom i (decode (drop i t)) ≡ outsideFrom n (decode (drop n t))
-          → outsideFrom i (decode (drop i t)) ≡ v
-      step-outside v p m = m ∙ outside-on t at (Char (found .0) n) (found .1) v p (found .0) n refl true (sym (found .2)) refl
+    pub step-outside : (v : Outside) → outsideFrom at (decode (drop at t)) ≡ v → outsideFrom n (decode (drop n t)) ≡ v
+    step-outside v p = outside-on t at (Char (found .0) n) (found .1) v p (found .0) n refl true (sym (found .2)) refl
 
   pub step-stop : at + sizes (decode (drop at t)) ≡ validUpTo t → outsideFrom at (decode (drop at t)) ≡ firstOutside t → n ≡ at → at ≡ plainUpTo t
   unfolding plainStep decodedAt

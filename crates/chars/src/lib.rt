@@ -285,24 +285,6 @@ fn ascii_two(text: &[u8], at: usize) -> usize
     at + 2
 }
 
-// The place behind three bytes, if they are ASCII, as those between two quoted symbols are; else that of the first.
-fn ascii_three(text: &[u8], at: usize) -> usize
-    requires { ⌜ at ≤ length (now text) ⌝ }
-    ensures { λ r. ⌜ (at ≤ r) × (r ≤ length (now (text .entry))) × (r + sizes (decode (drop r (now (text .entry)))) ≡ at + sizes (decode (drop at (now (text .entry))))) × (outsideFrom r (decode (drop r (now (text .entry)))) ≡ outsideFrom at (decode (drop at (now (text .entry))))) ⌝ }
-{
-    if text.len() - at < 3 {
-        return at;
-    }
-    if 0x80 <= text[at] {
-        return at;
-    }
-    let x = text[at + 1] | text[at + 2];
-    if 0x80 <= x {
-        return at;
-    }
-    at + 3
-}
-
 // A place before which all bytes are ASCII, from one on: blocks of eight are passed over; where the third byte says that there is none, two bytes.
 fn ascii_blocks(text: &[u8], at: usize) -> usize
     requires { ⌜ at ≤ length (now text) ⌝ }
@@ -337,6 +319,22 @@ fn ascii_end(text: &[u8], at: usize) -> usize
         i += 1;
     }
     i
+}
+
+// The place behind the ASCII bytes at a place: three where a character above ASCII follows, as between two quoted symbols; else as far as they go.
+fn ascii_gap(text: &[u8], at: usize) -> usize
+    requires { ⌜ (at < length (now text)) × (getD (now text) at 0 < 0x80) ⌝ }
+    ensures { λ r. ⌜ (at < r) × (r ≤ length (now (text .entry))) × (r + sizes (decode (drop r (now (text .entry)))) ≡ at + sizes (decode (drop at (now (text .entry))))) × (outsideFrom r (decode (drop r (now (text .entry)))) ≡ outsideFrom at (decode (drop at (now (text .entry))))) ⌝ }
+{
+    if 3 < text.len() - at {
+        if 0x80 <= text[at + 3] {
+            let x = text[at + 1] | text[at + 2];
+            if x < 0x80 {
+                return at + 3;
+            }
+        }
+    }
+    ascii_end(text, at + 1)
 }
 
 // Whether two bytes are a character of the set, where the first byte tells it: from C2 to CA and from CE to D1.
@@ -405,13 +403,13 @@ pub fn plain_up_to(text: &[u8]) -> usize
         }
         let a = wide(text[at]);
         if a < 0x80 {
-            at = ascii_end(text, at + 1);
+            at = ascii_gap(text, at);
         } else {
             let next = plain_step(text, at, a);
             if next == at {
                 return at;
             }
-            at = ascii_three(text, next);
+            at = next;
         }
     }
 }

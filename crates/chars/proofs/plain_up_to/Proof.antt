@@ -5,7 +5,7 @@ use lib.ListN.{length, drop}
 use Rattle.chars.specs.Utf8.{sizes, decode, validUpTo}
 use Rattle.chars.specs.Class.{outsideFrom, firstOutside}
 use Rattle.chars.proofs.Scans.{valid-start, outside-start}
-use Rattle.chars.proofs.Blocks.{plain-end, run-valid, run-outside}
+use Rattle.chars.proofs.Blocks.{plain-end, gap-valid, gap-outside}
 use Rattle.chars.proofs.Short.{step-le, step-falls, step-valid, step-outside, step-stop}
 use borrow.Author.Needs.{needs}
 use Rattle.chars.proofs.plain_up_to.Statement.{statement}
@@ -17,7 +17,7 @@ Inv-loop text at₀ at = (at ≤ length text) × (at + sizes (decode (drop at te
 abbrev μ-loop : tie.MeasureT-loop
 μ-loop text at₀ at = length text - at
 
-ruleset laws = (needs, plain-end, run-valid, run-outside, step-le, step-falls, step-valid, step-outside, step-stop)
+ruleset laws = (needs, plain-end, gap-valid, gap-outside, step-le, step-falls, step-valid, step-outside, step-stop)
 
 pub plain-up-to-spec : {M : Type 1} → statement M
 plain-up-to-spec =
@@ -29,12 +29,10 @@ plain-up-to-spec =
     (λ c. search laws)
     (λ c. search laws)
     (λ c κs. search laws)
-    (λ c. search laws)
     (λ c κs. search laws)
     (λ c. search laws)
     (λ c. search laws)
     (λ c κs. search laws)
     (λ c. search laws)
-    (λ c κs. search laws)
     (λ c. search laws)
     (λ c. search laws))
