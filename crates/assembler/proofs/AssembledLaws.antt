@@ -4,8 +4,11 @@ use mathlib.Core.Bool.{Bool, true, false, cond}
 use mathlib.Core.List.{List, [], _∷_, _++_, map}
 use Prim.Native.Nat.{ℕ, zero, suc, _+_, _*_, _≤_, _<_, _^_}
 use native.Mathlib.Omega.{arith}
+use mir.Syntax.{w64}
+use mir.Val.{Fits}
 use lib.Dec.{eqb, ltb}
-use lib.ListN.{length, getD, drop, length-append, length-drop, length-map}
+use lib.ListN.{length, getD, take, drop, length-append, length-drop, length-map}
+use lib.Seq.{take-take}
 use Rattle.chars.specs.Utf8.{decode}
 use Rattle.lexer.specs.declared.Span.{Span as Place}
 use Rattle.lexer.specs.Tokens.{tokens}
@@ -24,22 +27,24 @@ use Rattle.diag.specs.declared.Diagnostic.{Diagnostic}
 use Rattle.diag.specs.Log.{Log, logged, appendAll}
 use Rattle.diag.proofs.Appended.{append-all-append, append-all-count}
 use Rattle.assembler.specs.declared.Assembled.{Assembled}
-use Rattle.assembler.specs.Rows.{rows}
+use Rattle.assembler.specs.declared.rules.Tally.{Tally}
+use Rattle.assembler.specs.Rows.{rows, placeOf}
 use Rattle.assembler.specs.Entries.{Entry, behind, entriesFrom, entries}
 use Rattle.assembler.specs.Entered.{flat, enteredFrom, entered}
 use Rattle.assembler.specs.Feeds.{Fed}
 use Rattle.assembler.specs.Failures.{lineError, lineErrors}
 use Rattle.assembler.specs.Declarations.{undeclared, declare, declarations, declarationError, declarationErrors}
 use Rattle.assembler.specs.Finals.{nameAt, namesFrom, namesOf, finalError, finalErrors, finalsErrors, Interned, Laid, Kept}
-use Rattle.assembler.specs.Rules.{noRules, ruleErrors, ruleCount}
+use Rattle.assembler.specs.Rules.{verdict, after, ruleError, noRules, ruleErrors, ruleCount}
 use Rattle.assembler.specs.Records.{recordOf, recordsOf}
 use Rattle.assembler.specs.Assembled as S
 use Rattle.assembler.proofs.Rows.{length-rows}
 use Rattle.assembler.proofs.RowWords.{rows-onto, length-onto}
 use Rattle.equal_names.proofs.NameLaws.{kept-rows}
-use Rattle.assembler.proofs.MarkLaws.{kept-row, kept-interned}
+use Rattle.assembler.proofs.MarkLaws.{kept-row, kept-interned, kept-trans}
 use Rattle.assembler.proofs.FailureLaws.{line-error-one}
 use Rattle.assembler.proofs.DeclarationLaws.{one-wrong}
+use Rattle.assembler.proofs.RuleLaws.{one-rule}
 use Rattle.assembler.proofs.FinalLaws.{one-final}
 use Rattle.assembler.proofs.Means.{AllMean, records-append, line-errors-mean, declarations-mean, table-empty}
 use Rattle.assembler.proofs.RulesMean.{RulesOf, rule-errors-mean, rule-count-mean}
@@ -69,39 +74,25 @@ module _ (text : List ℕ) (count : ℕ) (w₀ : List ℕ) (p : S.Tokenized text
   pub enter-few : count < 2 ^ 31
   enter-few = omega (arith, few, p .short)
 
-  size₀ : length (rows count w₀) ≡ count
-  size₀ = length-rows count w₀ enter-room
+  pub entered-lines : (w₁ : List ℕ) → w₁ ≡ onto (flat (entered (rows count w₀))) w₀ → S.Entered count w₀ w₁
+  entered-lines w₁ e =
+      let size : length (entered (rows count w₀)) ≡ count = length-entered (rows count w₀) ∙ length-rows count w₀ enter-room in
+      record {
+        row = ap (rows count) e ∙ rows-onto (entered (rows count w₀)) count w₀ size;
+        size = ap length e ∙ length-onto (entered (rows count w₀)) w₀ (omega (arith, size, enter-room));
+      }
 
-  module _ (w₁ : List ℕ) (e₁ : w₁ ≡ onto (flat (entered (rows count w₀))) w₀) where
-    size-entered : length (entered (rows count w₀)) ≡ count
-    size-entered = length-entered (rows count w₀) ∙ size₀
+-- ---- the row of first equal words
+pub kept-fewer : (a b : ℕ) (u v : List ℕ) → a ≤ b → Kept b u v → Kept a u v
+kept-fewer a b u v h k = record { front = sym (take-take a b v h) ∙ ap (take a) (k .front) ∙ take-take a b u h; size = k .size }
 
-    size₁ : length w₁ ≡ length w₀
-    size₁ = ap length e₁ ∙ length-onto (entered (rows count w₀)) w₀ (omega (arith, size-entered, enter-room))
-
-    row₁ : rows count w₁ ≡ entered (rows count w₀)
-    row₁ = ap (rows count) e₁ ∙ rows-onto (entered (rows count w₀)) count w₀ size-entered
-
-    pub intern-base : 4 * count ≤ 4 * (length text + 1)
-    intern-base = omega (arith, few)
-
-    pub intern-few : count ≤ length text + 1
-    intern-few = few
-
-    pub intern-names : 4 * (length text + 1) + count ≤ 5 * (length text + 1)
-    intern-names = omega (arith, few)
-
-    pub intern-room : 5 * (length text + 1) + (length text + 1) ≤ length w₁
-    intern-room = omega (arith, p .room, size₁)
-
-    pub entered-rows : (w₂ : List ℕ) → Kept (4 * (length text + 1)) w₁ w₂ → Interned text (rows count w₁) (4 * (length text + 1)) w₂ → S.Entered text count w₀ w₂
-    entered-rows w₂ kept names =
-        let row₂ : rows count w₂ ≡ rows count w₁ = kept-rows count (4 * (length text + 1)) w₁ w₂ kept intern-base in
-        record {
-          row = row₂ ∙ row₁;
-          names = subst (λ (ts : List Token). Interned text ts (4 * (length text + 1)) w₂) (sym row₂) names;
-          size = kept .size ∙ size₁;
-        }
+module _ (text : List ℕ) (count : ℕ) (w₀ : List ℕ) (laid : Laid count (S.wordsFrom (length text)) (S.marksFrom (length text)) w₀) where
+  module _ (w₁ first : List ℕ) (wrong : ℕ) where
+    pub all-named : Kept (S.wordsFrom (length text)) w₀ w₁ → Interned text (rows count w₀) (S.wordsFrom (length text)) w₁ → S.Named text count w₁ first wrong
+    all-named k i =
+        let row : rows count w₁ ≡ rows count w₀ = kept-rows count (S.wordsFrom (length text)) w₀ w₁ k (laid .tokens) in
+        let names : Interned text (rows count w₁) (S.wordsFrom (length text)) w₁ = subst (λ (ts : List Token). Interned text ts (S.wordsFrom (length text)) w₁) (sym row) i in
+        record { listed = λ h. names; sound = λ e. names }
 
 -- ---- how many diagnostics the passes append
 entries-few-from : (k i : ℕ) (ts : List Token) → length (entriesFrom k i ts) ≤ length ts
@@ -155,40 +146,67 @@ finals-few text ts first =
     let f : ℕ = getD first 10 0 in
     omega (arith, finals-few-from text ts (ltb q (length ts)) (namesFrom (suc q) (drop (suc q) ts)) [] (namesFrom (suc f) (drop (suc f) ts)), names-few (suc f) (drop (suc f) ts), length-drop (suc f) ts)
 
+rules-count : (s : Tally) (es : List Entry) → length (ruleErrors s es) ≤ length es
+unfolding ruleErrors
+rules-count s [] = omega arith
+rules-count s (e ∷ es) =
+    let v = verdict (s .rules) e in
+    omega (arith, length-append (ruleError v (s .cut) (placeOf (e .first))) (ruleErrors (after s v) es), one-rule v (s .cut) (placeOf (e .first)), rules-count (after s v) es)
+
 -- ---- F and the rules
-module _ (text : List ℕ) (count : ℕ) (w₀ w₁ first : List ℕ) (l : Log)
-    (laid : Laid count (S.wordsFrom (length text)) (S.marksFrom (length text)) w₀) (kept : Kept (S.marksFrom (length text)) w₀ w₁) where
-  row-kept : rows count w₁ ≡ rows count w₀
-  row-kept = kept-row count (S.wordsFrom (length text)) (S.marksFrom (length text)) w₀ w₁ laid kept
+pub all-fit : (text : List ℕ) (count : ℕ) (w : List ℕ) → Laid count (S.wordsFrom (length text)) (S.marksFrom (length text)) w → (m wrong : ℕ)
+    → wrong ≡ length (ruleErrors noRules (entries (rows count w))) → m + 2 * count < 2 ^ 64 → Fits w64 (m + wrong)
+all-fit text count w laid m wrong e h = record {
+  fits = omega (arith, rules-count noRules (entries (rows count w)), entries-few (rows count w), length-rows count w (omega (arith, laid .tokens, laid .words, laid .marks)));
+}
 
-  row-size : length (rows count w₀) ≡ count
-  row-size = length-rows count w₀ (omega (arith, laid .tokens, laid .words, laid .marks))
+module _ (text : List ℕ) (count : ℕ) (w₀ w₁ first : List ℕ)
+    (laid : Laid count (S.wordsFrom (length text)) (S.marksFrom (length text)) w₀) (kept₁ : Kept (S.wordsFrom (length text)) w₀ w₁) where
+  row₁ : rows count w₁ ≡ rows count w₀
+  row₁ = kept-rows count (S.wordsFrom (length text)) w₀ w₁ kept₁ (laid .tokens)
 
-  module _ (g : List ℕ) (n : ℕ) (finals : logged g n ≡ appendAll l (finalsErrors text (rows count w₀) first)) where
-    pub rules-room : 4 * count ≤ length w₁
-    rules-room = omega (arith, laid .tokens, laid .words, laid .marks, kept .size)
+  pub named-laid : Laid count (S.wordsFrom (length text)) (S.marksFrom (length text)) w₁
+  named-laid = record { tokens = laid .tokens; words = laid .words; marks = omega (arith, laid .marks, kept₁ .size); few = laid .few }
+
+  size₁ : length (rows count w₁) ≡ count
+  size₁ = length-rows count w₁ (omega (arith, laid .tokens, laid .words, laid .marks, kept₁ .size))
+
+  module _ (w₂ : List ℕ) (kept₂ : Kept (S.marksFrom (length text)) w₁ w₂) (l : Log) (g : List ℕ) (n : ℕ) (finals : logged g n ≡ appendAll l (finalsErrors text (rows count w₁) first)) where
+    row₂ : rows count w₂ ≡ rows count w₀
+    row₂ = kept-row count (S.wordsFrom (length text)) (S.marksFrom (length text)) w₁ w₂ named-laid kept₂ ∙ row₁
+
+    pub rules-room : 4 * count ≤ length w₂
+    rules-room = omega (arith, laid .tokens, laid .words, laid .marks, kept₁ .size, kept₂ .size)
 
     pub rules-low : count < 2 ^ 32
     rules-low = omega (arith, laid .few)
 
     pub rules-few : l .count + 2 * count < 2 ^ 64 → n + count < 2 ^ 64
     rules-few h =
-        omega (arith, ap (λ (x : Log). x .count) finals, append-all-count l (finalsErrors text (rows count w₀) first), finals-few text (rows count w₀) first, row-size)
+        omega (arith, ap (λ (x : Log). x .count) finals, append-all-count l (finalsErrors text (rows count w₁) first), finals-few text (rows count w₁) first, size₁)
 
-    pub rules-fed : Fed (rows count w₀) → Fed (rows count w₁)
-    rules-fed f = subst Fed (sym row-kept) f
+    pub rules-fed : Fed (rows count w₀) → Fed (rows count w₂)
+    rules-fed f = subst Fed (sym row₂) f
 
-    pub rules-wrong : (k : ℕ) → k ≡ length (ruleErrors noRules (entries (rows count w₀))) → k ≡ length (ruleErrors noRules (entries (rows count w₁)))
-    rules-wrong k e = e ∙ ap (λ (ts : List Token). length (ruleErrors noRules (entries ts))) (sym row-kept)
+    module _ (wrong : ℕ) (counted : wrong ≡ length (ruleErrors noRules (entries (rows count w₀)))) where
+      pub rules-wrong : wrong ≡ length (ruleErrors noRules (entries (rows count w₂)))
+      rules-wrong = counted ∙ ap (λ (ts : List Token). length (ruleErrors noRules (entries ts))) (sym row₂)
 
-    pub finals-and-rules : (log : List ℕ) (r : ℕ) → logged log r ≡ appendAll (logged g n) (ruleErrors noRules (entries (rows count w₁))) → S.FinalsAndRules text count w₀ w₁ first l log r
-    finals-and-rules log r e = record {
-      kept = kept;
-      written =
-          e ∙ ap (λ (ts : List Token). appendAll (logged g n) (ruleErrors noRules (entries ts))) row-kept
-          ∙ ap (λ (x : Log). appendAll x (ruleErrors noRules (entries (rows count w₀)))) finals
-          ∙ sym (append-all-append l (finalsErrors text (rows count w₀) first) (ruleErrors noRules (entries (rows count w₀))));
-    }
+      pub finals-and-rules : (log : List ℕ) (r : ℕ) → S.Named text count w₁ first (l .count + wrong) → logged log r ≡ appendAll (logged g n) (ruleErrors noRules (entries (rows count w₂))) → S.FinalsAndRules text count w₀ w₂ first l log r
+      finals-and-rules log r named e =
+          let a : ℕ = S.wordsFrom (length text) in
+          let b : ℕ = S.marksFrom (length text) in
+          let on : Interned text (rows count w₁) a w₁ → Interned text (rows count w₂) a w₂ = λ i. kept-interned count a b w₁ w₂ named-laid kept₂ text i in
+          let none : r ≡ 0 → l .count + wrong ≡ 0 = λ z.
+          omega (arith, ap (λ (x : Log). x .count) e, append-all-count (logged g n) (ruleErrors noRules (entries (rows count w₂))), rules-wrong, ap (λ (x : Log). x .count) finals, append-all-count l (finalsErrors text (rows count w₁) first)) in
+          record {
+            kept = kept-trans a w₀ w₁ w₂ kept₁ (kept-fewer a b w₁ w₂ (omega arith) kept₂);
+            named = record { listed = λ h. on (named .listed h); sound = λ z. on (named .sound (none z)) };
+            written =
+                e ∙ ap (λ (ts : List Token). appendAll (logged g n) (ruleErrors noRules (entries ts))) row₂
+                ∙ ap (λ (x : Log). appendAll x (ruleErrors noRules (entries (rows count w₀)))) (finals ∙ ap (λ (ts : List Token). appendAll l (finalsErrors text ts first)) row₁)
+                ∙ sym (append-all-append l (finalsErrors text (rows count w₀) first) (ruleErrors noRules (entries (rows count w₀))));
+          }
 
 -- ---- all passes over the lines
 module _ (text : List ℕ) (count : ℕ) (w₀ log₀ : List ℕ) (laid : Laid count (S.wordsFrom (length text)) (S.marksFrom (length text)) w₀) where
@@ -233,6 +251,7 @@ module _ (text : List ℕ) (count : ℕ) (w₀ log₀ : List ℕ) (laid : Laid c
           let same : first ≡ table = f₂ ∙ ap (λ (k : ℕ). declarations k undeclared es) (sym all-size) in
           record {
             kept = p .kept;
+            named = p .named;
             first = f₂;
             rules = c;
             written =
@@ -274,7 +293,7 @@ length-records : (ds : List (A.Diagnostic Place)) → length (recordsOf ds) ≡ 
 unfolding recordsOf
 length-records ds = length-map ds recordOf
 
-module _ (text : List ℕ) (count : ℕ) (w₀ w₁ : List ℕ) (p : S.Tokenized text count w₀) (e : S.Entered text count w₀ w₁) where
+module _ (text : List ℕ) (count : ℕ) (w₀ w₁ : List ℕ) (p : S.Tokenized text count w₀) (e : S.Entered count w₀ w₁) where
   pub passes-laid : Laid count (S.wordsFrom (length text)) (S.marksFrom (length text)) w₁
   passes-laid = record {
     tokens = omega (arith, p .many, tokens-of-bytes text);
@@ -283,15 +302,17 @@ module _ (text : List ℕ) (count : ℕ) (w₀ w₁ : List ℕ) (p : S.Tokenized
     few = omega (arith, p .many, tokens-of-bytes text, p .short);
   }
 
+  pub passes-room : 6 * length text + 6 ≤ length w₁
+  passes-room = omega (arith, p .room, e .size)
+
   pub passes-fed : Fed (rows count w₁)
   passes-fed = subst Fed (sym (e .row)) (entered-fed (rows count w₀))
 
   pub outcome : (w₂ log₀ log : List ℕ) (r : Assembled) → S.Diagnosed text count w₁ w₂ log₀ log r → S.Outcome text count w₀ w₂ log₀ log r
   outcome w₂ log₀ log r d =
       let a : ℕ = S.wordsFrom (length text) in
-      let b : ℕ = S.marksFrom (length text) in
       let row₁ : rows count w₁ ≡ E text = e .row ∙ ap entered (p .row) in
-      let row₂ : rows count w₂ ≡ rows count w₁ = kept-row count a b w₁ w₂ passes-laid (d .kept) in
+      let row₂ : rows count w₂ ≡ rows count w₁ = kept-rows count a w₁ w₂ (d .kept) (passes-laid .tokens) in
       let size : length (E text) ≡ count = length-entered (map tokenOf (tokens (decode text))) ∙ length-map (tokens (decode text)) tokenOf ∙ sym (p .many) in
       let few : length (E text) ≤ 0xffffffff = omega (arith, passes-laid .few) in
       let found : S.rowDiagnostics text (rows count w₁) ≡ recordsOf (A.diagnosticsOf (readLines (decode text))) = ap (S.rowDiagnostics text) row₁ ∙ row-mean text few in
@@ -302,7 +323,8 @@ module _ (text : List ℕ) (count : ℕ) (w₀ w₁ : List ℕ) (p : S.Tokenized
             ∙ ap (λ (n : ℕ). 0 + n) (length-records (A.diagnosticsOf (readLines (decode text)))) ∙ nothing-more (length (A.diagnosticsOf (readLines (decode text))));
         written = logged-is;
         rules = d .rules ∙ ap (λ (ts : List Token). ruleCount noRules (entries ts)) row₁ ∙ rules-mean text few;
-        entered = record { row = row₂ ∙ e .row; names = kept-interned count a b w₁ w₂ passes-laid (d .kept) text (e .names); size = d .kept .size ∙ e .size };
+        entered = record { row = row₂ ∙ e .row; size = d .kept .size ∙ e .size };
+        named = d .named;
         first = d .first ∙ ap (λ (ts : List Token). declarations count undeclared (entries ts)) (sym row₂);
       }
     where

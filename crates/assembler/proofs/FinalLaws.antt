@@ -326,6 +326,10 @@ finals-of text count a b w₀ w laid kept first q f l l′ eq ef e =
     ∙ ap (λ (q : ℕ). appendAll l (finalErrors text ts (ltb q (length ts)) (namesOf ts q) [] (namesOf ts f))) eq
     ∙ ap (λ (f : ℕ). appendAll l (finalErrors text ts (ltb (getD first 5 0) (length ts)) (namesOf ts (getD first 5 0)) [] (namesOf ts f))) ef
 
+-- with F its names are known
+pub finals-names : (text : List ℕ) (ts : List Token) (a : ℕ) (w first : List ℕ) (f count : ℕ) → (getD first 10 0 < count → Interned text ts a w) → f ≡ getD first 10 0 → f < count → Interned text ts a w
+finals-names text ts a w first f count n e h = n (omega arith)
+
 pub finals-none : (text : List ℕ) (count a b : ℕ) (w : List ℕ) → Laid count a b w → (first : List ℕ) (f : ℕ) (l : Log) → f ≡ getD first 10 0 → count ≤ f → l ≡ appendAll l (finalsErrors text (rows count w) first)
 unfolding finalsErrors finalErrors namesOf namesFrom appendAll
 finals-none text count a b w laid first f l e h =

@@ -1,14 +1,15 @@
 -- Laws of the tokens in a row of words, and of the lines that their entries part.
 use mathlib.Core.Path.{_≡_, refl, sym, ap, subst, _∙_}
 use mathlib.Core.Bool.{Bool, true, false, cond}
-use mathlib.Core.List.{List, [], _∷_}
+use mathlib.Core.List.{List, [], _∷_, _++_}
 use Prim.Native.Nat.{ℕ, zero, suc, _+_, _-_, _*_, _≤_, _<_}
 use native.Mathlib.Omega.{arith}
 use native.Mathlib.Numerals.{add-one}
 use borrow.Author.Tests.{le-leb, lt-leb, eq-eqb, ne-eqb}
 use lib.Dec.{eqb, leb}
-use lib.ListN.{length, take, drop, drop-of-length-le}
-use lib.Seq.{drop-cons, drop-drop, take-nil}
+use lib.ListN.{length, getD, take, drop, drop-of-length-le, length-drop}
+use lib.Seq.{drop-cons, drop-drop, take-suc, take-all, getD-drop}
+use Rattle.diag.proofs.Cases.{by-test}
 use Rattle.tokens.specs.declared.Token.{Token}
 use Rattle.tokens.specs.View.{tokenIn}
 use Rattle.parser.specs.Row.{ended, peek}
@@ -111,35 +112,44 @@ module _ (count : ℕ) (work : List ℕ) (a i : ℕ) (s : Seeking count work a i
       let none : lineLength (drop i (rows count work)) ≡ 0 = ap lineLength (drop-of-length-le (rows count work) {i = i} (omega (arith, length-rows count work room))) in
       omega (arith, s .left, none)
 
--- ---- the search for a kind: there is one from the index a on if there is one from the index i on
+-- ---- the search for a kind from the end: there is one up to the index `to` if there is one up to the index i
 abbrev pub kindFrom : ℕ → ℕ → List ℕ → ℕ → ℕ → Bool
 kindFrom k count work i to = hasKind k (take (to - i) (drop i (rows count work)))
 
-module _ (k count : ℕ) (work : List ℕ) (a to i : ℕ) (inv : kindFrom k count work i to ≡ kindFrom k count work a to) (room : 4 * count ≤ length work) where
-  pub kind-end : to ≤ i → false ≡ kindFrom k count work a to
-  unfolding hasKind
-  kind-end h = let e : to - i ≡ 0 = omega arith in sym (ap (λ (n : ℕ). hasKind k (take n (drop i (rows count work)))) e) ∙ inv
+has-last : (k : ℕ) (l : List Token) (t : Token) (b : Bool) → eqb (t .kind) k ≡ b → hasKind k (l ++ t ∷ []) ≡ elim b [ true ↦ true | false ↦ hasKind k l ]
+unfolding hasKind
+has-last k [] t b e = ap (λ (b : Bool). elim b [ true ↦ true | false ↦ false ]) e
+has-last k (u ∷ l) t true e =
+    by-test (eqb (u .kind) k) (λ y. ap (λ (b : Bool). elim b [ true ↦ true | false ↦ hasKind k (l ++ t ∷ []) ]) y)
+    (λ n. ap (λ (b : Bool). elim b [ true ↦ true | false ↦ hasKind k (l ++ t ∷ []) ]) n ∙ has-last k l t true e)
+has-last k (u ∷ l) t false e = ap (λ (b : Bool). elim (eqb (u .kind) k) [ true ↦ true | false ↦ b ]) (has-last k l t false e)
 
-  pub kind-past : count ≤ i → false ≡ kindFrom k count work a to
-  unfolding hasKind
-  kind-past h =
-      sym (ap (λ (l : List Token). hasKind k (take (to - i) l)) (drop-of-length-le (rows count work) {i = i} (omega (arith, length-rows count work room)))
-      ∙ ap (hasKind k) (take-nil {A = Token} (to - i))) ∙ inv
+-- behind the last token there is nothing
+pub kind-cut : (k count : ℕ) (work : List ℕ) (a to : ℕ) → 4 * count ≤ length work → count < to → (r : Bool) → r ≡ kindFrom k count work a count → r ≡ kindFrom k count work a to
+kind-cut k count work a to room h r e =
+    let l : List Token = drop a (rows count work) in
+    let few : length l ≤ count - a = omega (arith, length-drop a (rows count work), length-rows count work room) in
+    e ∙ ap (hasKind k) (take-all (count - a) l few ∙ sym (take-all (to - a) l (omega arith)))
 
-  module _ (t : Token) (low : i < to) (within : i < count) (at : t ≡ tokenIn work i) where
-    kind-by : (b : Bool) → eqb (t .kind) k ≡ b → kindFrom k count work i to ≡ elim b [ true ↦ true | false ↦ kindFrom k count work (i + 1) to ]
-    unfolding hasKind
+module _ (k count : ℕ) (work : List ℕ) (a to i : ℕ) (inv : kindFrom k count work a i ≡ kindFrom k count work a to) where
+  pub kind-end : i ≤ a → false ≡ kindFrom k count work a to
+  unfolding hasKind
+  kind-end h = let e : i - a ≡ 0 = omega arith in sym (ap (λ (n : ℕ). hasKind k (take n (drop a (rows count work)))) e) ∙ inv
+
+  module _ (room : 4 * count ≤ length work) (low : a < i) (within : i ≤ count) (t : Token) (at : t ≡ tokenIn work (i - 1)) where
+    kind-by : (b : Bool) → eqb (t .kind) k ≡ b → kindFrom k count work a i ≡ elim b [ true ↦ true | false ↦ kindFrom k count work a (i - 1) ]
     kind-by b e =
         let ts : List Token = rows count work in
-        let more : to - i ≡ suc (to - (i + 1)) = omega arith in
-        ap (λ (n : ℕ). hasKind k (take n (drop i ts))) more
-        ∙ ap (λ (l : List Token). hasKind k (take (suc (to - (i + 1))) l)) (drop-cons ts i ended (omega (arith, length-rows count work room)))
-        ∙ ap (λ (b : Bool). elim b [ true ↦ true | false ↦ hasKind k (take (to - (i + 1)) (drop (suc i) ts)) ])
-        (ap (λ (t : Token). eqb (t .kind) k) (sym (row-read count work i t room within at)) ∙ e)
-        ∙ ap (λ (n : ℕ). elim b [ true ↦ true | false ↦ hasKind k (take (to - (i + 1)) (drop n ts)) ]) (sym (add-one i))
+        let more : i - a ≡ suc ((i - 1) - a) = omega arith in
+        let back : a + ((i - 1) - a) ≡ i - 1 = omega arith in
+        let last : getD (drop a ts) ((i - 1) - a) ended ≡ t = getD-drop a ts ((i - 1) - a) ended ∙ ap (λ (n : ℕ). peek ts n) back ∙ sym (row-read count work (i - 1) t room (omega arith) at) in
+        ap (λ (n : ℕ). hasKind k (take n (drop a ts))) more
+        ∙ ap (hasKind k) (take-suc (drop a ts) ((i - 1) - a) ended (omega (arith, length-drop a ts, length-rows count work room)))
+        ∙ ap (λ (u : Token). hasKind k (take ((i - 1) - a) (drop a ts) ++ u ∷ [])) last
+        ∙ has-last k (take ((i - 1) - a) (drop a ts)) t b e
 
     pub kind-here : t .kind ≡ k → true ≡ kindFrom k count work a to
     kind-here e = sym (kind-by true (eq-eqb (t .kind) k e)) ∙ inv
 
-    pub kind-on : (t .kind ≡ k → ⊥) → kindFrom k count work (i + 1) to ≡ kindFrom k count work a to
+    pub kind-on : (t .kind ≡ k → ⊥) → kindFrom k count work a (i - 1) ≡ kindFrom k count work a to
     kind-on e = sym (kind-by false (ne-eqb (t .kind) k e)) ∙ inv

@@ -1,8 +1,8 @@
 -- Assembly as a whole: the passes over a row, and what they leave of a text.
-use Prim.Native.Nat.{ℕ, _+_, _*_, _≤_}
+use Prim.Native.Nat.{ℕ, _+_, _*_, _≤_, _<_}
 use mathlib.Core.Path.{_≡_}
 use mathlib.Core.List.{List, [], _∷_, _++_, map}
-use lib.ListN.{length}
+use lib.ListN.{length, getD}
 use Rattle.chars.specs.Utf8.{decode}
 use Rattle.lexer.specs.Tokens.{tokens}
 use Rattle.tokens.specs.declared.Token.{Token}
@@ -43,29 +43,37 @@ pub record Tokenized (text : List ℕ) (count : ℕ) (w : List ℕ) : Type 0 whe
   pub many : count ≡ length (tokens (decode text))
   pub row : rows count w ≡ map tokenOf (tokens (decode text))
 
--- the lines are entered, and the row of first equal words stands behind the tokens
-pub record Entered (text : List ℕ) (count : ℕ) (w₀ w : List ℕ) : Type 0 where
+-- the lines are entered
+pub record Entered (count : ℕ) (w₀ w : List ℕ) : Type 0 where
   pub row : rows count w ≡ entered (rows count w₀)
-  pub names : Interned text (rows count w) (wordsFrom (length text)) w
   pub size : length w ≡ length w₀
+
+-- the row of first equal words stands behind the tokens where it is looked at: F lists names, or of `wrong` diagnostics there is none
+pub record Named (text : List ℕ) (count : ℕ) (w first : List ℕ) (wrong : ℕ) : Type 0 where
+  pub listed : getD first 10 0 < count → Interned text (rows count w) (wordsFrom (length text)) w
+  pub sound : wrong ≡ 0 → Interned text (rows count w) (wordsFrom (length text)) w
 
 -- the last two passes over a row with entries, behind a log
 pub record FinalsAndRules (text : List ℕ) (count : ℕ) (w₀ w first : List ℕ) (l : Log) (log : List ℕ) (n : ℕ) : Type 0 where
-  pub kept : Kept (marksFrom (length text)) w₀ w
+  pub kept : Kept (wordsFrom (length text)) w₀ w
+  pub named : Named text count w first n
   pub written : logged log n ≡ appendAll l (finalsErrors text (rows count w₀) first ++ ruleErrors noRules (entries (rows count w₀)))
 
 -- the passes over a row with entries
 pub record Diagnosed (text : List ℕ) (count : ℕ) (w₀ w log₀ log : List ℕ) (r : Assembled) : Type 0 where
-  pub kept : Kept (marksFrom (length text)) w₀ w
+  pub kept : Kept (wordsFrom (length text)) w₀ w
+  pub named : Named text count w (r .first) (r .errors)
   pub first : r .first ≡ declarations count undeclared (entries (rows count w₀))
   pub rules : r .rules ≡ ruleCount noRules (entries (rows count w₀))
   pub written : logged log (r .errors) ≡ appendAll (logged log₀ 0) (rowDiagnostics text (rows count w₀))
 
 -- the outcome in the language's terms: the diagnostics in the order in which they are found, stored as far as there is room, and the number of rules;
--- and for the passes above, the row with its lines entered, the row of first equal words, and the entries of the first declarations
+-- and for the passes above, the row with its lines entered, the row of first equal words where F or a machine needs it, and the entries of the
+-- first declarations
 pub record Outcome (text : List ℕ) (count : ℕ) (w₀ w log₀ log : List ℕ) (r : Assembled) : Type 0 where
   pub errors : r .errors ≡ length (diagnosticsOf (readLines (decode text)))
   pub written : logged log (r .errors) ≡ appendAll (logged log₀ 0) (recordsOf (diagnosticsOf (readLines (decode text))))
   pub rules : r .rules ≡ length (machineOf (readLines (decode text)) .rules)
-  pub entered : Entered text count w₀ w
+  pub entered : Entered count w₀ w
+  pub named : Named text count w (r .first) (r .errors)
   pub first : r .first ≡ declarations count undeclared (entries (rows count w))

@@ -43,22 +43,31 @@ pub fn token_at(work: &[u32], count: usize, at: usize) -> Token
     }
 }
 
+// Whether a token of the kind k stands from an index to before another, no later than behind the last token; looked for from the last one, near
+// which a rule's last set is closed.
+fn kind_before(work: &[u32], count: usize, from: usize, to: usize, k: u32) -> bool
+    requires { ⌜ (4 * count ≤ length (now work)) × (to ≤ count) ⌝ }
+    ensures { λ r. ⌜ r ≡ hasKind k (take (to - from) (drop from (rows count (now (work .entry))))) ⌝ }
+{
+    let mut i = to;
+    while from < i {
+        if tokens::token_at(work, i - 1).kind == k {
+            return true;
+        }
+        i -= 1;
+    }
+    false
+}
+
 // Whether a token of the kind k stands from an index to before another.
 pub fn has_kind(work: &[u32], count: usize, from: usize, to: usize, k: u32) -> bool
     requires { ⌜ 4 * count ≤ length (now work) ⌝ }
     ensures { λ r. ⌜ r ≡ hasKind k (take (to - from) (drop from (rows count (now (work .entry))))) ⌝ }
 {
-    let mut i = from;
-    while i < to {
-        if count <= i {
-            return false;
-        }
-        if tokens::token_at(work, i).kind == k {
-            return true;
-        }
-        i += 1;
+    if count < to {
+        return kind_before(work, count, from, count, k);
     }
-    false
+    kind_before(work, count, from, to, k)
 }
 
 // A token's place.

@@ -187,7 +187,7 @@ fn marked(
     final_errors(text, work, count, a, b, q, f, log, errors)
 }
 
-// The diagnostics of F, of the first declarations; the row of first equal words stands at a, and b is free for marks. Without F there is none.
+// The diagnostics of F, of the first declarations; the row of first equal words stands at a where there is F, and b is free for marks. Without F there is none.
 pub fn finals(
     text: &[u8],
     work: &mut [u32],
@@ -198,7 +198,7 @@ pub fn finals(
     log: &mut [u32],
     errors: usize,
 ) -> usize
-    requires { ⌜ Laid count a b (now work) × Interned (now text) (rows count (now work)) a (now work) × (errors + count < 2 ^ 64) ⌝ }
+    requires { ⌜ Laid count a b (now work) × (getD (now first) 10 0 < count → Interned (now text) (rows count (now work)) a (now work)) × (errors + count < 2 ^ 64) ⌝ }
     ensures { λ r. ⌜ Kept b (now (work .entry)) (now (work .exit)) × (logged (now (log .exit)) r ≡ appendAll (logged (now (log .entry)) errors) (finalsErrors (now (text .entry)) (rows count (now (work .entry))) (now (first .entry)))) ⌝ }
 {
     if count <= entry::wide(first[10]) {

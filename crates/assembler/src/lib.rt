@@ -1,15 +1,15 @@
 // Assembly of a description from the tokens in a row of words (the source's dsl/parser.rs, Assembler): lines are parsed once, one walk over
 // the lines finds the declarations and the number of rules, and passes over them append the diagnostics.
 ghost use mathlib.Core.Path.{_≡_};
-ghost use Prim.Native.Nat.{_+_, _*_, _<_, _^_};
+ghost use Prim.Native.Nat.{_+_, _*_, _≤_, _<_, _^_};
 ghost use Rattle.diag.specs.Log.{logged};
 ghost use lib.ListN.{length};
 ghost use Rattle.assembler.specs.Rows.{rows};
 ghost use Rattle.assembler.specs.Entries.{entries};
 ghost use Rattle.assembler.specs.Feeds.{Fed};
-ghost use Rattle.assembler.specs.Finals.{Interned, Laid};
+ghost use Rattle.assembler.specs.Finals.{Laid, Kept};
 ghost use Rattle.assembler.specs.Rules.{ruleErrors, noRules};
-ghost use Rattle.assembler.specs.Assembled.{Tokenized, Entered, FinalsAndRules, Diagnosed, Outcome, wordsFrom, marksFrom};
+ghost use Rattle.assembler.specs.Assembled.{Tokenized, Named, FinalsAndRules, Diagnosed, Outcome, wordsFrom, marksFrom};
 
 pub mod declarations;
 pub mod entry;
@@ -27,12 +27,17 @@ pub struct Assembled {
     pub errors: usize,
 }
 
-// Enters the lines, and puts the row of first equal words behind the tokens.
-fn enter(text: &[u8], work: &mut [u32], count: usize)
-    requires { ⌜ Tokenized (now text) count (now work) ⌝ }
-    ensures { λ _. ⌜ Entered (now (text .entry)) count (now (work .entry)) (now (work .exit)) ⌝ }
+// Puts the row of first equal words behind the tokens, where it is looked at: F lists names, or there is none of `wrong` diagnostics, so that a machine
+// follows.
+fn names(text: &[u8], work: &mut [u32], count: usize, first: &[u32; 11], wrong: usize)
+    requires { ⌜ Laid count (wordsFrom (length (now text))) (marksFrom (length (now text))) (now work) × (6 * length (now text) + 6 ≤ length (now work)) ⌝ }
+    ensures { λ _. ⌜ Kept (wordsFrom (length (now (text .entry)))) (now (work .entry)) (now (work .exit)) × Named (now (text .entry)) count (now (work .exit)) (now (first .entry)) wrong ⌝ }
 {
-    lines::lines(work, count);
+    if count <= entry::wide(first[10]) {
+        if 0 < wrong {
+            return;
+        }
+    }
     let base = text.len() + 1;
     equal_names::intern(text, work, count, 4 * base, 5 * base, base);
 }
@@ -47,9 +52,10 @@ fn finals_and_rules(
     log: &mut [u32],
     m: usize,
 ) -> usize
-    requires { ⌜ Laid count (wordsFrom (length (now text))) (marksFrom (length (now text))) (now work) × Interned (now text) (rows count (now work)) (wordsFrom (length (now text))) (now work) × (m + 2 * count < 2 ^ 64) × Fed (rows count (now work)) × (wrong ≡ length (ruleErrors noRules (entries (rows count (now work))))) ⌝ }
+    requires { ⌜ Laid count (wordsFrom (length (now text))) (marksFrom (length (now text))) (now work) × (6 * length (now text) + 6 ≤ length (now work)) × (m + 2 * count < 2 ^ 64) × Fed (rows count (now work)) × (wrong ≡ length (ruleErrors noRules (entries (rows count (now work))))) ⌝ }
     ensures { λ r. ⌜ FinalsAndRules (now (text .entry)) count (now (work .entry)) (now (work .exit)) (now (first .entry)) (logged (now (log .entry)) m) (now (log .exit)) r ⌝ }
 {
+    names(text, work, count, first, m + wrong);
     let base = text.len() + 1;
     let n = finals::finals(text, work, count, 4 * base, 5 * base, first, log, m);
     pass::ruled(work, count, wrong, log, n)
@@ -57,7 +63,7 @@ fn finals_and_rules(
 
 // The lines that were entered: one walk counts, and the passes that have diagnostics follow.
 fn diagnose(text: &[u8], work: &mut [u32], count: usize, log: &mut [u32]) -> Assembled
-    requires { ⌜ Laid count (wordsFrom (length (now text))) (marksFrom (length (now text))) (now work) × Interned (now text) (rows count (now work)) (wordsFrom (length (now text))) (now work) × Fed (rows count (now work)) ⌝ }
+    requires { ⌜ Laid count (wordsFrom (length (now text))) (marksFrom (length (now text))) (now work) × (6 * length (now text) + 6 ≤ length (now work)) × Fed (rows count (now work)) ⌝ }
     ensures { λ r. ⌜ Diagnosed (now (text .entry)) count (now (work .entry)) (now (work .exit)) (now (log .entry)) (now (log .exit)) r ⌝ }
 {
     let mut first = [0xffff_ffffu32; 11];
@@ -78,6 +84,6 @@ pub fn assemble(text: &[u8], work: &mut [u32], count: usize, log: &mut [u32]) ->
     requires { ⌜ Tokenized (now text) count (now work) ⌝ }
     ensures { λ r. ⌜ Outcome (now (text .entry)) count (now (work .entry)) (now (work .exit)) (now (log .entry)) (now (log .exit)) r ⌝ }
 {
-    enter(text, work, count);
+    lines::lines(work, count);
     diagnose(text, work, count, log)
 }

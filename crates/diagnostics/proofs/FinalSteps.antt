@@ -100,7 +100,7 @@ module _ (text w₀ : List ℕ) (s : Search) (st : Stands text w₀ s) where
   stands-finals : (w : List ℕ) (i : ℕ) → Kept b w₀ w → f < i → Marks text (rows c w₀) a b w (namesOf (rows c w₀) q) (namesBefore (rows c w₀) f i) → Stands text w (moved s 2 i)
   stands-finals w i k h m = record {
     laid = kept-laid c a b w₀ w (st .laid) k;
-    names = kept-interned c a b w₀ w (st .laid) k text (st .names);
+    names = λ g. kept-interned c a b w₀ w (st .laid) k text (st .names g);
     pass = omega arith;
     tally = st .tally;
     behind = λ e. h;
@@ -111,13 +111,31 @@ module _ (text w₀ : List ℕ) (s : Search) (st : Stands text w₀ s) where
   pending-kept : (w : List ℕ) (i : ℕ) → Kept b w₀ w → pending text w₀ (moved s 2 i) ≡ pending text w (moved s 2 i)
   pending-kept w i k = ap (λ (r : List Token). pendingIn text r (moved s 2 i)) (sym (kept-row c a b w₀ w (st .laid) k))
 
+  -- without F there is nothing to tell
+  pub finals-passed : (r : Step) (y : ℕ) → s .pass ≡ 1 → s .count ≤ s .at → y ≡ getD (s .first) 10 0 → s .count ≤ y → r ≡ onward s 3 0 → Stepped text w₀ w₀ s r
+  unfolding pendingIn left entries
+  finals-passed r y one h ey g e =
+      let ts : List Token = rows c w₀ in
+      let none : namesFrom (suc f) (drop (suc f) ts) ≡ [] = names-end ts (suc f) (omega (arith, stands-size text w₀ s st)) in
+      let found : pending text w₀ s ≡ pending text w₀ (moved s 3 0) =
+      names-done text w₀ s st one h ∙ ap (λ (ds : List Diagnostic). ds ++ ruleErrors (tallyOf s) (entries ts)) (sym (finals-first text ts (s .first)) ∙ finals-none text ts (s .first) (suc f) none) in
+      stepped-on text w₀ w₀ s r 3 0 e (stands-moved text w₀ s 3 0 st (omega arith) (λ e. absurd (omega arith))) found
+      (subst (λ (p : ℕ). (3 - 3) * (c + 1) + (c - 0) < (3 - p) * (c + 1) + (c - s .at)) (sym one) (omega arith)) refl
+
+  -- where there is F its names are known
+  pub finals-names : getD (s .first) 10 0 < s .count → Interned text (rows (s .count) w₀) (wordsFrom (length text)) w₀
+  finals-names h = st .names h
+
+  pub listed-names : s .pass ≡ 2 → s .at < s .count → Interned text (rows (s .count) w₀) (wordsFrom (length text)) w₀
+  listed-names two h = st .names (omega (arith, st .behind two))
+
   module _ (w₁ : List ℕ) (kept : Kept (marksFrom (length text)) w₀ w₁)
       (cleared : Marks text (rows (s .count) w₀) (wordsFrom (length text)) (marksFrom (length text)) w₁ [] []) where
     pub cleared-laid : Laid (s .count) (wordsFrom (length text)) (marksFrom (length text)) w₁
     cleared-laid = kept-laid c a b w₀ w₁ (st .laid) kept
 
-    pub cleared-names : Interned text (rows (s .count) w₁) (wordsFrom (length text)) w₁
-    cleared-names = kept-interned c a b w₀ w₁ (st .laid) kept text (st .names)
+    pub cleared-names : getD (s .first) 10 0 < s .count → Interned text (rows (s .count) w₁) (wordsFrom (length text)) w₁
+    cleared-names h = kept-interned c a b w₀ w₁ (st .laid) kept text (st .names h)
 
     pub cleared-marks : Marks text (rows (s .count) w₁) (wordsFrom (length text)) (marksFrom (length text)) w₁ [] []
     cleared-marks = kept-marks c a b w₀ w₁ (st .laid) kept text [] [] cleared

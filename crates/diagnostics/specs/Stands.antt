@@ -12,16 +12,17 @@ use Rattle.assembler.specs.Entries.{entries}
 use Rattle.assembler.specs.Declarations.{undeclared, declarations}
 use Rattle.assembler.specs.Finals.{Laid, Interned, Marks, namesOf}
 use Rattle.assembler.specs.Records.{recordsOf}
-use Rattle.assembler.specs.Assembled.{Entered, wordsFrom, marksFrom}
+use Rattle.assembler.specs.Assembled.{Entered, Named, wordsFrom, marksFrom}
 use Rattle.diagnostics.specs.declared.Search.{Search}
 use Rattle.diagnostics.specs.declared.Step.{Step}
 use Rattle.diagnostics.specs.Cursor.{taken}
 use Rattle.diagnostics.specs.Pending.{namesBefore, pending, left}
 
--- the rows stand in work, the cursor is in one of the four passes, and in that over F the marks say which names it has come by
+-- the rows stand in work, that of first equal words if there is F; the cursor is in one of the four passes, and in that over F the marks say which names it
+-- has come by
 pub record Stands (text w : List ℕ) (s : Search) : Type 0 where
   pub laid : Laid (s .count) (wordsFrom (length text)) (marksFrom (length text)) w
-  pub names : Interned text (rows (s .count) w) (wordsFrom (length text)) w
+  pub names : getD (s .first) 10 0 < s .count → Interned text (rows (s .count) w) (wordsFrom (length text)) w
   pub pass : s .pass ≤ 3
   pub tally : s .tally ≤ 262144
   pub behind : s .pass ≡ 2 → getD (s .first) 10 0 < s .at
@@ -33,7 +34,8 @@ pub record Started (text : List ℕ) (count : ℕ) (w₀ w : List ℕ) (s : Sear
   pub many : s .count ≡ count
   pub errors : s .errors ≡ length (diagnosticsOf (readLines (decode text)))
   pub rules : s .rules ≡ length (machineOf (readLines (decode text)) .rules)
-  pub entered : Entered text count w₀ w
+  pub entered : Entered count w₀ w
+  pub named : Named text count w (s .first) (s .errors)
   pub first : s .first ≡ declarations count undeclared (entries (rows count w))
   pub stands : Stands text w s
   pub whole : pending text w s ≡ recordsOf (diagnosticsOf (readLines (decode text)))

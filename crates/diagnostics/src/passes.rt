@@ -1,7 +1,7 @@
 // One step of a search: over a line of a pass, or on to the next pass.
 ghost use Prim.Native.Nat.{_≤_, _<_};
 ghost use mathlib.Core.Path.{_≡_};
-ghost use lib.ListN.{length};
+ghost use lib.ListN.{length, getD};
 ghost use Rattle.diagnostics.specs.Cursor.{onward};
 ghost use Rattle.diagnostics.specs.Pending.{pending};
 ghost use Rattle.diagnostics.specs.Stands.{Stands, Stepped};
@@ -42,7 +42,7 @@ fn at_failures(text: &[u8], work: &[u32], s: Search) -> Step
 
 // Marks Q's names, before F's line is looked at.
 fn enter_finals(text: &[u8], work: &mut [u32], s: Search) -> Step
-    requires { ⌜ Stands (now text) (now work) s × (s .pass ≡ 1) × (s .count ≤ s .at) ⌝ }
+    requires { ⌜ Stands (now text) (now work) s × (s .pass ≡ 1) × (s .count ≤ s .at) × (getD (s .first) 10 0 < s .count) ⌝ }
     ensures { λ r. ⌜ Stepped (now (text .entry)) (now (work .entry)) (now (work .exit)) s r ⌝ }
 {
     let base = text.len() + 1;
@@ -54,6 +54,18 @@ fn enter_finals(text: &[u8], work: &mut [u32], s: Search) -> Step
     onward(s, FINALS, f + 1)
 }
 
+// From the declarations on: to F, or where there is none to the rules.
+fn behind_names(text: &[u8], work: &mut [u32], s: Search) -> Step
+    requires { ⌜ Stands (now text) (now work) s × (s .pass ≡ 1) × (s .count ≤ s .at) ⌝ }
+    ensures { λ r. ⌜ Stepped (now (text .entry)) (now (work .entry)) (now (work .exit)) s r ⌝ }
+{
+    let first = s.first;
+    if s.count <= entry::wide(first[10]) {
+        return onward(s, RULES, 0);
+    }
+    enter_finals(text, work, s)
+}
+
 // Of the declarations.
 fn at_names(text: &[u8], work: &mut [u32], s: Search) -> Step
     requires { ⌜ Stands (now text) (now work) s × (s .pass ≡ 1) ⌝ }
@@ -62,7 +74,7 @@ fn at_names(text: &[u8], work: &mut [u32], s: Search) -> Step
     if s.at < s.count {
         return lines::name(work, s);
     }
-    enter_finals(text, work, s)
+    behind_names(text, work, s)
 }
 
 // Of F's line, before its end.

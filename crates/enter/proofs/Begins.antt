@@ -30,7 +30,7 @@ module _ (t w : List ℕ) (a : refusalOf t (length w) ≡ none) (count : ℕ) (w
       room = omega (arith, st .entered .size, read-in .room);
       many = n;
       row = st .entered .row ∙ ap entered (read-in .row);
-      names = st .entered .names;
+      names = st .named .sound (st .errors ∙ ap length z);
       declared = st .first;
       none-found = z;
     }

@@ -149,7 +149,7 @@ module _ (t w : List ℕ) (a : refusalOf t (length w) ≡ none) where
           room = omega (arith, o .entered .size, size, room t (length w) a);
           many = n;
           row = o .entered .row ∙ ap entered (tokenized .row);
-          names = o .entered .names;
+          names = o .named .sound (omega arith);
           declared = o .first;
           none-found = none-found;
         }
