@@ -8,7 +8,7 @@ use native.Mathlib.Numerals.{add-one}
 use borrow.Author.Tests.{le-leb, lt-leb, eq-eqb, ne-eqb}
 use lib.Dec.{eqb, leb}
 use lib.ListN.{length, getD, take, drop, drop-of-length-le, length-drop}
-use lib.Seq.{drop-cons, drop-drop, take-suc, take-all, getD-drop}
+use lib.Seq.{drop-cons, drop-drop, take-add, take-suc, take-all, getD-drop}
 use Rattle.diag.proofs.Cases.{by-test}
 use Rattle.tokens.specs.declared.Token.{Token}
 use Rattle.tokens.specs.View.{tokenIn}
@@ -123,6 +123,41 @@ has-last k (u ∷ l) t true e =
     by-test (eqb (u .kind) k) (λ y. ap (λ (b : Bool). elim b [ true ↦ true | false ↦ hasKind k (l ++ t ∷ []) ]) y)
     (λ n. ap (λ (b : Bool). elim b [ true ↦ true | false ↦ hasKind k (l ++ t ∷ []) ]) n ∙ has-last k l t true e)
 has-last k (u ∷ l) t false e = ap (λ (b : Bool). elim (eqb (u .kind) k) [ true ↦ true | false ↦ b ]) (has-last k l t false e)
+
+has-append : (k : ℕ) (l r : List Token) (b : Bool) → hasKind k l ≡ b → hasKind k (l ++ r) ≡ elim b [ true ↦ true | false ↦ hasKind k r ]
+unfolding hasKind
+has-append k [] r true e = let z : _≡_ {A = ℕ} 0 1 = cc in absurd (omega arith)
+has-append k [] r false e = refl
+has-append k (u ∷ l) r b e =
+    by-test (eqb (u .kind) k)
+    (λ y.
+    let t : b ≡ true = sym e ∙ ap (λ (b : Bool). elim b [ true ↦ true | false ↦ hasKind k l ]) y in
+    ap (λ (b : Bool). elim b [ true ↦ true | false ↦ hasKind k (l ++ r) ]) y ∙ sym (ap (λ (b : Bool). elim b [ true ↦ true | false ↦ hasKind k r ]) t))
+    (λ n. ap (λ (b : Bool). elim b [ true ↦ true | false ↦ hasKind k (l ++ r) ]) n ∙ has-append k l r b (sym (ap (λ (b : Bool). elim b [ true ↦ true | false ↦ hasKind k l ]) n) ∙ e))
+
+-- the tokens in two parts
+module _ (k count : ℕ) (work : List ℕ) (a n to : ℕ) (h : n < to - a) where
+  abbrev m : ℕ
+  m = a + n
+
+  parts : (b : Bool) → kindFrom k count work a m ≡ b → kindFrom k count work a to ≡ elim b [ true ↦ true | false ↦ kindFrom k count work m to ]
+  parts b e =
+      let ts : List Token = rows count work in
+      let i : to - a ≡ (m - a) + (to - m) = omega arith in
+      let j : a + (m - a) ≡ m = omega arith in
+      ap (λ (n : ℕ). hasKind k (take n (drop a ts))) i
+      ∙ ap (hasKind k) (take-add (m - a) (to - m) (drop a ts) ∙ ap (λ (l : List Token). take (m - a) (drop a ts) ++ take (to - m) l) (drop-drop (m - a) a ts ∙ ap (λ (n : ℕ). drop n ts) j))
+      ∙ has-append k (take (m - a) (drop a ts)) (take (to - m) (drop m ts)) b e
+
+  pub kind-first : (r : Bool) → r ≡ kindFrom k count work a (a + n) → r ≡ true → true ≡ kindFrom k count work a to
+  kind-first r e t = sym (parts true (sym e ∙ t))
+
+  pub kind-rest : (r : Bool) → r ≡ kindFrom k count work a (a + n) → r ≡ false → (s : Bool) → s ≡ kindFrom k count work (a + n) to → s ≡ kindFrom k count work a to
+  kind-rest r e f s g = g ∙ sym (parts false (sym e ∙ f))
+
+pub kind-none : (k count : ℕ) (work : List ℕ) (a to : ℕ) → to ≤ a → false ≡ kindFrom k count work a to
+unfolding hasKind
+kind-none k count work a to h = let e : to - a ≡ 0 = omega arith in sym (ap (λ (n : ℕ). hasKind k (take n (drop a (rows count work)))) e)
 
 -- behind the last token there is nothing
 pub kind-cut : (k count : ℕ) (work : List ℕ) (a to : ℕ) → 4 * count ≤ length work → count < to → (r : Bool) → r ≡ kindFrom k count work a count → r ≡ kindFrom k count work a to

@@ -43,8 +43,7 @@ pub fn token_at(work: &[u32], count: usize, at: usize) -> Token
     }
 }
 
-// Whether a token of the kind k stands from an index to before another, no later than behind the last token; looked for from the last one, near
-// which a rule's last set is closed.
+// Whether a token of the kind k stands from an index to before another, no later than behind the last token; looked for from the last one on.
 fn kind_before(work: &[u32], count: usize, from: usize, to: usize, k: u32) -> bool
     requires { ⌜ (4 * count ≤ length (now work)) × (to ≤ count) ⌝ }
     ensures { λ r. ⌜ r ≡ hasKind k (take (to - from) (drop from (rows count (now (work .entry))))) ⌝ }
@@ -59,15 +58,32 @@ fn kind_before(work: &[u32], count: usize, from: usize, to: usize, k: u32) -> bo
     false
 }
 
+// The same: among the first few tokens, where most rules end or their first set is closed, and then from the last one on, near which the last set is.
+fn kind_within(work: &[u32], count: usize, from: usize, to: usize, k: u32) -> bool
+    requires { ⌜ (4 * count ≤ length (now work)) × (to ≤ count) ⌝ }
+    ensures { λ r. ⌜ r ≡ hasKind k (take (to - from) (drop from (rows count (now (work .entry))))) ⌝ }
+{
+    if to <= from {
+        return false;
+    }
+    if to - from <= LONG {
+        return kind_before(work, count, from, to, k);
+    }
+    if kind_before(work, count, from, from + LONG, k) {
+        return true;
+    }
+    kind_before(work, count, from + LONG, to, k)
+}
+
 // Whether a token of the kind k stands from an index to before another.
 pub fn has_kind(work: &[u32], count: usize, from: usize, to: usize, k: u32) -> bool
     requires { ⌜ 4 * count ≤ length (now work) ⌝ }
     ensures { λ r. ⌜ r ≡ hasKind k (take (to - from) (drop from (rows count (now (work .entry))))) ⌝ }
 {
     if count < to {
-        return kind_before(work, count, from, count, k);
+        return kind_within(work, count, from, count, k);
     }
-    kind_before(work, count, from, to, k)
+    kind_within(work, count, from, to, k)
 }
 
 // A token's place.

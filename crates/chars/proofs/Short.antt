@@ -12,7 +12,7 @@ use borrow.Author.Tests.{lt-ltb, le-ltb, le-leb, eq-eqb, ne-eqb, ltb-true, ltb-f
 use Rattle.chars.specs.Utf8.{scalar, size, sizes, Front, one, bad, none, form, front, decode, validUpTo, decodedAt}
 use Rattle.chars.specs.Ranges.{rows, within}
 use Rattle.chars.specs.Class.{admitted, outsideFrom, firstOutside, plainUpTo}
-use Rattle.chars.specs.Short.{isTail, isTwo, twoCode, isThree, plainTwo, plainStep}
+use Rattle.chars.specs.Short.{isTail, isTwo, twoCode, isThree, plainTwo, plainStep, Above, no-more, one-more}
 use Rattle.chars.specs.declared.Decoded.{Decoded}
 use Rattle.chars.specs.declared.Decoded.the-variants.{Char, Invalid, End}
 use Rattle.chars.specs.declared.Outside.{Outside}
@@ -190,6 +190,19 @@ module _ (t : List ℕ) (at a : ℕ) (h : at < length t) (ea : a ≡ getD t at 0
         let z = leb-true hi 0x24C0 l in
         step-on at (front (drop at t)) (Char (d - 0x80) (at + 3)) (d - 0x80) (at + 3) true (three-code (d - 0x80) (omega arith) (omega arith) refl) refl
         (sym (admitted-in (d - 0x80) 0x2190 0x2440 (omega arith) (omega arith) refl)) refl
+
+-- ---- the loop of `above_end`
+module _ (t : List ℕ) (i at : ℕ) (done : Above t i at) (room : 2 < length t - at) (a : ℕ) (ea : a ≡ getD t at 0) where
+  pub above-two : (b : ℕ) → b ≡ getD t (at + 1) 0 → (w : Bool) → w ≡ isTwo a b → w ≡ true → Above t i (at + 2)
+  unfolding twoCode
+  above-two b eb w p q =
+      let k = two-range a b (sym p ∙ q) in
+      one-more done (two-char t at a (omega arith) ea b eb (twoCode a b) w p q refl) (omega arith)
+
+  pub above-three : (c d : ℕ) → c ≡ getD t (at + 2) 0 → d ≡ getD t (at + 1) 0 * 64 + getD t (at + 2) 0 → (w : Bool) → w ≡ isThree 0x2080 0x3080 a c d → w ≡ true → Above t i (at + 3)
+  above-three c d ec ed w p q =
+      let k = three-range 0x2080 0x3080 a c d (sym p ∙ q) in
+      one-more done (three-char t at a (omega arith) ea c d ec ed 0x2080 0x3080 w p q refl refl) (omega arith)
 
 -- ---- the loop of `plain_up_to`, behind `plain_step`
 module _ (t : List ℕ) (at n : ℕ) (s : n ≡ plainStep at (front (drop at t))) where

@@ -1,8 +1,12 @@
 -- Characters of two and three bytes, told by their bytes.
-use Prim.Native.Nat.{ℕ, _+_, _-_, _*_}
+use Prim.Native.Nat.{ℕ, _+_, _-_, _*_, _≤_}
+use mathlib.Core.Path.{_≡_}
 use mathlib.Core.Bool.{Bool, true, false, cond, _&&_}
+use mathlib.Core.List.{List}
 use lib.Dec.{ltb, leb, eqb}
-use Rattle.chars.specs.Utf8.{size, Front, one, bad, none}
+use lib.ListN.{drop}
+use Rattle.chars.specs.Utf8.{size, Front, one, bad, none, front, decodedAt}
+use Rattle.chars.specs.declared.Decoded.the-variants.{Char}
 use Rattle.chars.specs.Ranges.{within}
 use Rattle.chars.specs.Class.{admitted}
 
@@ -35,3 +39,8 @@ unfolding within size
 plainStep at (one c) = cond (within admitted c) (at + size c) at
 plainStep at bad = at
 plainStep at none = at
+
+-- from the place i of the text t to another stand only characters above ASCII
+pub data Above (t : List ℕ) (i : ℕ) : ℕ → Type 0 where
+  no-more : Above t i i
+  one-more : {j k c : ℕ} → Above t i j → Char c k ≡ decodedAt j (front (drop j t)) → 0x80 ≤ c → Above t i k

@@ -6,7 +6,7 @@ ghost use lib.ListN.{length, getD, drop};
 ghost use Rattle.chars.specs.Utf8.{scalar, size, sizes, tailOf, form, front, decode, decodedAt, validUpTo};
 ghost use Rattle.chars.specs.Ranges.{within};
 ghost use Rattle.chars.specs.Blocks.{ors};
-ghost use Rattle.chars.specs.Short.{isTail, isTwo, twoCode, isThree, plainTwo, plainStep};
+ghost use Rattle.chars.specs.Short.{isTail, isTwo, twoCode, isThree, plainTwo, plainStep, Above};
 ghost use Rattle.chars.specs.Class.{admitted, outsideFrom, firstOutside, plainUpTo, classOf};
 
 // The character at a place: its code point and the place after it; no character; the text's end.
@@ -214,6 +214,31 @@ pub fn glyph_at(text: &[u8], at: usize) -> Decoded
         }
     }
     long_at(text, at)
+}
+
+// The place behind the characters above ASCII at a place, as far as their first bytes tell them: those of two bytes and those that begin with E2. None is
+// decoded.
+pub fn above_end(text: &[u8], at: usize) -> usize
+    ensures { λ r. ⌜ Above (now (text .entry)) at r ⌝ }
+{
+    let mut i = at;
+    if text.len() < at {
+        return at;
+    }
+    while 2 < text.len() - i {
+        let a = wide(text[i]);
+        if is_two(a, wide(text[i + 1])) {
+            i += 2;
+        } else {
+            let d = joined(text[i + 1], text[i + 2]);
+            if is_three(0x2080, 0x3080, a, wide(text[i + 2]), d) {
+                i += 3;
+            } else {
+                return i;
+            }
+        }
+    }
+    i
 }
 
 // The length of the longest UTF-8 beginning.

@@ -16,7 +16,8 @@ use Rattle.chars.specs.declared.Class.the-variants.{Letter, Digit, Space, Sign,
 use Rattle.chars.specs.declared.Decoded.{Decoded}
 use Rattle.chars.specs.declared.Decoded.the-variants.{Char, Invalid, End}
 use Rattle.chars.proofs.Tests.{and-both}
-use Rattle.chars.proofs.Laws.{char-next, char-decode, invalid-decode, end-decode}
+use Rattle.chars.specs.Short.{Above, no-more, one-more}
+use Rattle.chars.proofs.Laws.{char-next, char-lt, char-falls, char-decode, invalid-decode, end-decode}
 use Rattle.lexer.specs.Tokens.{isLetter, isDigit, isSpace, isWordStart, isWordContinue, isAsciiDigit, isWhitespace, run, line, trimCons, trimEnd, escape, Inner, ends, breaks, escapes, stands, innerOf, Inside, closed, unclosed, put, pass, inside}
 use Rattle.lexer.specs.Words.{valueFrom, value}
 use Rattle.lexer.specs.Places.{lineAt, trimmedAt, stringEnd}
@@ -393,3 +394,28 @@ module _ (t : List ℕ) (at i : ℕ) (b : Bool) (r : Decoded) (s : r ≡ decoded
     string-plain f p g =
         moved (eqb c 0x5C) (sym (end-plain i c (decode (drop n t)) f g)
         ∙ sym (ap (λ (x : Bool). endOf i (c ∷ decode (drop n t)) (inside x (c ∷ decode (drop n t)))) p) ∙ seen)
+
+-- behind characters above ASCII a string ends where it ended before them
+behind-above : (t : List ℕ) (n : ℕ) (v : StringEnd) (m : ℕ) → Above t n m → stringEnd false n (decode (drop n t)) ≡ v → stringEnd false m (decode (drop m t)) ≡ v
+behind-above t n v m no-more q = q
+behind-above t n v m (one-more {j = j} {c = c} a s h) q =
+    ap (λ (x : Bool). stringEnd x m (decode (drop m t))) (sym (ne-eqb c 0x5C (λ z. omega arith)))
+    ∙ string-plain t 0 j false (Char c m) s v (behind-above t n v j a q) c m refl (λ z. omega arith) refl (λ z. omega arith)
+
+above-le : (t : List ℕ) (n m : ℕ) → Above t n m → n ≤ m
+above-le t n m no-more = omega arith
+above-le t n m (one-more {j = j} {c = c} a s h) = omega (arith, above-le t n j a, char-lt t j (Char c m) s c m refl)
+
+module _ (t : List ℕ) (at i : ℕ) (b : Bool) (r : Decoded) (s : r ≡ decodedAt i (front (drop i t))) (v : StringEnd) (inv : stringEnd b i (decode (drop i t)) ≡ v)
+    (c n : ℕ) (e : r ≡ Char c n) where
+  pub string-slash : (c ≡ 10 → ⊥) → b ≡ false → (c ≡ 0x22 → ⊥) → c ≡ 0x5C → stringEnd true n (decode (drop n t)) ≡ v
+  string-slash f p g k = ap (λ (x : Bool). stringEnd x n (decode (drop n t))) (sym (eq-eqb c 0x5C k)) ∙ string-plain t at i b r s v inv c n e f p g
+
+  pub string-above : (c ≡ 10 → ⊥) → b ≡ false → (c ≡ 0x22 → ⊥) → (c ≡ 0x5C → ⊥) → (m : ℕ) → Above t n m → stringEnd b m (decode (drop m t)) ≡ v
+  string-above f p g k m a =
+      ap (λ (x : Bool). stringEnd x m (decode (drop m t))) p
+      ∙ behind-above t n v m a (ap (λ (x : Bool). stringEnd x n (decode (drop n t))) (sym (ne-eqb c 0x5C k)) ∙ string-plain t at i b r s v inv c n e f p g)
+
+pub above-falls : (t : List ℕ) (i : ℕ) (r : Decoded) → r ≡ decodedAt i (front (drop i t)) → (c n : ℕ) → r ≡ Char c n → (m : ℕ) → Above t n m → length t - m < length t - i
+above-falls t i r s c n e m a = omega (arith, char-falls t i r s c n e, above-le t n m a)
+

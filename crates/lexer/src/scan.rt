@@ -229,9 +229,11 @@ pub(crate) fn string_end(text: &[u8], at: usize) -> StringEnd
                     i = next;
                 } else if c == 0x22 {
                     return StringEnd::Closed(next);
-                } else {
-                    escaped = c == 0x5C;
+                } else if c == 0x5C {
+                    escaped = true;
                     i = next;
+                } else {
+                    i = chars::above_end(text, next);
                 }
             }
             Decoded::Invalid => return StringEnd::Unclosed,

@@ -6,7 +6,7 @@ use lib.ListN.{length, drop}
 use Rattle.chars.specs.Utf8.{decode}
 use Rattle.chars.proofs.Laws.{char-falls}
 use Rattle.lexer.specs.Places.{stringEnd}
-use Rattle.lexer.proofs.Scans.{string-invalid, string-stop, string-feed, string-closed, string-escaped, string-plain}
+use Rattle.lexer.proofs.Scans.{string-invalid, string-stop, string-feed, string-closed, string-escaped, string-slash, string-above, above-falls}
 use borrow.Author.Needs.{needs}
 use Rattle.lexer.proofs.scan.string_end.Statement.{statement}
 use Rattle.lexer.proofs.scan.string_end.Tie as tie
@@ -17,7 +17,7 @@ Inv-loop text at i₀ escaped₀ i escaped = stringEnd escaped i (decode (drop i
 abbrev μ-loop : tie.MeasureT-loop
 μ-loop text at i₀ escaped₀ i escaped = length text - i
 
-ruleset laws = (needs, char-falls, string-invalid, string-stop, string-feed, string-closed, string-escaped, string-plain)
+ruleset laws = (needs, char-falls, string-invalid, string-stop, string-feed, string-closed, string-escaped, string-slash, string-above, above-falls)
 
 pub string-end-spec : {M : Type 1} → statement M
 string-end-spec =
@@ -33,6 +33,9 @@ string-end-spec =
     (λ c. search laws)
     (λ c. search laws)
     (λ c. search laws)
+    (λ c. search laws)
+    (λ c. search laws)
+    (λ c κs. search laws)
     (λ c. search laws)
     (λ c. search laws)
     (λ c. search laws)
