@@ -185,6 +185,9 @@ module _ (b : ℕ) (target : List ℕ) (w₀ w : List ℕ) (n : ℕ) where
     fits = g .fits;
   }
 
+  pub noting-low : (xs : List ℕ) → Noting b target w₀ w n xs → b + n ≤ length w
+  noting-low xs g = omega (arith, g .low, g .kept .size)
+
   pub noting-end : Noting b target w₀ w n [] → Codes b w₀ target w n
   unfolding notedAll
   noting-end g = record { kept = g .kept; codes = g .whole; count = sym (held-length b n w (omega (arith, g .low, g .kept .size))) ∙ ap length (g .whole) }

@@ -1,6 +1,6 @@
 -- Laws of the characters of the input's value.
 use mathlib.Core.Path.{_≡_, refl, sym, ap, subst, _∙_}
-use mathlib.Core.Bool.{Bool, true, false, cond}
+use mathlib.Core.Bool.{Bool, true, false, cond, false≢true}
 use mathlib.Core.List.{List, [], _∷_, _++_, append-nil}
 use Prim.Native.Nat.{ℕ, zero, suc, _+_, _-_, _*_, _≤_, _<_}
 use native.Mathlib.Omega.{arith}
@@ -10,8 +10,9 @@ use lib.ListN.{length, drop}
 use Rattle.chars.specs.Utf8.{front, decodedAt, decode}
 use Rattle.chars.specs.declared.Decoded.{Decoded}
 use Rattle.chars.specs.declared.Decoded.the-variants.{Char, Invalid, End}
-use Rattle.chars.proofs.Laws.{char-decode, invalid-decode, end-decode}
+use Rattle.chars.proofs.Laws.{char-decode, char-lt, char-falls, invalid-decode, end-decode}
 use Rattle.lexer.specs.Places.{rest}
+use Rattle.language.specs.Infer.{member}
 use Rattle.tokens.specs.declared.Token.{Token}
 use Rattle.parser.specs.Row.{peek}
 use Rattle.assembler.specs.Rows.{rows}
@@ -154,6 +155,60 @@ module _ (t : List ℕ) (b : ℕ) (target w₀ w : List ℕ) (n i : ℕ) (e : Bo
       pub spell-on : (w′ : List ℕ) (n′ : ℕ) (e′ : Bool) → Codes b w (notedAll (held b n w) (spelledAs e c)) w′ n′ → e′ ≡ escapesNext e c → Noting b target w₀ w′ n′ (spelled e′ (decode (drop k t)))
       spell-on w′ n′ e′ d q = subst (λ (z : Bool). Noting b target w₀ w′ n′ (spelled z (decode (drop k t)))) (sym q)
           (noting-on b target w₀ w n (spelledAs e c) (spelled (escapesNext e c) (decode (drop k t))) w′ n′ split d)
+
+-- ---- characters that are noted already add nothing
+module _ (c : ℕ) (high : 0x80 ≤ c) where
+  goes-on : endsAt false c ≡ false
+  goes-on = sym (ends-quote false c (λ q. omega (arith, q, high)) refl) ∙ ne-eqb c 0x22 (λ q. omega (arith, q, high))
+
+  plain-next : escapesNext false c ≡ false
+  plain-next = sym (next-plain false c refl) ∙ ne-eqb c 0x5C (λ q. omega (arith, q, high))
+
+  itself : spelledAs false c ≡ c ∷ []
+  itself = spelled-plain false c refl (λ q. omega (arith, q, high))
+
+  spelled-high : (l : List ℕ) → spelled false (c ∷ l) ≡ c ∷ spelled false l
+  unfolding spelled
+  spelled-high l =
+      let e : spelled false (c ∷ l) ≡ spelledAs false c ++ spelled (escapesNext false c) l = rw (goes-on, spelled) in
+      e ∙ ap (λ (xs : List ℕ). xs ++ spelled (escapesNext false c) l) itself ∙ ap (λ (z : Bool). c ∷ spelled z l) plain-next
+
+noted-same : (cs : List ℕ) (c : ℕ) → member eqb cs c ≡ true → noted cs c ≡ cs
+unfolding noted
+noted-same cs c e = rw e
+
+noted-passed : (cs xs : List ℕ) (c : ℕ) → member eqb cs c ≡ true → notedAll cs (c ∷ xs) ≡ notedAll cs xs
+unfolding notedAll
+noted-passed cs xs c e = ap (λ (l : List ℕ). notedAll l xs) (noted-same cs c e)
+
+pub known-not : (c : ℕ) (t : Bool) → false ≡ true → (0x80 ≤ c) × (t ≡ true)
+known-not c t e = absurd (false≢true e)
+
+pub known-seen : (c : ℕ) (r t : Bool) → 0x80 ≤ c → (r ≡ true → t ≡ true) → r ≡ true → (0x80 ≤ c) × (t ≡ true)
+known-seen c r t h f e = (h, f e)
+
+-- the same is still to be noted from the place i on as from the place a on
+abbrev pub Passed : List ℕ → List ℕ → Bool → ℕ → ℕ → Type 0
+Passed t cs e a i = (a ≤ i) × (notedAll cs (spelled e (decode (drop i t))) ≡ notedAll cs (spelled e (decode (drop a t))))
+
+pub passed-start : (t cs : List ℕ) (e : Bool) (a : ℕ) → Passed t cs e a a
+passed-start t cs e a = (omega arith, refl)
+
+pub passed-plain : (t cs : List ℕ) (e : Bool) (a i : ℕ) → e ≡ false → Passed t cs false a i → Passed t cs e a i
+passed-plain t cs e a i h p = subst (λ (z : Bool). Passed t cs z a i) (sym h) p
+
+pub passed-on : (t cs : List ℕ) (a i : ℕ) → Passed t cs false a i → (r : Decoded) → r ≡ decodedAt i (front (drop i t)) → (c k : ℕ) → r ≡ Char c k → (0x80 ≤ c) × (member eqb cs c ≡ true) → Passed t cs false a k
+passed-on t cs a i p r s c k is h = (
+  omega (arith, p .0, char-lt t i r s c k is),
+  sym (ap (λ (l : List ℕ). notedAll cs (spelled false l)) (char-decode t i r s c k is) ∙ ap (notedAll cs) (spelled-high c (h .0) (decode (drop k t))) ∙ noted-passed cs (spelled false (decode (drop k t))) c (h .1)) ∙ p .1,
+)
+
+-- so the walk may go on from there
+pub noting-from : (t : List ℕ) (b : ℕ) (target w₀ w : List ℕ) (n i : ℕ) (e : Bool) → Noting b target w₀ w n (spelled e (decode (drop i t))) → (j : ℕ) → Passed t (held b n w) e i j → Noting b target w₀ w n (spelled e (decode (drop j t)))
+noting-from t b target w₀ w n i e g j p = record { whole = p .1 ∙ g .whole; kept = g .kept; low = g .low; fits = g .fits }
+
+pub from-falls : (t : List ℕ) (i j : ℕ) → i ≤ j → (r : Decoded) → r ≡ decodedAt j (front (drop j t)) → (c k : ℕ) → r ≡ Char c k → length t - k < length t - i
+from-falls t i j h r s c k is = omega (arith, h, char-falls t j r s c k is)
 
 -- ---- the input
 module _ (text : List ℕ) (ts : List Token) (count d : ℕ) (many : length ts ≡ count) where

@@ -27,6 +27,19 @@ fn stands(work: &[u32], base: usize, n: usize, h: usize, c: u32) -> bool
     false
 }
 
+// Whether a character's hint shows that it is noted; false says nothing.
+pub fn is_seen(work: &[u32], base: usize, n: usize, c: u32) -> bool
+    requires { ⌜ base + n ≤ length (now work) ⌝ }
+    ensures { λ r. ⌜ (r ≡ true → member eqb (held base n (now (work .entry))) c ≡ true) ⌝ }
+{
+    let s = slot(c);
+    if work.len() - base - n < s + 2 {
+        return false;
+    }
+    let i = work.len() - 1 - s;
+    stands(work, base, n, crate::index(work[i]), c)
+}
+
 // Whether c was found, or is x.
 fn meets(found: bool, x: u32, c: u32) -> bool
     ensures { λ r. ⌜ r ≡ (eqb x c || found) ⌝ }

@@ -1,10 +1,12 @@
 // The characters of the input's value.
 ghost use mathlib.Core.Path.{_≡_};
-ghost use mathlib.Core.Bool.{false};
+ghost use mathlib.Core.Bool.{true, false};
 ghost use Prim.Native.Nat.{_+_, _*_, _≤_, _<_};
+ghost use lib.Dec.{eqb};
 ghost use lib.ListN.{length};
 ghost use Rattle.lexer.specs.Places.{rest};
 ghost use Rattle.assembler.specs.Rows.{rows};
+ghost use Rattle.language.specs.Infer.{member};
 ghost use Rattle.alphabet.specs.Codes.{notedAll, held, Codes, Room};
 ghost use Rattle.alphabet.specs.Input.{endsAt, escapeCode, escapeOf, spelledAs, escapesNext, spelled, inputOf};
 use crate::codes;
@@ -80,6 +82,50 @@ fn note_char(work: &mut [u32], base: usize, n: usize, escaped: bool, c: u32) -> 
     codes::note(work, base, n, c)
 }
 
+// Whether c is above ASCII and shown to be noted; false says nothing.
+fn is_known(work: &[u32], base: usize, n: usize, c: u32) -> bool
+    requires { ⌜ base + n ≤ length (now work) ⌝ }
+    ensures { λ r. ⌜ (r ≡ true → (0x80 ≤ c) × (member eqb (held base n (now (work .entry))) c ≡ true)) ⌝ }
+{
+    if c < 0x80 {
+        return false;
+    }
+    codes::is_seen(work, base, n, c)
+}
+
+// The place behind the characters above ASCII at a place that are noted already: they add nothing.
+fn seen_end(text: &[u8], at: usize, work: &[u32], base: usize, n: usize) -> usize
+    requires { ⌜ base + n ≤ length (now work) ⌝ }
+    ensures { λ r. ⌜ (at ≤ r) × (notedAll (held base n (now (work .entry))) (spelled false (rest (now (text .entry)) r)) ≡ notedAll (held base n (now (work .entry))) (spelled false (rest (now (text .entry)) at))) ⌝ }
+{
+    let mut i = at;
+    loop {
+        let s = chars::glyph_at(text, i);
+        match s {
+            Decoded::Char(c, next) => {
+                if is_known(work, base, n, c) {
+                    i = next;
+                } else {
+                    return i;
+                }
+            }
+            Decoded::Invalid => return i,
+            Decoded::End => return i,
+        }
+    }
+}
+
+// From where on a string's text may add something.
+fn unseen_from(text: &[u8], at: usize, escaped: bool, work: &[u32], base: usize, n: usize) -> usize
+    requires { ⌜ base + n ≤ length (now work) ⌝ }
+    ensures { λ r. ⌜ (at ≤ r) × (notedAll (held base n (now (work .entry))) (spelled escaped (rest (now (text .entry)) r)) ≡ notedAll (held base n (now (work .entry))) (spelled escaped (rest (now (text .entry)) at))) ⌝ }
+{
+    if escaped {
+        return at;
+    }
+    seen_end(text, at, work, base, n)
+}
+
 // Notes the characters of the string whose text begins at a place.
 fn note_string(text: &[u8], at: usize, work: &mut [u32], base: usize, n: usize) -> usize
     requires { ⌜ Room base n (now work) (spelled false (rest (now text) at)) ⌝ }
@@ -89,7 +135,8 @@ fn note_string(text: &[u8], at: usize, work: &mut [u32], base: usize, n: usize) 
     let mut escaped = false;
     let mut m = n;
     loop {
-        let s = chars::glyph_at(text, i);
+        let j = unseen_from(text, i, escaped, work, base, m);
+        let s = chars::glyph_at(text, j);
         match s {
             Decoded::Char(c, next) => {
                 if ends_at(escaped, c) {
