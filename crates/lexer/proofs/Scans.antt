@@ -418,4 +418,3 @@ module _ (t : List ℕ) (at i : ℕ) (b : Bool) (r : Decoded) (s : r ≡ decoded
 
 pub above-falls : (t : List ℕ) (i : ℕ) (r : Decoded) → r ≡ decodedAt i (front (drop i t)) → (c n : ℕ) → r ≡ Char c n → (m : ℕ) → Above t n m → length t - m < length t - i
 above-falls t i r s c n e m a = omega (arith, char-falls t i r s c n e, above-le t n m a)
-
