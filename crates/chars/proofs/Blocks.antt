@@ -179,7 +179,7 @@ module _ (t : List ℕ) (at : ℕ) (p : at + sizes (decode (drop at t)) ≡ vali
     unfolding plainUpTo
     plain-here c n w e g h = ap (λ (o : Outside). orElse o (validUpTo t)) (outside-here t at r s (firstOutside t) q c n e w g h)
 
-  -- behind ASCII bytes
+  -- behind a run
   pub gap-valid : (i : ℕ) → i + sizes (decode (drop i t)) ≡ at + sizes (decode (drop at t)) → i + sizes (decode (drop i t)) ≡ validUpTo t
   gap-valid i m = m ∙ p
 

@@ -204,7 +204,7 @@ module _ (t : List ℕ) (i at : ℕ) (done : Above t i at) (room : 2 < length t 
       let k = three-range 0x2080 0x3080 a c d (sym p ∙ q) in
       one-more done (three-char t at a (omega arith) ea c d ec ed 0x2080 0x3080 w p q refl refl) (omega arith)
 
--- ---- the loop of `plain_up_to`, behind `plain_step`
+-- ---- the loops of `plain_run` and, behind `plain_step`, of `plain_up_to`
 module _ (t : List ℕ) (at n : ℕ) (s : n ≡ plainStep at (front (drop at t))) where
   module _ (f : n ≡ at → ⊥) where
     found : (c : ℕ) × (Char c n ≡ decodedAt at (front (drop at t))) × (within admitted c ≡ true)
@@ -223,8 +223,9 @@ module _ (t : List ℕ) (at n : ℕ) (s : n ≡ plainStep at (front (drop at t))
     pub step-le : n ≤ length t
     step-le = char-le t at (Char (found .0) n) (found .1) (found .0) n refl
 
-    pub step-falls : length t - n < length t - at
-    step-falls = char-falls t at (Char (found .0) n) (found .1) (found .0) n refl
+    -- r: the end of the run behind it
+    pub step-falls : (r : ℕ) → n ≤ r → length t - r < length t - at
+    step-falls r h = omega (arith, char-falls t at (Char (found .0) n) (found .1) (found .0) n refl)
 
     pub step-valid : (v : ℕ) → at + sizes (decode (drop at t)) ≡ v → n + sizes (decode (drop n t)) ≡ v
     step-valid v p = valid-on t at (Char (found .0) n) (found .1) v p (found .0) n refl

@@ -417,6 +417,29 @@ fn plain_step(text: &[u8], at: usize, a: u32) -> usize
     plain_long(text, at)
 }
 
+// The place behind the characters of the set at a place, as far as their first bytes tell them, one behind the other: in a text of glyphs most stand in such
+// runs.
+fn plain_run(text: &[u8], at: usize) -> usize
+    requires { ⌜ at ≤ length (now text) ⌝ }
+    ensures { λ r. ⌜ (at ≤ r) × (r ≤ length (now (text .entry))) × (r + sizes (decode (drop r (now (text .entry)))) ≡ at + sizes (decode (drop at (now (text .entry))))) × (outsideFrom r (decode (drop r (now (text .entry)))) ≡ outsideFrom at (decode (drop at (now (text .entry))))) ⌝ }
+{
+    let mut i = at;
+    while 2 < text.len() - i {
+        let a = wide(text[i]);
+        if plain_two(a, wide(text[i + 1])) {
+            i += 2;
+        } else {
+            let d = joined(text[i + 1], text[i + 2]);
+            if is_three(0x2210, 0x24C0, a, wide(text[i + 2]), d) {
+                i += 3;
+            } else {
+                return i;
+            }
+        }
+    }
+    i
+}
+
 // The place of the first character outside the set, or the end of the longest UTF-8 beginning where there is none.
 pub fn plain_up_to(text: &[u8]) -> usize
     ensures { λ r. ⌜ r ≡ plainUpTo (now (text .entry)) ⌝ }
@@ -434,7 +457,7 @@ pub fn plain_up_to(text: &[u8]) -> usize
             if next == at {
                 return at;
             }
-            at = next;
+            at = plain_run(text, next);
         }
     }
 }

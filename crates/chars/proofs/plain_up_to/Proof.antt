@@ -34,5 +34,6 @@ plain-up-to-spec =
     (λ c. search laws)
     (λ c κs. search laws)
     (λ c. search laws)
+    (λ c κs. search laws)
     (λ c. search laws)
     (λ c. search laws))
