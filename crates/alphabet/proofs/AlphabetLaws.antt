@@ -26,11 +26,12 @@ use Rattle.sheet.specs.Stored.{Stored}
 use Rattle.sheet.specs.Comments.{spanWords}
 use Rattle.sheet.specs.Rules.{resolve}
 use Rattle.sheet.proofs.Writes.{stored-none, stored-as, stored-append, Writing, writing-start, writing-on, written}
-use Rattle.alphabet.specs.Codes.{noted, notedAll, held, Codes, Room}
+use Rattle.alphabet.specs.Codes.{noted, notedAll, held, Hinted, Codes, Room}
 use Rattle.alphabet.specs.Symbols.{range, pastComma, quotedPair, symbols, symbolsIn, isBlank, hasBlank, lineRange, rulesSymbols, codesOf}
 use Rattle.alphabet.specs.Alphabets.{listedWords, inferredWords, otherWords, symbolWords, lineCodes, candidates, gammaCodes, declaredGamma, gammaWords, inferredSigma, sigmaWords}
 use Rattle.alphabet.specs.Input.{inputOf}
 use Rattle.alphabet.proofs.CodeLaws.{held-length, held-at, Noting, noting-start, noting-room, noting-on, noting-end, noting-rows}
+use Rattle.infer.specs.Page.{Kept}
 use Rattle.infer.proofs.Pages.{kept-on, kept-rows}
 use Rattle.alphabet.proofs.GlyphLaws.{range-none, range-past, range-in, symbols-on, is-symbol, no-symbol}
 
@@ -376,6 +377,19 @@ module _ (text : List ℕ) (blank : ℕ) (ts : List Token) (first : List ℕ) (c
   pub candidates-not : (d : ℕ) → d ≡ getD first 2 0 → count ≤ s → candidates text blank ts first ≡ codesOf blank (rulesSymbols ts (entries ts)) ++ inputOf text ts d
   unfolding candidates
   candidates-not d e h = rw (test false (le-ltb s count h), ← e)
+
+-- the hints are cleared
+module _ (text : List ℕ) (b blank count : ℕ) (w first : List ℕ) (few : 4 * count ≤ b) (fits : b + length (gammaCodes text blank (rows count w) first) ≤ length w) where
+  module _ (v : List ℕ) (kept : Kept b w v) (clear : Hinted b 0 v) where
+    same : gammaCodes text blank (rows count v) first ≡ gammaCodes text blank (rows count w) first
+    same = ap (λ (ts : List Token). gammaCodes text blank ts first) (kept-rows count b w v kept few (omega arith))
+
+    pub gamma-space : Room b 0 v (blank ∷ candidates text blank (rows count v) first)
+    unfolding notedAll noted member gammaCodes
+    gamma-space = record { low = omega (arith, kept .size); fits = omega (arith, fits, kept .size, ap length same); hints = clear }
+
+    pub gamma-codes : (u : List ℕ) (n : ℕ) → Codes b v (gammaCodes text blank (rows count v) first) u n → Codes b w (gammaCodes text blank (rows count w) first) u n
+    gamma-codes u n c = record { kept = kept-on b w v u kept (c .kept); codes = c .codes ∙ same; count = c .count ∙ ap length same; hints = c .hints }
 
 -- the blank first
 module _ (text : List ℕ) (b blank count : ℕ) (w first : List ℕ) (few : 4 * count ≤ b) (room : Room b 0 w (blank ∷ candidates text blank (rows count w) first)) where

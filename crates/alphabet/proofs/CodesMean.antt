@@ -27,7 +27,7 @@ or-turn true false c = refl
 or-turn false true c = refl
 or-turn false false c = refl
 
-member-last : (cs : List ℕ) (x y : ℕ) → member eqb (cs ++ x ∷ []) y ≡ (eqb x y || member eqb cs y)
+pub member-last : (cs : List ℕ) (x y : ℕ) → member eqb (cs ++ x ∷ []) y ≡ (eqb x y || member eqb cs y)
 unfolding member
 member-last [] x y = refl
 member-last (c ∷ cs) x y = ap (λ (b : Bool). eqb c y || b) (member-last cs x y) ∙ or-turn (eqb c y) (eqb x y) (member eqb cs y)

@@ -75,7 +75,7 @@ module _ (b n blank : ℕ) (w : List ℕ) (t : Token) (ts : List Token) (is : ts
   one-noted c w′ r e h = subst (λ (l : List ℕ). Codes b w (notedAll (held b n w) l) w′ r) (ap (λ (c : ℕ). c ∷ []) e ∙ sym (ap (codesOf blank) is)) h
 
 pub none-noted : (b n blank : ℕ) (w : List ℕ) (ts : List Token) → ts ≡ [] → Room b n w (codesOf blank ts) → Codes b w (notedAll (held b n w) (codesOf blank ts)) w n
-none-noted b n blank w ts e h = subst (λ (l : List Token). Codes b w (notedAll (held b n w) (codesOf blank l)) w n) (sym e) (noted-none b w n (h .low))
+none-noted b n blank w ts e h = subst (λ (l : List Token). Codes b w (notedAll (held b n w) (codesOf blank l)) w n) (sym e) (noted-none b w n (h .low) (h .hints))
 
 pub is-symbol : (t : Token) (r : Bool) → r ≡ isSymbol t → r ≡ true → symbols (t ∷ []) ≡ t ∷ []
 is-symbol t r e f = symbols-one t (sym e ∙ f)

@@ -70,7 +70,7 @@ module _ (c : ℕ) where
 -- ---- lists of one or two characters noted
 module _ (b n : ℕ) (w xs : List ℕ) (room : Room b n w xs) where
   pub noted-empty : xs ≡ [] → Codes b w (notedAll (held b n w) xs) w n
-  noted-empty e = subst (λ (l : List ℕ). Codes b w (notedAll (held b n w) l) w n) (sym e) (noted-none b w n (room .low))
+  noted-empty e = subst (λ (l : List ℕ). Codes b w (notedAll (held b n w) l) w n) (sym e) (noted-none b w n (room .low) (room .hints))
 
   module _ (x : ℕ) (ys : List ℕ) (is : xs ≡ x ∷ ys) where
     started : Noting b (notedAll (held b n w) xs) w w n ((x ∷ []) ++ ys)
@@ -205,7 +205,7 @@ passed-on t cs a i p r s c k is h = (
 
 -- so the walk may go on from there
 pub noting-from : (t : List ℕ) (b : ℕ) (target w₀ w : List ℕ) (n i : ℕ) (e : Bool) → Noting b target w₀ w n (spelled e (decode (drop i t))) → (j : ℕ) → Passed t (held b n w) e i j → Noting b target w₀ w n (spelled e (decode (drop j t)))
-noting-from t b target w₀ w n i e g j p = record { whole = p .1 ∙ g .whole; kept = g .kept; low = g .low; fits = g .fits }
+noting-from t b target w₀ w n i e g j p = record { whole = p .1 ∙ g .whole; kept = g .kept; low = g .low; fits = g .fits; hints = g .hints }
 
 pub from-falls : (t : List ℕ) (i j : ℕ) → i ≤ j → (r : Decoded) → r ≡ decodedAt j (front (drop j t)) → (c k : ℕ) → r ≡ Char c k → length t - k < length t - i
 from-falls t i j h r s c k is = omega (arith, h, char-falls t j r s c k is)

@@ -1,43 +1,63 @@
 // Characters noted in a row of words, each once.
 ghost use mathlib.Core.Path.{_≡_};
 ghost use mathlib.Core.List.{[], _∷_};
-ghost use mathlib.Core.Bool.{true, _||_};
-ghost use Prim.Native.Nat.{_+_, _≤_, _<_};
+ghost use mathlib.Core.Bool.{true, false, _||_};
+ghost use Prim.Native.Nat.{_+_, _-_, _≤_, _<_};
 ghost use lib.Dec.{eqb};
 ghost use lib.ListN.{length};
 ghost use Rattle.language.specs.Infer.{member};
-ghost use Rattle.alphabet.specs.Codes.{noted, held, Codes, Room};
+ghost use Rattle.alphabet.specs.Codes.{noted, held, hints, slot, hintOf, Looked, Hinted, Codes, Room, Covered};
+ghost use Rattle.infer.specs.Page.{Kept};
+
+// How many hints there are at most: the last words of work, which say which characters are noted, so that the codes need not be looked through.
+const MOST: usize = 2048;
+
+// How many hints there are where the codes stand from the index `base` on.
+fn hints(base: usize) -> usize
+    ensures { λ r. ⌜ r ≡ hints base ⌝ }
+{
+    if base / 8 < MOST {
+        return base / 8;
+    }
+    MOST
+}
 
 // How far from the last word a character's hint stands: each admitted character has a place of its own.
 fn slot(c: u32) -> usize
-    ensures { λ r. ⌜ r < 2048 ⌝ }
+    ensures { λ r. ⌜ (r ≡ slot c) × (r < 2048) ⌝ }
 {
     let x = crate::index(c);
-    (x + x / 8192 * 768) % 2048
+    (x + x / 8192 * 768) % MOST
 }
 
-// Whether c stands at the index h of the n codes from the index `base` on.
-fn stands(work: &[u32], base: usize, n: usize, h: usize, c: u32) -> bool
-    requires { ⌜ base + n ≤ length (now work) ⌝ }
-    ensures { λ r. ⌜ (r ≡ true → member eqb (held base n (now (work .entry))) c ≡ true) ⌝ }
+// Clears the hints, before anything is noted.
+pub fn clear_hints(work: &mut [u32], base: usize)
+    requires { ⌜ base ≤ length (now work) ⌝ }
+    ensures { λ _. ⌜ Kept base (now (work .entry)) (now (work .exit)) × Hinted base 0 (now (work .exit)) ⌝ }
 {
-    if h < n {
-        return work[base + h] == c;
+    let t = hints(base);
+    if work.len() - base < t {
+        return;
     }
-    false
+    let a = work.len() - t;
+    diag::clear_from(work, a);
 }
 
 // Whether a character's hint shows that it is noted; false says nothing.
 pub fn is_seen(work: &[u32], base: usize, n: usize, c: u32) -> bool
-    requires { ⌜ base + n ≤ length (now work) ⌝ }
+    requires { ⌜ (base + n ≤ length (now work)) × Hinted base n (now work) × (c ≡ 0 → ⊥) ⌝ }
     ensures { λ r. ⌜ (r ≡ true → member eqb (held base n (now (work .entry))) c ≡ true) ⌝ }
 {
     let s = slot(c);
-    if work.len() - base - n < s + 2 {
+    let t = hints(base);
+    if t <= s {
+        return false;
+    }
+    if work.len() - base - n <= t {
         return false;
     }
     let i = work.len() - 1 - s;
-    stands(work, base, n, crate::index(work[i]), c)
+    work[i] == c
 }
 
 // Whether c was found, or is x.
@@ -64,9 +84,9 @@ fn contains(work: &[u32], base: usize, n: usize, c: u32) -> bool
     found
 }
 
-// One code more that its hint does not show.
+// One code more whose hint does not tell whether it is there, and is left as it is.
 fn note_unseen(work: &mut [u32], base: usize, n: usize, c: u32) -> usize
-    requires { ⌜ Room base n (now work) (c ∷ []) ⌝ }
+    requires { ⌜ Room base n (now work) (c ∷ []) × Covered base n (now work) c ⌝ }
     ensures { λ r. ⌜ Codes base (now (work .entry)) (noted (held base n (now (work .entry))) c) (now (work .exit)) r ⌝ }
 {
     if contains(work, base, n, c) {
@@ -76,28 +96,48 @@ fn note_unseen(work: &mut [u32], base: usize, n: usize, c: u32) -> usize
     n + 1
 }
 
-// One code more that its hint at the index i does not show; the hint from now on.
-fn note_hinted(work: &mut [u32], base: usize, n: usize, i: usize, c: u32) -> usize
-    requires { ⌜ Room base n (now work) (c ∷ []) × (base + n < i) × (i < length (now work)) ⌝ }
+// One code more whose hint, at the index i, is 0.
+fn note_first(work: &mut [u32], base: usize, n: usize, i: usize, c: u32) -> usize
+    requires { ⌜ Room base n (now work) (c ∷ []) × Looked base n (now work) c × (i ≡ length (now work) - 1 - slot c) × (hintOf (now work) c ≡ 0) ⌝ }
     ensures { λ r. ⌜ Codes base (now (work .entry)) (noted (held base n (now (work .entry))) c) (now (work .exit)) r ⌝ }
 {
-    work[i] = (n % 4294967296) as u32;
+    if c == 0 {
+        return note_unseen(work, base, n, c);
+    }
+    work[i] = c;
+    work[base + n] = c;
+    n + 1
+}
+
+// One code more whose hint, at the index i, does not show it.
+fn note_hinted(work: &mut [u32], base: usize, n: usize, i: usize, c: u32) -> usize
+    requires { ⌜ Room base n (now work) (c ∷ []) × Looked base n (now work) c × (i ≡ length (now work) - 1 - slot c) ⌝ }
+    ensures { λ r. ⌜ Codes base (now (work .entry)) (noted (held base n (now (work .entry))) c) (now (work .exit)) r ⌝ }
+{
+    if work[i] == 0 {
+        return note_first(work, base, n, i, c);
+    }
     note_unseen(work, base, n, c)
 }
 
-// One code more, if it is not there yet; answers how many there are. The words behind the codes, as far as there are any, hold hints: where a character
-// may stand. That is a guess which is looked at, so whatever these words held before does no harm.
+// One code more, if it is not there yet; answers how many there are.
 pub fn note(work: &mut [u32], base: usize, n: usize, c: u32) -> usize
     requires { ⌜ Room base n (now work) (c ∷ []) ⌝ }
     ensures { λ r. ⌜ Codes base (now (work .entry)) (noted (held base n (now (work .entry))) c) (now (work .exit)) r ⌝ }
 {
     let s = slot(c);
-    if work.len() - base - n < s + 2 {
+    let t = hints(base);
+    if t <= s {
+        return note_unseen(work, base, n, c);
+    }
+    if work.len() - base - n <= t {
         return note_unseen(work, base, n, c);
     }
     let i = work.len() - 1 - s;
-    if stands(work, base, n, crate::index(work[i]), c) {
-        return n;
+    if work[i] == c {
+        if c != 0 {
+            return n;
+        }
     }
     note_hinted(work, base, n, i, c)
 }

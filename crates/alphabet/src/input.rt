@@ -7,7 +7,7 @@ ghost use lib.ListN.{length};
 ghost use Rattle.lexer.specs.Places.{rest};
 ghost use Rattle.assembler.specs.Rows.{rows};
 ghost use Rattle.language.specs.Infer.{member};
-ghost use Rattle.alphabet.specs.Codes.{notedAll, held, Codes, Room};
+ghost use Rattle.alphabet.specs.Codes.{notedAll, held, Hinted, Codes, Room};
 ghost use Rattle.alphabet.specs.Input.{endsAt, escapeCode, escapeOf, spelledAs, escapesNext, spelled, inputOf};
 use crate::codes;
 use assembler::entry;
@@ -84,7 +84,7 @@ fn note_char(work: &mut [u32], base: usize, n: usize, escaped: bool, c: u32) -> 
 
 // Whether c is above ASCII and shown to be noted; false says nothing.
 fn is_known(work: &[u32], base: usize, n: usize, c: u32) -> bool
-    requires { ⌜ base + n ≤ length (now work) ⌝ }
+    requires { ⌜ (base + n ≤ length (now work)) × Hinted base n (now work) ⌝ }
     ensures { λ r. ⌜ (r ≡ true → (0x80 ≤ c) × (member eqb (held base n (now (work .entry))) c ≡ true)) ⌝ }
 {
     if c < 0x80 {
@@ -95,7 +95,7 @@ fn is_known(work: &[u32], base: usize, n: usize, c: u32) -> bool
 
 // The place behind the characters above ASCII at a place that are noted already: they add nothing.
 fn seen_end(text: &[u8], at: usize, work: &[u32], base: usize, n: usize) -> usize
-    requires { ⌜ base + n ≤ length (now work) ⌝ }
+    requires { ⌜ (base + n ≤ length (now work)) × Hinted base n (now work) ⌝ }
     ensures { λ r. ⌜ (at ≤ r) × (notedAll (held base n (now (work .entry))) (spelled false (rest (now (text .entry)) r)) ≡ notedAll (held base n (now (work .entry))) (spelled false (rest (now (text .entry)) at))) ⌝ }
 {
     let mut i = at;
@@ -117,7 +117,7 @@ fn seen_end(text: &[u8], at: usize, work: &[u32], base: usize, n: usize) -> usiz
 
 // From where on a string's text may add something.
 fn unseen_from(text: &[u8], at: usize, escaped: bool, work: &[u32], base: usize, n: usize) -> usize
-    requires { ⌜ base + n ≤ length (now work) ⌝ }
+    requires { ⌜ (base + n ≤ length (now work)) × Hinted base n (now work) ⌝ }
     ensures { λ r. ⌜ (at ≤ r) × (notedAll (held base n (now (work .entry))) (spelled escaped (rest (now (text .entry)) r)) ≡ notedAll (held base n (now (work .entry))) (spelled escaped (rest (now (text .entry)) at))) ⌝ }
 {
     if escaped {

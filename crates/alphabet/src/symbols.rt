@@ -252,9 +252,10 @@ pub fn gamma_codes(
     first: &[u32; 11],
     blank: u32,
 ) -> usize
-    requires { ⌜ (4 * count ≤ base) × (Room base 0 (now work) (blank ∷ candidates (now text) blank (rows count (now work)) (now first))) ⌝ }
+    requires { ⌜ (4 * count ≤ base) × (base + length (gammaCodes (now text) blank (rows count (now work)) (now first)) ≤ length (now work)) ⌝ }
     ensures { λ r. ⌜ Codes base (now (work .entry)) (gammaCodes (now (text .entry)) blank (rows count (now (work .entry))) (now (first .entry))) (now (work .exit)) r ⌝ }
 {
+    codes::clear_hints(work, base);
     let n = codes::note(work, base, 0, blank);
     note_candidates(text, work, count, base, n, first, blank)
 }

@@ -21,11 +21,11 @@ use Rattle.assembler.specs.Entries.{Entry, entries}
 use Rattle.assembler.specs.Rows.{rows}
 use Rattle.sheet.specs.Rules.{resolve}
 use Rattle.alphabet.specs.declared.glyphs.Walk.{Walk}
-use Rattle.alphabet.specs.Codes.{noted, notedAll, held, Room}
+use Rattle.alphabet.specs.Codes.{noted, notedAll}
 use Rattle.alphabet.specs.Symbols.{range, symbols, lineRange, symbolsIn, takes, walked, firsts, outside, others, further, ruleSymbols, rulesSymbols, codesOf}
 use Rattle.alphabet.specs.Input.{endsAt, escapeCode, escapeOf, spelledAs, escapesNext, spelled, inputOf}
 use Rattle.alphabet.proofs.CodesMean.{noted-there, noted-new}
-use Rattle.alphabet.specs.Alphabets.{lineCodes, candidates}
+use Rattle.alphabet.specs.Alphabets.{lineCodes, candidates, gammaCodes}
 
 -- ---- codes from a list, each once, are no more than the list is long
 -- a list without one entry x
@@ -284,18 +284,14 @@ module _ (text : List ℕ) (b : ℕ) (ts : List Token) (first : List ℕ) where
       go true = every-lists (lineCodes b ts f) (codesOf b (rulesSymbols ts (entries ts))) (codes-held b these (symbols (lineRange ts f)) (symbols-held b these (lineRange ts f) (range-held b these ts (f + 1) (peek ts f .value) row-held))) rules-in
       go false = every-lists (codesOf b (rulesSymbols ts (entries ts))) input rules-in (each these input (λ y e. member-back (codesOf b (symbols ts)) input y e))
 
-  -- from the first scratch row on there is room
-  pub codes-fit : (w : List ℕ) → length ts ≤ length text + 1 → 6 * length text + 6 ≤ length w → Room (4 * (length text + 1)) 0 w (b ∷ candidates text b ts first)
-  unfolding notedAll noted member
-  codes-fit w h g =
-      record {
-        low = omega arith;
-        fits = omega (
-          arith,
-          few-noted (b ∷ []) these (candidates text b ts first) candidates-in,
-          length-append (codesOf b (symbols ts)) input,
-          length-map (symbols ts) (resolve b),
-          symbols-few ts,
-          input-few text ts (getD first 2 0),
-        );
-      }
+  -- all fit in two scratch rows
+  pub codes-fit : length ts ≤ length text + 1 → length (gammaCodes text b ts first) ≤ 2 * (length text + 1)
+  unfolding gammaCodes
+  codes-fit h = omega (
+    arith,
+    few-noted (b ∷ []) these (candidates text b ts first) candidates-in,
+    length-append (codesOf b (symbols ts)) input,
+    length-map (symbols ts) (resolve b),
+    symbols-few ts,
+    input-few text ts (getD first 2 0),
+  )

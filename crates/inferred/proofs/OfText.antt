@@ -27,15 +27,13 @@ use Rattle.assembler.proofs.Rows.{length-rows}
 use Rattle.assembler.proofs.Means.{AllMean}
 use Rattle.assembler.proofs.MarkLaws.{first-low}
 use Rattle.infer.specs.States.{Scratch, stateSection, finalSection}
-use Rattle.alphabet.specs.Codes.{Room}
 use Rattle.alphabet.specs.Symbols.{blankOf}
-use Rattle.alphabet.specs.Alphabets.{candidates, gammaCodes, gammaWords, sigmaWords}
+use Rattle.alphabet.specs.Alphabets.{gammaCodes, gammaWords, sigmaWords}
 use Rattle.shown.proofs.Shows.{Mentions}
 use Rattle.inferred.proofs.NameMarks.{state-word}
 use Rattle.inferred.proofs.Firsts.{firsts, input-at}
 use Rattle.inferred.proofs.StatesInferred.{finals-inferred, states-inferred}
 use Rattle.inferred.proofs.AlphabetsInferred.{blank-inferred, gamma-inferred, sigma-inferred}
-use Rattle.inferred.proofs.CodesFit.{codes-fit}
 use Rattle.inferred.proofs.InputInferred.{input-inferred}
 
 -- ---- what the calls ask
@@ -52,10 +50,6 @@ module _ (text : List ℕ) (count : ℕ) (w : List ℕ) (few : count ≤ length 
             let word = state-word (peek (rows count w) x) e in
             omega (arith, names .interned x (omega arith) word, first-low text (rows count w) x (omega arith) word);
       }
-
-  -- the codes of an undeclared Γ, from 4 · (length text + 1) on, once the states are stored
-  pub room-of-text : (b : ℕ) (first : List ℕ) → Room (4 * (length text + 1)) 0 w (b ∷ candidates text b (rows count w) first)
-  room-of-text b first = codes-fit text b (rows count w) first w (omega (arith, length-rows count w (omega arith))) room
 
 -- ---- the sections
 module _ (text : List ℕ) (X : Entry → Item Place → Type 0) (ts : List Token) (says : (e : Entry) (i : Item Place) → X e i → Mentions text ts (e .at) i) (few : length ts ≤ 0xffffffff)

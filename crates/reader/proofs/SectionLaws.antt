@@ -1,12 +1,11 @@
 -- The sections of the sheet one behind the other: what each asks of those before it, and what they leave together.
 use mathlib.Core.Path.{_≡_, refl, sym, ap, subst, _∙_}
-use mathlib.Core.List.{List, _∷_}
+use mathlib.Core.List.{List}
 use Prim.Native.Nat.{ℕ, _+_, _-_, _*_, _≤_, _<_, _^_}
 use native.Mathlib.Omega.{arith}
-use lib.ListN.{length, getD, length-replicate}
+use lib.ListN.{length, getD}
 use Rattle.tokens.specs.declared.Token.{Token}
 use Rattle.language.specs.Layout as L
-use Rattle.language.specs.Outcome.{zeros}
 use Rattle.assembler.specs.Rows.{rows}
 use Rattle.assembler.specs.Feeds.{Fed, CommentsLast}
 use Rattle.sheet.specs.Stored.{Stored}
@@ -15,8 +14,8 @@ use Rattle.sheet.specs.Rules.{ruleLengths}
 use Rattle.sheet.proofs.Writes.{stored-append, stored-length}
 use Rattle.infer.specs.Page.{Kept}
 use Rattle.infer.specs.States.{Scratch, stateSection, finalSection}
-use Rattle.alphabet.specs.Codes.{noted, notedAll, held, Codes, Room}
-use Rattle.alphabet.specs.Alphabets.{candidates, gammaCodes, sigmaWords, gammaWords}
+use Rattle.alphabet.specs.Codes.{held, Codes}
+use Rattle.alphabet.specs.Alphabets.{gammaCodes, sigmaWords, gammaWords}
 use Rattle.infer.proofs.Pages.{kept-rows}
 use Rattle.inferred.proofs.CodesFit.{codes-fit}
 use Rattle.answered.specs.Ready.{Ready}
@@ -29,10 +28,7 @@ use Rattle.reader.specs.Sheet.{endsOf, Written}
 
 -- the codes of an undeclared Γ fit into the scratch rows
 pub code-count : (text : List ℕ) (count : ℕ) (w first : List ℕ) → Ready text count w first → (b : ℕ) → length (gammaCodes text b (rows count w) first) ≤ 2 * (length text + 1)
-unfolding gammaCodes notedAll noted
-code-count text count w first r b =
-    let n : ℕ = 6 * length text + 6 in
-    omega (arith, codes-fit text b (rows count w) first (zeros n) (omega (arith, row-size text count w first r, few text count w first r)) (omega (arith, length-replicate {A = ℕ} n 0)) .fits, length-replicate {A = ℕ} n 0)
+code-count text count w first r b = codes-fit text b (rows count w) first (omega (arith, row-size text count w first r, few text count w first r))
 
 -- ---- the sections, one behind the other
 module _ (text : List ℕ) (count : ℕ) (w first : List ℕ) (r : Ready text count w first) where
@@ -64,8 +60,8 @@ module _ (text : List ℕ) (count : ℕ) (w first : List ℕ) (r : Ready text co
     pub codes-base : 4 * count ≤ 4 * (length text + 1)
     codes-base = omega (arith, few text count w first r)
 
-    pub codes-room : (b : ℕ) → Room (4 * (length text + 1)) 0 w₁ (b ∷ candidates text b (rows count w₁) first)
-    codes-room b = codes-fit text b (rows count w₁) first w₁ (omega (arith, ap length row₁, row-size text count w first r, few text count w first r)) (omega (arith, r .room, k₁ .size))
+    pub codes-room : (b : ℕ) → 4 * (length text + 1) + length (gammaCodes text b (rows count w₁) first) ≤ length w₁
+    codes-room b = omega (arith, codes-fit text b (rows count w₁) first (omega (arith, ap length row₁, row-size text count w first r, few text count w first r)), r .room, k₁ .size)
 
     module _ (b : ℕ) (w₂ : List ℕ) (n : ℕ) (c : Codes (4 * (length text + 1)) w₁ (gammaCodes text b (rows count w₁) first) w₂ n) where
       long₂ : length w₂ ≡ length w

@@ -1,4 +1,4 @@
--- `alphabet::codes::note_unseen` meets its contract: one store behind the codes.
+-- `alphabet::codes::note_unseen` meets its contract: one store behind the codes, where the search finds none.
 use borrow.Author.Needs.{needs}
 use Rattle.alphabet.proofs.CodeLaws.{room-new, note-there, note-new}
 use Rattle.alphabet.proofs.codes.note_unseen.Statement.{statement}

@@ -26,7 +26,7 @@ note-string-spec =
     Inv-loop
     μ-loop
     (λ c. noting-start _ _ _ _ (c .before .before .pre))
-    (λ c κs. noting-low _ _ _ _ _ _ (c .before .loop .inv))
+    (λ c κs. (noting-low _ _ _ _ _ _ (c .before .loop .inv), c .before .loop .inv .hints))
     (λ c κs. search needs)
     (λ c. search needs)
     (λ c κs. search needs)
