@@ -1,9 +1,11 @@
 -- What the lines of a row and its sections are in the language's terms, for every text without diagnostics.
-use mathlib.Core.Path.{_≡_, refl, sym, ap, subst, _∙_}
-use mathlib.Core.List.{List, map}
+use mathlib.Core.Path.{_≡_, refl, sym, ap, ap₂, subst, _∙_}
+use mathlib.Core.Bool.{true, false}
+use mathlib.Core.List.{List, [], map}
 use Prim.Native.Nat.{ℕ, _+_, _≤_}
 use native.Mathlib.Omega.{arith}
 use lib.ListN.{length, getD, length-map}
+use Rattle.diag.proofs.Cases.{by-test}
 use Rattle.chars.specs.Utf8.{decode}
 use Rattle.lexer.specs.declared.Span.{Span as Place}
 use Rattle.lexer.specs.Tokens.{tokens}
@@ -19,6 +21,7 @@ use Rattle.assembler.specs.Rows.{rows}
 use Rattle.assembler.specs.Entries.{Entry, entries}
 use Rattle.assembler.specs.Feeds.{Fed, CommentsLast}
 use Rattle.assembler.specs.Declarations.{undeclared, declarations}
+use Rattle.assembler.specs.Assembled.{hasStates}
 use Rattle.assembler.proofs.Means.{AllMean}
 use Rattle.assembler.proofs.AssembledLaws.{length-entered}
 use Rattle.assembler.proofs.FeedLaws.{entered-fed}
@@ -28,7 +31,7 @@ use Rattle.shown.proofs.TextShown.{text-shown, text-said, no-rule-errors}
 use Rattle.infer.specs.States.{Scratch, stateSection, finalSection}
 use Rattle.alphabet.specs.Symbols.{blankOf}
 use Rattle.alphabet.specs.Alphabets.{gammaCodes, sigmaWords, gammaWords}
-use Rattle.inferred.proofs.OfText.{scratch-of-text, states-of-text, finals-of-text, sigma-of-text, gamma-of-text, blank-of-text}
+use Rattle.inferred.proofs.OfText.{scratch-of-text, states-of-text, no-section-of-text, no-states-of-text, finals-of-text, sigma-of-text, gamma-of-text, blank-of-text}
 use Rattle.answered.specs.Ready.{linesOf, Ready}
 
 -- the lines of the row, its entries, and the sections of the inference
@@ -62,8 +65,8 @@ module _ (text : List ℕ) (count : ℕ) (w first : List ℕ) (r : Ready text co
   pub last : CommentsLast (rows count w)
   last = subst CommentsLast (sym (r .row)) (entered-last (map tokenOf (tokens (decode text))) (tokens-last (tokens (decode text)) (tokens-lexed text)))
 
-  pub scratch : Scratch (length text + 1) count w
-  scratch = scratch-of-text text count w few (r .room) (r .names) fed
+  pub scratch : hasStates count first (length (I.machineOf (linesOf text) .rules)) ≡ true → Scratch (length text + 1) count w
+  scratch y = scratch-of-text text count w few (r .room) (r .names y) fed
 
   pub table : first ≡ declarations (length (rows count w)) undeclared (entries (rows count w))
   table = r .declared ∙ ap (λ (n : ℕ). declarations n undeclared (entries (rows count w))) (sym row-size)
@@ -86,6 +89,27 @@ module _ (text : List ℕ) (count : ℕ) (w first : List ℕ) (r : Ready text co
   small : length (rows count w) ≤ 0xffffffff
   small = omega (arith, row-size, few, r .short)
 
+  -- ---- the states
+  -- where there can be none, nothing is stored
+  module _ (none-there : hasStates count first (length (I.machineOf (linesOf text) .rules)) ≡ false) where
+    lacks : hasStates (length (rows count w)) (declarations (length (rows count w)) undeclared (entries (rows count w))) (length (I.machineOf (linesOf text) .rules)) ≡ false
+    lacks = ap₂ (λ (n : ℕ) (f : List ℕ). hasStates n f (length (I.machineOf (linesOf text) .rules))) row-size (sym table) ∙ none-there
+
+    pub no-section : stateSection (length text + 1) (rows count w) first w ≡ []
+    no-section =
+        ap (λ (f : List ℕ). stateSection (length text + 1) (rows count w) f w) table
+        ∙ no-section-of-text text (Said text (rows count w)) (rows count w) says small said (r .none-found) lacks (length text + 1) w
+
+    no-states : L.flat L.stateWords (I.machineOf (linesOf text) .states) ≡ []
+    no-states = no-states-of-text text (Said text (rows count w)) (rows count w) says small said (r .none-found) lacks
+
+  states : stateSection (length text + 1) (rows count w) first w ≡ L.flat L.stateWords (I.machineOf (linesOf text) .states)
+  states = by-test (hasStates count first (length (I.machineOf (linesOf text) .rules)))
+      (λ y. ap (λ (f : List ℕ). stateSection (length text + 1) (rows count w) f w) table
+      ∙ states-of-text text (Said text (rows count w)) (rows count w) says small said (r .none-found) (length text + 1) count w refl (r .names y) few (omega (arith, r .room)) (omega (arith, few, r .short)))
+      (λ n. no-section n ∙ sym (no-states n))
+
+  -- ---- all sections
   pub ties : Tied text count w first
   ties =
       let X : Entry → Item Place → Type 0 = Said text (rows count w) in
@@ -96,9 +120,7 @@ module _ (text : List ℕ) (count : ℕ) (w first : List ℕ) (r : Ready text co
       record {
         shown = shown;
         said = said;
-        states =
-            ap (λ (f : List ℕ). stateSection (length text + 1) ts f w) table
-            ∙ states-of-text text X ts says small said (r .none-found) (length text + 1) count w refl (r .names) few (omega (arith, r .room)) (omega (arith, few, r .short));
+        states = states;
         sigma =
             ap (λ (f : List ℕ). sigmaWords b ts f (gammaCodes text b ts f)) table ∙ ap (λ (b : ℕ). sigmaWords b ts firsts (gammaCodes text b ts firsts)) (sym blank)
             ∙ sigma-of-text text X ts says small said (r .none-found);

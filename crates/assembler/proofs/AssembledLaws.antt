@@ -1,9 +1,10 @@
 -- Laws of assembly as a whole: each pass leaves what the next one asks, and all together give the language's diagnostics.
 use mathlib.Core.Path.{_≡_, refl, sym, ap, subst, _∙_}
-use mathlib.Core.Bool.{Bool, true, false, cond}
+use mathlib.Core.Bool.{Bool, true, false, cond, not, false≢true}
 use mathlib.Core.List.{List, [], _∷_, _++_, map}
 use Prim.Native.Nat.{ℕ, zero, suc, _+_, _*_, _≤_, _<_, _^_}
 use native.Mathlib.Omega.{arith}
+use borrow.Author.Tests.{lt-ltb, le-ltb, not-true}
 use mir.Syntax.{w64}
 use mir.Val.{Fits}
 use lib.Dec.{eqb, ltb}
@@ -82,17 +83,51 @@ module _ (text : List ℕ) (count : ℕ) (w₀ : List ℕ) (p : S.Tokenized text
         size = ap length e ∙ length-onto (entered (rows count w₀)) w₀ (omega (arith, size, enter-room));
       }
 
+-- ---- whether there may be states: each test, where those before it failed
+module _ (count : ℕ) (first : List ℕ) (rules : ℕ) where
+  yes : (i k : ℕ) → i ≡ getD first k 0 → i < count → ltb (getD first k 0) count ≡ true
+  yes i k e h = lt-ltb (getD first k 0) count (omega arith)
+
+  no : (i k : ℕ) → i ≡ getD first k 0 → count ≤ i → ltb (getD first k 0) count ≡ false
+  no i k e h = le-ltb (getD first k 0) count (omega arith)
+
+  pub with-q : (q : ℕ) → q ≡ getD first 5 0 → q < count → true ≡ S.hasStates count first rules
+  unfolding S.hasStates
+  with-q q e h = rw (yes q 5 e h) refl
+
+  module _ (q : ℕ) (at-q : q ≡ getD first 5 0) (no-q : count ≤ q) where
+    pub with-start : (s : ℕ) → s ≡ getD first 9 0 → s < count → true ≡ S.hasStates count first rules
+    unfolding S.hasStates
+    with-start s e h = rw (no q 5 at-q no-q, yes s 9 e h) refl
+
+    module _ (s : ℕ) (at-s : s ≡ getD first 9 0) (no-s : count ≤ s) where
+      pub with-finals : (f : ℕ) → f ≡ getD first 10 0 → f < count → true ≡ S.hasStates count first rules
+      unfolding S.hasStates
+      with-finals f e h = rw (no q 5 at-q no-q, no s 9 at-s no-s, yes f 10 e h) refl
+
+      pub with-rules : (f : ℕ) → f ≡ getD first 10 0 → count ≤ f → (r : Bool) → r ≡ ltb 0 rules → r ≡ S.hasStates count first rules
+      unfolding S.hasStates
+      with-rules f e h r g = rw (no q 5 at-q no-q, no s 9 at-s no-s, no f 10 e h) g
+
 -- ---- the row of first equal words
 pub kept-fewer : (a b : ℕ) (u v : List ℕ) → a ≤ b → Kept b u v → Kept a u v
 kept-fewer a b u v h k = record { front = sym (take-take a b v h) ∙ ap (take a) (k .front) ∙ take-take a b u h; size = k .size }
 
+-- without F, and with a diagnostic or without states, nobody looks at it
+module _ (text : List ℕ) (count : ℕ) (w first : List ℕ) (wrong rules f : ℕ) (at-f : f ≡ getD first 10 0) (no-f : count ≤ f) where
+  pub none-sound : 0 < wrong → S.Named text count w first wrong rules
+  none-sound h = record { listed = λ l. absurd (omega arith); sound = λ z y. absurd (omega arith) }
+
+  pub none-named : (b : Bool) → b ≡ S.hasStates count first rules → not b ≡ true → S.Named text count w first wrong rules
+  none-named b t n = record { listed = λ l. absurd (omega arith); sound = λ z y. absurd (false≢true (sym (not-true b n) ∙ t ∙ y)) }
+
 module _ (text : List ℕ) (count : ℕ) (w₀ : List ℕ) (laid : Laid count (S.wordsFrom (length text)) (S.marksFrom (length text)) w₀) where
-  module _ (w₁ first : List ℕ) (wrong : ℕ) where
-    pub all-named : Kept (S.wordsFrom (length text)) w₀ w₁ → Interned text (rows count w₀) (S.wordsFrom (length text)) w₁ → S.Named text count w₁ first wrong
+  module _ (w₁ first : List ℕ) (wrong rules : ℕ) where
+    pub all-named : Kept (S.wordsFrom (length text)) w₀ w₁ → Interned text (rows count w₀) (S.wordsFrom (length text)) w₁ → S.Named text count w₁ first wrong rules
     all-named k i =
         let row : rows count w₁ ≡ rows count w₀ = kept-rows count (S.wordsFrom (length text)) w₀ w₁ k (laid .tokens) in
         let names : Interned text (rows count w₁) (S.wordsFrom (length text)) w₁ = subst (λ (ts : List Token). Interned text ts (S.wordsFrom (length text)) w₁) (sym row) i in
-        record { listed = λ h. names; sound = λ e. names }
+        record { listed = λ h. names; sound = λ e h. names }
 
 -- ---- how many diagnostics the passes append
 entries-few-from : (k i : ℕ) (ts : List Token) → length (entriesFrom k i ts) ≤ length ts
@@ -192,8 +227,8 @@ module _ (text : List ℕ) (count : ℕ) (w₀ w₁ first : List ℕ)
       pub rules-wrong : wrong ≡ length (ruleErrors noRules (entries (rows count w₂)))
       rules-wrong = counted ∙ ap (λ (ts : List Token). length (ruleErrors noRules (entries ts))) (sym row₂)
 
-      pub finals-and-rules : (log : List ℕ) (r : ℕ) → S.Named text count w₁ first (l .count + wrong) → logged log r ≡ appendAll (logged g n) (ruleErrors noRules (entries (rows count w₂))) → S.FinalsAndRules text count w₀ w₂ first l log r
-      finals-and-rules log r named e =
+      pub finals-and-rules : (rules : ℕ) (log : List ℕ) (r : ℕ) → S.Named text count w₁ first (l .count + wrong) rules → logged log r ≡ appendAll (logged g n) (ruleErrors noRules (entries (rows count w₂))) → S.FinalsAndRules text count w₀ w₂ first rules l log r
+      finals-and-rules rules log r named e =
           let a : ℕ = S.wordsFrom (length text) in
           let b : ℕ = S.marksFrom (length text) in
           let on : Interned text (rows count w₁) a w₁ → Interned text (rows count w₂) a w₂ = λ i. kept-interned count a b w₁ w₂ named-laid kept₂ text i in
@@ -201,7 +236,7 @@ module _ (text : List ℕ) (count : ℕ) (w₀ w₁ first : List ℕ)
           omega (arith, ap (λ (x : Log). x .count) e, append-all-count (logged g n) (ruleErrors noRules (entries (rows count w₂))), rules-wrong, ap (λ (x : Log). x .count) finals, append-all-count l (finalsErrors text (rows count w₁) first)) in
           record {
             kept = kept-trans a w₀ w₁ w₂ kept₁ (kept-fewer a b w₁ w₂ (omega arith) kept₂);
-            named = record { listed = λ h. on (named .listed h); sound = λ z. on (named .sound (none z)) };
+            named = record { listed = λ h. on (named .listed h); sound = λ z h. on (named .sound (none z) h) };
             written =
                 e ∙ ap (λ (ts : List Token). appendAll (logged g n) (ruleErrors noRules (entries ts))) row₂
                 ∙ ap (λ (x : Log). appendAll x (ruleErrors noRules (entries (rows count w₀)))) (finals ∙ ap (λ (ts : List Token). appendAll l (finalsErrors text ts first)) row₁)
@@ -241,7 +276,7 @@ module _ (text : List ℕ) (count : ℕ) (w₀ log₀ : List ℕ) (laid : Laid c
       finals-room =
           omega (arith, ap (λ (x : Log). x .count) e₂, append-all-count (logged g₁ n) (declarationErrors ts undeclared es), declarations-few ts undeclared es, lines-count, lines-low, laid .few)
 
-      pub diagnosed : (w₁ log : List ℕ) (k r : ℕ) → k ≡ ruleCount noRules (entries (rows count w₀)) → S.FinalsAndRules text count w₀ w₁ first (logged g₂ m) log r
+      pub diagnosed : (w₁ log : List ℕ) (k r : ℕ) → k ≡ ruleCount noRules (entries (rows count w₀)) → S.FinalsAndRules text count w₀ w₁ first k (logged g₂ m) log r
           → S.Diagnosed text count w₀ w₁ log₀ log (record { first = first; rules = k; errors = r })
       unfolding S.rowDiagnostics
       diagnosed w₁ log k r c p =

@@ -1,7 +1,9 @@
 -- Assembly as a whole: the passes over a row, and what they leave of a text.
 use Prim.Native.Nat.{ℕ, _+_, _*_, _≤_, _<_}
 use mathlib.Core.Path.{_≡_}
+use mathlib.Core.Bool.{Bool, true, cond}
 use mathlib.Core.List.{List, [], _∷_, _++_, map}
+use lib.Dec.{ltb}
 use lib.ListN.{length, getD}
 use Rattle.chars.specs.Utf8.{decode}
 use Rattle.lexer.specs.Tokens.{tokens}
@@ -48,21 +50,25 @@ pub record Entered (count : ℕ) (w₀ w : List ℕ) : Type 0 where
   pub row : rows count w ≡ entered (rows count w₀)
   pub size : length w ≡ length w₀
 
--- the row of first equal words stands behind the tokens where it is looked at: F lists names, or of `wrong` diagnostics there is none
-pub record Named (text : List ℕ) (count : ℕ) (w first : List ℕ) (wrong : ℕ) : Type 0 where
+-- whether a description may have states: it declares Q (5), a start (9) or F (10), or it has rules
+unfoldable pub hasStates : ℕ → List ℕ → ℕ → Bool
+hasStates count first rules = cond (ltb (getD first 5 0) count) true (cond (ltb (getD first 9 0) count) true (cond (ltb (getD first 10 0) count) true (ltb 0 rules)))
+
+-- the row of first equal words stands behind the tokens where it is looked at: F lists names, or of `wrong` diagnostics there is none and there may be states
+pub record Named (text : List ℕ) (count : ℕ) (w first : List ℕ) (wrong rules : ℕ) : Type 0 where
   pub listed : getD first 10 0 < count → Interned text (rows count w) (wordsFrom (length text)) w
-  pub sound : wrong ≡ 0 → Interned text (rows count w) (wordsFrom (length text)) w
+  pub sound : wrong ≡ 0 → hasStates count first rules ≡ true → Interned text (rows count w) (wordsFrom (length text)) w
 
 -- the last two passes over a row with entries, behind a log
-pub record FinalsAndRules (text : List ℕ) (count : ℕ) (w₀ w first : List ℕ) (l : Log) (log : List ℕ) (n : ℕ) : Type 0 where
+pub record FinalsAndRules (text : List ℕ) (count : ℕ) (w₀ w first : List ℕ) (rules : ℕ) (l : Log) (log : List ℕ) (n : ℕ) : Type 0 where
   pub kept : Kept (wordsFrom (length text)) w₀ w
-  pub named : Named text count w first n
+  pub named : Named text count w first n rules
   pub written : logged log n ≡ appendAll l (finalsErrors text (rows count w₀) first ++ ruleErrors noRules (entries (rows count w₀)))
 
 -- the passes over a row with entries
 pub record Diagnosed (text : List ℕ) (count : ℕ) (w₀ w log₀ log : List ℕ) (r : Assembled) : Type 0 where
   pub kept : Kept (wordsFrom (length text)) w₀ w
-  pub named : Named text count w (r .first) (r .errors)
+  pub named : Named text count w (r .first) (r .errors) (r .rules)
   pub first : r .first ≡ declarations count undeclared (entries (rows count w₀))
   pub rules : r .rules ≡ ruleCount noRules (entries (rows count w₀))
   pub written : logged log (r .errors) ≡ appendAll (logged log₀ 0) (rowDiagnostics text (rows count w₀))
@@ -75,5 +81,5 @@ pub record Outcome (text : List ℕ) (count : ℕ) (w₀ w log₀ log : List ℕ
   pub written : logged log (r .errors) ≡ appendAll (logged log₀ 0) (recordsOf (diagnosticsOf (readLines (decode text))))
   pub rules : r .rules ≡ length (machineOf (readLines (decode text)) .rules)
   pub entered : Entered count w₀ w
-  pub named : Named text count w (r .first) (r .errors)
+  pub named : Named text count w (r .first) (r .errors) (r .rules)
   pub first : r .first ≡ declarations count undeclared (entries (rows count w))

@@ -9,7 +9,7 @@ ghost use Rattle.assembler.specs.Entries.{entries};
 ghost use Rattle.assembler.specs.Feeds.{Fed};
 ghost use Rattle.assembler.specs.Finals.{Laid, Kept};
 ghost use Rattle.assembler.specs.Rules.{ruleErrors, noRules};
-ghost use Rattle.assembler.specs.Assembled.{Tokenized, Named, FinalsAndRules, Diagnosed, Outcome, wordsFrom, marksFrom};
+ghost use Rattle.assembler.specs.Assembled.{Tokenized, hasStates, Named, FinalsAndRules, Diagnosed, Outcome, wordsFrom, marksFrom};
 
 pub mod declarations;
 pub mod entry;
@@ -20,6 +20,13 @@ pub mod pass;
 pub mod rules;
 pub mod survey;
 
+// The numbers of items.
+const STATES: usize = 5;
+
+const START: usize = 9;
+
+const FINAL: usize = 10;
+
 // What assembly finds: the entry of the first declaration of each name, a value that is no index for none; the number of rules; and the number of diagnostics.
 pub struct Assembled {
     pub first: [u32; 11],
@@ -27,14 +34,33 @@ pub struct Assembled {
     pub errors: usize,
 }
 
-// Puts the row of first equal words behind the tokens, where it is looked at: F lists names, or there is none of `wrong` diagnostics, so that a machine
-// follows.
-fn names(text: &[u8], work: &mut [u32], count: usize, first: &[u32; 11], wrong: usize)
-    requires { ⌜ Laid count (wordsFrom (length (now text))) (marksFrom (length (now text))) (now work) × (6 * length (now text) + 6 ≤ length (now work)) ⌝ }
-    ensures { λ _. ⌜ Kept (wordsFrom (length (now (text .entry)))) (now (work .entry)) (now (work .exit)) × Named (now (text .entry)) count (now (work .exit)) (now (first .entry)) wrong ⌝ }
+// Whether a description may have states: it declares Q, a start or F, or it has rules.
+pub fn has_states(count: usize, first: &[u32; 11], rules: usize) -> bool
+    ensures { λ r. ⌜ r ≡ hasStates count (now (first .entry)) rules ⌝ }
 {
-    if count <= entry::wide(first[10]) {
+    if entry::wide(first[STATES]) < count {
+        return true;
+    }
+    if entry::wide(first[START]) < count {
+        return true;
+    }
+    if entry::wide(first[FINAL]) < count {
+        return true;
+    }
+    0 < rules
+}
+
+// Puts the row of first equal words behind the tokens, where it is looked at: F lists names, or there is none of `wrong` diagnostics, so that a machine
+// follows, and it may have states.
+fn names(text: &[u8], work: &mut [u32], count: usize, first: &[u32; 11], wrong: usize, rules: usize)
+    requires { ⌜ Laid count (wordsFrom (length (now text))) (marksFrom (length (now text))) (now work) × (6 * length (now text) + 6 ≤ length (now work)) ⌝ }
+    ensures { λ _. ⌜ Kept (wordsFrom (length (now (text .entry)))) (now (work .entry)) (now (work .exit)) × Named (now (text .entry)) count (now (work .exit)) (now (first .entry)) wrong rules ⌝ }
+{
+    if count <= entry::wide(first[FINAL]) {
         if 0 < wrong {
+            return;
+        }
+        if !has_states(count, first, rules) {
             return;
         }
     }
@@ -42,20 +68,21 @@ fn names(text: &[u8], work: &mut [u32], count: usize, first: &[u32; 11], wrong: 
     equal_names::intern(text, work, count, 4 * base, 5 * base, base);
 }
 
-// The diagnostics of F and those of the rules, of which there are `wrong`, behind m others.
+// The diagnostics of F and those of the rules, of which there are `wrong`, behind m others; `rules` is how many rules there are.
 fn finals_and_rules(
     text: &[u8],
     work: &mut [u32],
     count: usize,
     first: &[u32; 11],
     wrong: usize,
+    rules: usize,
     log: &mut [u32],
     m: usize,
 ) -> usize
     requires { ⌜ Laid count (wordsFrom (length (now text))) (marksFrom (length (now text))) (now work) × (6 * length (now text) + 6 ≤ length (now work)) × (m + 2 * count < 2 ^ 64) × Fed (rows count (now work)) × (wrong ≡ length (ruleErrors noRules (entries (rows count (now work))))) ⌝ }
-    ensures { λ r. ⌜ FinalsAndRules (now (text .entry)) count (now (work .entry)) (now (work .exit)) (now (first .entry)) (logged (now (log .entry)) m) (now (log .exit)) r ⌝ }
+    ensures { λ r. ⌜ FinalsAndRules (now (text .entry)) count (now (work .entry)) (now (work .exit)) (now (first .entry)) rules (logged (now (log .entry)) m) (now (log .exit)) r ⌝ }
 {
-    names(text, work, count, first, m + wrong);
+    names(text, work, count, first, m + wrong, rules);
     let base = text.len() + 1;
     let n = finals::finals(text, work, count, 4 * base, 5 * base, first, log, m);
     pass::ruled(work, count, wrong, log, n)
@@ -70,8 +97,8 @@ fn diagnose(text: &[u8], work: &mut [u32], count: usize, log: &mut [u32]) -> Ass
     let s = survey::survey(work, count, &mut first);
     let n = pass::failed(work, count, s.failures, log, 0);
     let m = pass::declared(work, count, s.names, log, n);
-    let errors = finals_and_rules(text, work, count, &first, s.wrong, log, m);
     let rules = s.rules;
+    let errors = finals_and_rules(text, work, count, &first, s.wrong, rules, log, m);
     Assembled {
         first,
         rules,

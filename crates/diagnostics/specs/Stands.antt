@@ -35,7 +35,7 @@ pub record Started (text : List ℕ) (count : ℕ) (w₀ w : List ℕ) (s : Sear
   pub errors : s .errors ≡ length (diagnosticsOf (readLines (decode text)))
   pub rules : s .rules ≡ length (machineOf (readLines (decode text)) .rules)
   pub entered : Entered count w₀ w
-  pub named : Named text count w (s .first) (s .errors)
+  pub named : Named text count w (s .first) (s .errors) (s .rules)
   pub first : s .first ≡ declarations count undeclared (entries (rows count w))
   pub stands : Stands text w s
   pub whole : pending text w s ≡ recordsOf (diagnosticsOf (readLines (decode text)))

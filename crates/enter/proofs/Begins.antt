@@ -11,7 +11,7 @@ use Rattle.lexer.specs.Words.{flat, onto}
 use Rattle.language.specs.Assembly.{Diagnostic, diagnosticsOf}
 use Rattle.language.specs.Outcome.{refusalOf}
 use Rattle.assembler.specs.Entered.{entered}
-use Rattle.assembler.specs.Assembled.{Tokenized}
+use Rattle.assembler.specs.Assembled.{Tokenized, hasStates}
 use Rattle.diagnostics.specs.declared.Search.{Search}
 use Rattle.diagnostics.specs.Stands.{Started}
 use Rattle.answered.specs.Ready.{linesOf, Ready}
@@ -30,7 +30,7 @@ module _ (t w : List ℕ) (a : refusalOf t (length w) ≡ none) (count : ℕ) (w
       room = omega (arith, st .entered .size, read-in .room);
       many = n;
       row = st .entered .row ∙ ap entered (read-in .row);
-      names = st .named .sound (st .errors ∙ ap length z);
+      names = λ y. st .named .sound (st .errors ∙ ap length z) (ap (hasStates count (s .first)) (st .rules) ∙ y);
       declared = st .first;
       none-found = z;
     }

@@ -1,5 +1,6 @@
 -- For the row of a text without diagnostics: what the calls of the inference ask of work holds, and the sections that they store are those of the language's machine.
 use mathlib.Core.Path.{_≡_, refl, ap, _∙_}
+use mathlib.Core.Bool.{false}
 use mathlib.Core.List.{List, [], _∷_}
 use mathlib.Core.Option.{Option, none, some}
 use Prim.Native.Nat.{ℕ, _+_, _*_, _≤_, _<_, _^_}
@@ -23,6 +24,7 @@ use Rattle.assembler.specs.Entries.{Entry, entries}
 use Rattle.assembler.specs.Feeds.{Fed}
 use Rattle.assembler.specs.Declarations.{undeclared}
 use Rattle.assembler.specs.Finals.{Interned}
+use Rattle.assembler.specs.Assembled.{hasStates}
 use Rattle.assembler.proofs.Rows.{length-rows}
 use Rattle.assembler.proofs.Means.{AllMean}
 use Rattle.assembler.proofs.MarkLaws.{first-low}
@@ -32,7 +34,7 @@ use Rattle.alphabet.specs.Alphabets.{gammaCodes, gammaWords, sigmaWords}
 use Rattle.shown.proofs.Shows.{Mentions}
 use Rattle.inferred.proofs.NameMarks.{state-word}
 use Rattle.inferred.proofs.Firsts.{firsts, input-at}
-use Rattle.inferred.proofs.StatesInferred.{finals-inferred, states-inferred}
+use Rattle.inferred.proofs.StatesInferred.{Stateless, stateless, finals-inferred, states-inferred, none-stored, none-listed}
 use Rattle.inferred.proofs.AlphabetsInferred.{blank-inferred, gamma-inferred, sigma-inferred}
 use Rattle.inferred.proofs.InputInferred.{input-inferred}
 
@@ -73,6 +75,17 @@ module _ (text : List ℕ) (X : Entry → Item Place → Type 0) (ts : List Toke
   pub states-of-text : (size count : ℕ) (w : List ℕ) → rows count w ≡ ts → Interned text ts (4 * size) w → count ≤ size → 6 * size ≤ length w → count < 2 ^ 31
       → stateSection size ts first w ≡ L.flat L.stateWords (I.machineOf ls .states)
   states-of-text size count w row names narrow room short = states-inferred text X ts says few ls all fine chosen size count w row names narrow room short
+
+  -- where there can be none, nothing is stored, and the machine has none
+  module _ (none-there : hasStates (length ts) first (length (I.machineOf ls .rules)) ≡ false) where
+    lacks : Stateless (length ts) first (length (I.machineOf ls .rules))
+    lacks = stateless (length ts) first (length (I.machineOf ls .rules)) none-there
+
+    pub no-section-of-text : (size : ℕ) (w : List ℕ) → stateSection size ts first w ≡ []
+    no-section-of-text size w = none-stored text X ts says few ls all fine chosen lacks size w
+
+    pub no-states-of-text : L.flat L.stateWords (I.machineOf ls .states) ≡ []
+    no-states-of-text = none-listed text X ts says few ls all fine chosen lacks
 
   pub finals-of-text : finalSection ts (getD first 10 0) ≡ L.flat L.placeWords (I.machineOf ls .finals)
   finals-of-text = finals-inferred text X ts says few ls all fine chosen

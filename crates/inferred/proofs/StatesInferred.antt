@@ -16,21 +16,22 @@ use Rattle.lexer.specs.Text.{same}
 use Rattle.tokens.specs.declared.Token.{Token}
 use Rattle.parser.specs.Row.{peek}
 use Rattle.parser.specs.Views.{isState}
-use Rattle.language.specs.Machine.{Located, State}
+use Rattle.language.specs.Machine.{Located, Rule, State}
 use Rattle.language.specs.Lines.{Item, Line}
 use Rattle.language.specs.Assembly as A
 use Rattle.language.specs.Infer as I
 use Rattle.language.specs.Layout as L
-use Rattle.language.proofs.Every.{Every}
-use Rattle.language.proofs.Counts.{Fits, Chosen, kept-fits}
+use Rattle.language.proofs.Every.{Every, Filled}
+use Rattle.language.proofs.Counts.{choices-length, expand-length, choices-filled, Fits, Chosen, kept-fits}
 use Rattle.language.proofs.LineUses.{lineMentions, states-from-lines}
 use Rattle.assembler.specs.Rows.{rows, placeOf}
 use Rattle.assembler.specs.Entries.{Entry, entries}
 use Rattle.assembler.specs.Finals.{namesFrom, namesOf, Interned}
+use Rattle.assembler.specs.Assembled.{hasStates}
 use Rattle.assembler.proofs.Means.{AllMean}
 use Rattle.assembler.proofs.FinalsMean.{NameIs, name-place, AllNames, no-names, one-name}
 use Rattle.sheet.specs.Comments.{spanWords}
-use Rattle.infer.specs.Page.{indicesIn}
+use Rattle.infer.specs.Page.{indicesFrom, indicesIn}
 use Rattle.infer.specs.States.{mention, mentions, startName, namesAdd, finals, statesAdd, stateSection, placeAt, finalSection, firstState}
 use Rattle.infer.proofs.SectionLaws.{first-there, first-none}
 use Rattle.shown.proofs.Shows.{StateShows, MentionsShow, Mentions}
@@ -144,10 +145,53 @@ module _ (text : List ℕ) (ts : List Token) where
   unfolding namesOf namesFrom
   names-none f h = ap (namesFrom (suc f)) (drop-of-length-le ts {i = suc f} (omega (arith, ltb-false f (length ts) h)))
 
+  indices-none : (f : ℕ) → ltb f (length ts) ≡ false → indicesIn ts f ≡ []
+  unfolding indicesIn indicesFrom
+  indices-none f h = ap (indicesFrom (suc f)) (drop-of-length-le ts {i = suc f} (omega (arith, ltb-false f (length ts) h)))
+
   pub finals-named : (f : ℕ) (o : Option (Located Place Names)) → At ts f (AllNames text ts (namesOf ts f)) o → AllNames text ts (namesOf ts f) (A.orElse (A.found o) [])
   unfolding A.orElse A.found
   finals-named f none (nowhere h) = subst (λ (l : List ℕ). AllNames text ts l []) (sym (names-none f h)) no-names
   finals-named f (some l) (there h s) = s
+
+-- ---- no states
+-- what a row without them lacks
+pub record Stateless (count : ℕ) (first : List ℕ) (rules : ℕ) : Type 0 where
+  pub no-q : ltb (getD first 5 0) count ≡ false
+  pub no-start : ltb (getD first 9 0) count ≡ false
+  pub no-finals : ltb (getD first 10 0) count ≡ false
+  pub no-rules : rules ≡ 0
+
+pub stateless : (count : ℕ) (first : List ℕ) (rules : ℕ) → hasStates count first rules ≡ false → Stateless count first rules
+unfolding hasStates
+stateless count first rules e =
+    by-test (ltb (getD first 5 0) count) (λ y. absurd (false≢true (sym (rw (y, hasStates) at e))))
+    (λ q. by-test (ltb (getD first 9 0) count) (λ y. absurd (false≢true (sym (rw (q, y, hasStates) at e))))
+    (λ s. by-test (ltb (getD first 10 0) count) (λ y. absurd (false≢true (sym (rw (q, s, y, hasStates) at e))))
+    (λ f. let z : ltb 0 rules ≡ false = rw (q, s, f, hasStates) at e in record { no-q = q; no-start = s; no-finals = f; no-rules = omega (arith, ltb-false 0 rules z) })))
+
+-- each line of rules stands for one at least
+some-rules : {X : Type 0} (l : List X) → Filled l → 0 < length l
+some-rules (x ∷ l) h = omega arith
+some-rules [] h = absurd h
+
+no-lines : (b : ℕ) (rs : List (A.RuleLine Place)) → Every Chosen rs → length (A.expandAll b rs) ≡ 0 → rs ≡ []
+unfolding A.expandAll
+no-lines b [] c e = refl
+no-lines b (r ∷ rs) c e =
+    let more : 0 < length (A.choices (r .raw .read)) = some-rules (A.choices (r .raw .read)) (choices-filled (r .raw .read) (c .0)) in
+    absurd (omega (arith, length-append (A.expand b r) (A.expandAll b rs), expand-length b r, choices-length (r .raw .read)))
+
+no-members : {X : Type 0} (l : List X) → length l ≡ 0 → l ≡ []
+no-members [] e = refl
+no-members (x ∷ l) e = absurd (omega arith)
+
+at-none : {B : Type 0} (ts : List Token) (f : ℕ) (P : B → Type 0) (o : Option (Located Place B)) → At ts f P o → ltb f (length ts) ≡ false → o ≡ none
+at-none ts f P none (nowhere h) e = refl
+at-none ts f P (some l) (there h p) e = absurd (false≢true (sym e ∙ h))
+
+names-nil : (text : List ℕ) (ts : List Token) (js : List ℕ) → AllNames text ts js [] → js ≡ []
+names-nil text ts [] no-names = refl
 
 -- ---- the section of finals
 module _ (text : List ℕ) (ts : List Token) where
@@ -270,6 +314,34 @@ module _ (text : List ℕ) (X : Entry → Item Place → Type 0) (ts : List Toke
     states-inferred =
         by-first (A.first (λ p. p .states) is) (states-at text X ts says few ls all)
         ∙ ap (λ (f : Names). L.flat L.stateWords (I.marked (I.member I.sameName f) I.nothing (A.orElse (A.found (A.first (λ p. p .states) is)) (I.inferStates start (I.machineOf ls .rules) f)))) (sym same-finals)
+
+  -- where there can be none, nothing is stored, whatever stands in work, and the machine has none
+  module _ (none-there : Stateless (length ts) first (length (I.machineOf ls .rules))) where
+    no-rule-lines : rules ≡ []
+    unfolding I.machineOf
+    no-rule-lines = no-lines (A.blankOf is) rules chosen (ap (λ (l : List (A.RuleLine Place)). length (A.expandAll (A.blankOf is) l)) (sym (all-kept ls fine)) ∙ none-there .no-rules)
+
+    no-mentions : mentions ts (entries ts) ≡ []
+    no-mentions = names-nil text ts (mentions ts (entries ts)) (subst (λ (rs : List (A.RuleLine Place)). AllNames text ts (mentions ts (entries ts)) (lineMentions rs)) no-rule-lines (mentions-named text ts (entries ts) rules rules-are))
+
+    pub none-stored : (size : ℕ) (w : List ℕ) → stateSection size ts first w ≡ []
+    unfolding stateSection statesAdd startName namesAdd
+    none-stored size w =
+        let v : List ℕ = finals size ts first w in
+        rw (none-there .no-q, none-there .no-start)
+        (ap (λ (l : List ℕ). namesAdd size ts false v (l ++ indicesIn ts (getD first 10 0))) no-mentions ∙ ap (namesAdd size ts false v) (indices-none text ts (getD first 10 0) (none-there .no-finals)))
+
+    pub none-listed : L.flat L.stateWords (I.machineOf ls .states) ≡ []
+    unfolding I.machineOf A.statesIn A.finalsIn A.found A.orElse A.ofOption I.fresh I.inferStates I.mentions I.marked L.flat
+    none-listed =
+        let listed : Option (Located Place Names) → Names = λ f. I.fresh I.sameName I.nothing (A.orElse (A.found f) []) in
+        let words : Option (Located Place Names) → Option (Located Place (Located Place (List ℕ))) → Option (Located Place Names) → List (Rule Place) → List ℕ =
+        λ q s f rs. L.flat L.stateWords (I.marked (I.member I.sameName (listed f)) I.nothing (A.orElse (A.found q) (I.inferStates (A.found s) rs (listed f)))) in
+        let q : A.first (λ p. p .states) is ≡ none = at-none ts _ _ _ (states-at text X ts says few ls all) (none-there .no-q) in
+        let s : A.first (λ p. p .start) is ≡ none = at-none ts _ _ _ (start-at text X ts says few ls all) (none-there .no-start) in
+        let f : A.first (λ p. p .finals) is ≡ none = at-none ts _ _ _ (finals-at text X ts says few ls all) (none-there .no-finals) in
+        let rs : I.machineOf ls .rules ≡ [] = no-members (I.machineOf ls .rules) (none-there .no-rules) in
+        λ i. words (q i) (s i) (f i) (rs i)
 
 -- ---- the first state
 -- a word that was stored

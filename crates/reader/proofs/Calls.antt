@@ -28,7 +28,7 @@ use Rattle.assembler.specs.declared.Assembled.{Assembled}
 use Rattle.assembler.specs.Rows.{rows}
 use Rattle.assembler.specs.Entered.{entered}
 use Rattle.assembler.specs.Records.{recordsOf}
-use Rattle.assembler.specs.Assembled.{Tokenized, Outcome}
+use Rattle.assembler.specs.Assembled.{Tokenized, hasStates, Outcome}
 use Rattle.answered.specs.Ready.{linesOf, Ready}
 use Rattle.answered.proofs.Few.{diagnostics-few}
 use Rattle.answer.specs.declared.Refusal as R
@@ -149,7 +149,7 @@ module _ (t w : List ℕ) (a : refusalOf t (length w) ≡ none) where
           room = omega (arith, o .entered .size, size, room t (length w) a);
           many = n;
           row = o .entered .row ∙ ap entered (tokenized .row);
-          names = o .named .sound (omega arith);
+          names = λ y. o .named .sound (omega arith) (ap (hasStates count (r .first)) (o .rules) ∙ y);
           declared = o .first;
           none-found = none-found;
         }

@@ -1,28 +1,31 @@
 -- The sections of the sheet one behind the other: what each asks of those before it, and what they leave together.
 use mathlib.Core.Path.{_≡_, refl, sym, ap, subst, _∙_}
+use mathlib.Core.Bool.{Bool, true, false}
 use mathlib.Core.List.{List}
 use Prim.Native.Nat.{ℕ, _+_, _-_, _*_, _≤_, _<_, _^_}
 use native.Mathlib.Omega.{arith}
 use lib.ListN.{length, getD}
 use Rattle.tokens.specs.declared.Token.{Token}
+use Rattle.language.specs.Infer.{machineOf}
 use Rattle.language.specs.Layout as L
 use Rattle.assembler.specs.Rows.{rows}
 use Rattle.assembler.specs.Feeds.{Fed, CommentsLast}
+use Rattle.assembler.specs.Assembled.{hasStates}
 use Rattle.sheet.specs.Stored.{Stored}
 use Rattle.sheet.specs.Comments.{textWords, header, trailing}
 use Rattle.sheet.specs.Rules.{ruleLengths}
-use Rattle.sheet.proofs.Writes.{stored-append, stored-length}
+use Rattle.sheet.proofs.Writes.{stored-none, stored-append, stored-length}
 use Rattle.infer.specs.Page.{Kept}
 use Rattle.infer.specs.States.{Scratch, stateSection, finalSection}
 use Rattle.alphabet.specs.Codes.{held, Codes}
 use Rattle.alphabet.specs.Alphabets.{gammaCodes, sigmaWords, gammaWords}
 use Rattle.infer.proofs.Pages.{kept-rows}
 use Rattle.inferred.proofs.CodesFit.{codes-fit}
-use Rattle.answered.specs.Ready.{Ready}
+use Rattle.answered.specs.Ready.{linesOf, Ready}
 use Rattle.answered.specs.Sections.{Sections, sectionsOf, joined}
 use Rattle.infer.proofs.Widths.{states-width, finals-width}
 use Rattle.alphabet.proofs.SymbolWidths.{sigma-width, gamma-width}
-use Rattle.answered.proofs.Ties.{few, row-size, fed, last, scratch, ties}
+use Rattle.answered.proofs.Ties.{few, row-size, fed, last, scratch, no-section, ties}
 use Rattle.answered.proofs.Sheets as T
 use Rattle.reader.specs.Sheet.{endsOf, Written}
 
@@ -38,8 +41,16 @@ module _ (text : List ℕ) (count : ℕ) (w first : List ℕ) (r : Ready text co
   abbrev ts : List Token
   ts = rows count w
 
-  pub states-scratch : Scratch (length text + 1) count w
-  states-scratch = scratch text count w first r
+  -- the states, if there can be some
+  module _ (rules : ℕ) (b : Bool) (counted : rules ≡ length (machineOf (linesOf text) .rules)) (asked : b ≡ hasStates count first rules) where
+    said : hasStates count first (length (machineOf (linesOf text) .rules)) ≡ b
+    said = ap (hasStates count first) (sym counted) ∙ sym asked
+
+    pub states-scratch : b ≡ true → Scratch (length text + 1) count w
+    states-scratch y = scratch text count w first r (said ∙ y)
+
+    pub no-states-stored : b ≡ false → (o : List ℕ) → Stored (stateSection (length text + 1) (rows count w) first w) o 0 o 0
+    no-states-stored n o = stored-none (stateSection (length text + 1) (rows count w) first w) o 0 (no-section text count w first r (said ∙ n))
 
   pub states-room : 0 + 9 * count + 3 < 2 ^ 64
   states-room = omega (arith, few text count w first r, r .short)

@@ -75,6 +75,9 @@ module _ (text : List ℕ) (count : ℕ) (w first : List ℕ) (r : Ready text co
   pub head-room : (m n : ℕ) → m ≡ length w → n ≡ m → 4 * count ≤ n
   head-room m n e f = omega (arith, blank-room)
 
+  pub size-fits : length text + 1 < 2 ^ 64
+  size-fits = omega (arith, r .short)
+
   -- where expanding keeps the entries, and the members
   pub entries-fit : 4 * (length text + 1) < 2 ^ 64
   entries-fit = omega (arith, r .short)

@@ -58,7 +58,7 @@ pub fn machine(
 {
     let first = a.first;
     let blank = head::blank_at(work, count, first[8]);
-    let m = sections::sections(text, work, count, &first, blank, sheet);
+    let m = sections::sections(text, work, count, &first, a.rules, blank, sheet);
     let e = m.ends;
     let needed = e.trailing + m.rules;
     if sheet.len() < needed {

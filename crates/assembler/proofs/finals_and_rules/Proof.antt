@@ -19,4 +19,4 @@ finals-and-rules-spec =
     (λ c κs. let f = c .before .before .before .before .before .before in let n = f .before .before .before .before .before in let z = n .before .before .before .before .before in (rules-room _ _ _ _ _ (z .pre .0) (n .names .ensures .0) _ (f .finals .ensures .0) _ _ _ (f .finals .ensures .1), rules-low _ _ _ _ _ (z .pre .0) (n .names .ensures .0) _ (f .finals .ensures .0) _ _ _ (f .finals .ensures .1), rules-few _ _ _ _ _ (z .pre .0) (n .names .ensures .0) _ (f .finals .ensures .0) _ _ _ (f .finals .ensures .1) (z .pre .2), rules-fed _ _ _ _ _ (z .pre .0) (n .names .ensures .0) _ (f .finals .ensures .0) _ _ _ (f .finals .ensures .1) (z .pre .3), rules-wrong _ _ _ _ _ (z .pre .0) (n .names .ensures .0) _ (f .finals .ensures .0) _ _ _ (f .finals .ensures .1) _ (z .pre .4)))
     (λ c. search needs)
     (λ c. search needs)
-    (λ c. let r = c .before .before in let f = r .before .before .before .before .before .before .before in let n = f .before .before .before .before .before in let z = n .before .before .before .before .before in finals-and-rules _ _ _ _ _ (z .pre .0) (n .names .ensures .0) _ (f .finals .ensures .0) _ _ _ (f .finals .ensures .1) _ (z .pre .4) _ _ (n .names .ensures .1) (r .ruled .ensures)))
+    (λ c. let r = c .before .before in let f = r .before .before .before .before .before .before .before in let n = f .before .before .before .before .before in let z = n .before .before .before .before .before in finals-and-rules _ _ _ _ _ (z .pre .0) (n .names .ensures .0) _ (f .finals .ensures .0) _ _ _ (f .finals .ensures .1) _ (z .pre .4) _ _ _ (n .names .ensures .1) (r .ruled .ensures)))

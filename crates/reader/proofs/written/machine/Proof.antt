@@ -1,6 +1,6 @@
 -- `reader::written::machine` meets its contract: the sections and the rules behind them are the machine's sheet, or need more words than it has.
 use Rattle.sheet.proofs.Writes.{stored-length}
-use Rattle.reader.proofs.SheetLaws.{blank-room, head-room, sheet-long, rules-fit, needed-fits, too-short, entries-fit, members-fit, expand-tokens, expand-entries, expand-members, expand-small, expand-room, ordered, clear-room, whole}
+use Rattle.reader.proofs.SheetLaws.{blank-room, head-room, sheet-long, rules-fit, needed-fits, too-short, size-fits, entries-fit, members-fit, expand-tokens, expand-entries, expand-members, expand-small, expand-room, ordered, clear-room, whole}
 use mathlib.Core.Path.{_∙_}
 use borrow.Author.Needs.{needs}
 use Rattle.reader.proofs.written.machine.Statement.{statement}
@@ -18,7 +18,7 @@ machine-spec =
     (λ c. search needs)
     (λ c. search needs)
     (λ c. let k = c .before .before in let s = k .before .before .before .before .before .before .before .before .before .before in let b = s .before .before .before .before in let z = b .before .before .before .before .before .before in λ l. too-short _ _ _ _ (z .pre .0) _ (b .blank-at .ensures) _ _ _ _ (s .sections .ensures .0) (s .sections .ensures .1) (s .sections .ensures .2) _ (s .sections .ensures .3) (search needs) _ (k .clear .ensures) l)
-    (λ c. search needs)
+    (λ c. record { fits = size-fits _ _ _ _ (c .before .before .before .before .before .before .before .before .before .before .before .before .before .before .before .before .before .before .pre .0) })
     (λ c. record { fits = entries-fit _ _ _ _ (c .before .before .before .before .before .before .before .before .before .before .before .before .before .before .before .before .before .before .before .pre .0) })
     (λ c. record { fits = members-fit _ _ _ _ (c .before .before .before .before .before .before .before .before .before .before .before .before .before .before .before .before .before .before .before .pre .0) })
     (λ c κs. let s = c .before .before .before .before .before .before .before .before .before .before in let b = s .before .before .before .before in let z = b .before .before .before .before .before .before in (expand-tokens _ _ _ _ (z .pre .0) _ (b .blank-at .ensures) _ _ _ _ (s .sections .ensures .0) (s .sections .ensures .1) (s .sections .ensures .2), expand-entries _ _ _ _ (z .pre .0) _ (b .blank-at .ensures) _ _ _ _ (s .sections .ensures .0) (s .sections .ensures .1) (s .sections .ensures .2), expand-members _ _ _ _ (z .pre .0) _ (b .blank-at .ensures) _ _ _ _ (s .sections .ensures .0) (s .sections .ensures .1) (s .sections .ensures .2), expand-small _ _ _ _ (z .pre .0) _ (b .blank-at .ensures) _ _ _ _ (s .sections .ensures .0) (s .sections .ensures .1) (s .sections .ensures .2), expand-room _ _ _ _ (z .pre .0) _ (b .blank-at .ensures) _ _ _ _ (s .sections .ensures .0) (s .sections .ensures .1) (s .sections .ensures .2)))
