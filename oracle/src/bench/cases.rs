@@ -16,7 +16,17 @@ pub struct Case {
     pub sizes: &'static [usize],
     /// Whether the sheet is lent in full; otherwise it has no words, and the call is refused.
     pub sheet: bool,
+    /// Whether the original is run on it.
+    pub rust: bool,
+    /// A case whose texts are read in turn with this one's, to be compared with.
+    pub beside: Option<&'static Case>,
 }
+
+/// As many tapes as fit, each with one symbol: what the text of refusal-6 would cost if it had no sets and were read.
+const SINGLE_TAPES: Case = Case {
+    rust: false,
+    ..growing("single-tapes", single_tapes)
+};
 
 /// The beaver with five states, as an entry of a list of machines.
 const BEAVER: &str = "\
@@ -63,7 +73,7 @@ pub const CASES: &[Case] = &[
         pieces("F={a", |_| ",a".into(), "}\n", size)
     }),
     growing("second", |size| fill("tapes=1\n", size)),
-    growing("arity", |size| read_sets(0, 1, (size - 20) / 6)),
+    growing("arity", single_tapes),
     growing("dropped", dropped),
     growing("unterminated", |size| {
         pieces("machine \"", |_| "a".into(), "", size)
@@ -90,6 +100,9 @@ pub const CASES: &[Case] = &[
     }),
     Case {
         sheet: false,
+        // The original expands all rules, which no memory holds.
+        rust: false,
+        beside: Some(&SINGLE_TAPES),
         ..growing("refusal-6", |size| read_sets(18, 2, (size - 240) / 6))
     },
 ];
@@ -100,11 +113,18 @@ const fn of_sizes(name: &'static str, sizes: &'static [usize], text: fn(usize) -
         text,
         sizes,
         sheet: true,
+        rust: true,
+        beside: None,
     }
 }
 
 const fn growing(name: &'static str, text: fn(usize) -> Vec<u8>) -> Case {
     of_sizes(name, GROWING, text)
+}
+
+/// One rule with as many tapes as fit, each with one symbol.
+fn single_tapes(size: usize) -> Vec<u8> {
+    read_sets(0, 1, (size - 20) / 6)
 }
 
 /// Rules of a table with eight symbols a state, in the order of the states; each goes to a state near its own.

@@ -10,6 +10,7 @@ mod counts;
 mod pages;
 mod sides;
 
+use std::iter;
 use std::time::Duration;
 
 use cases::{CASES, Case};
@@ -57,6 +58,7 @@ fn case(name: &str) -> Result<&'static Case, String> {
 
 /// A text that is measured, with the times of the calls on it.
 struct Text {
+    case: &'static Case,
     bench: Bench,
     expected: Expected,
     samples: [Vec<f64>; 3],
@@ -66,10 +68,11 @@ struct Text {
 }
 
 impl Text {
-    fn new(case: &Case, size: usize, pages: Pages) -> Self {
+    fn new(case: &'static Case, size: usize, pages: Pages) -> Self {
         let text = text(case, size);
         let expected = Expected::of(case, &text);
         Self {
+            case,
             bench: Bench::new(text, expected.lent, pages),
             expected,
             samples: Default::default(),
@@ -79,9 +82,9 @@ impl Text {
     }
 
     /// A sample of each side in turn.
-    fn round(&mut self, case: &Case) {
+    fn round(&mut self) {
         for side in Side::ALL {
-            if Bench::runs(case, side) {
+            if Bench::runs(self.case, side) {
                 let calls = &mut self.calls[side as usize];
                 let seconds = sample(&mut self.bench, side, *calls);
                 self.samples[side as usize].push(seconds);
@@ -105,6 +108,7 @@ impl Text {
 
     fn measured(self) -> Measured {
         Measured {
+            case: self.case.name,
             bytes: self.bench.text.len(),
             rules: self.expected.rules,
             diagnostics: self.expected.diagnostics,
@@ -116,6 +120,7 @@ impl Text {
 
 /// What was measured of a text: the median of each side, and how many rounds there were.
 struct Measured {
+    case: &'static str,
     bytes: usize,
     rules: u64,
     diagnostics: u64,
@@ -156,15 +161,23 @@ pub fn times(options: &Options<'_>) -> Result<bool, String> {
             if left_out.is_some() {
                 break;
             }
-            let mut text = Text::new(case, size, options.pages);
-            same &= agrees(case, &mut text.bench, &text.expected);
-            text.round(case);
-            texts.push(text);
+            for case in iter::once(case).chain(case.beside) {
+                let mut text = Text::new(case, size, options.pages);
+                same &= agrees(&mut text);
+                text.round();
+                texts.push(text);
+            }
         }
-        measure(case, &mut texts);
+        measure(&mut texts);
         let measured: Vec<Measured> = texts.into_iter().map(Text::measured).collect();
-        for row in &measured {
-            print_row(case, row, &measured[0]);
+        for case in iter::once(case).chain(case.beside) {
+            let rows: Vec<&Measured> = measured
+                .iter()
+                .filter(|row| row.case == case.name)
+                .collect();
+            for row in &rows {
+                print_row(row, rows[0]);
+            }
         }
         if let Some((size, seconds)) = left_out {
             println!(
@@ -188,30 +201,30 @@ fn too_slow(last: &Text, size: usize) -> Option<(usize, f64)> {
 }
 
 /// Whether the reader answers as the original does. The buffers are in use from then on.
-fn agrees(case: &Case, bench: &mut Bench, expected: &Expected) -> bool {
-    if !Bench::runs(case, Side::Read) {
+fn agrees(text: &mut Text) -> bool {
+    if !Bench::runs(text.case, Side::Read) {
         return true;
     }
-    let Kept::Answer(found) = bench.call(Side::Read) else {
+    let Kept::Answer(found) = text.bench.call(Side::Read) else {
         unreachable!("the port answers in words");
     };
-    let same = found == expected.answer;
+    let same = found == text.expected.answer;
     if !same {
         println!(
             "DIFFERENCE: {}: {found:?}, expected {:?}",
-            case.name, expected.answer
+            text.case.name, text.expected.answer
         );
     }
     same
 }
 
-/// Rounds over all texts of a case, behind the first, which each has had: what slows the machine for a while slows all sizes.
-fn measure(case: &Case, texts: &mut [Text]) {
+/// Rounds over all texts, behind the first, which each has had: what slows the machine for a while slows all of them.
+fn measure(texts: &mut [Text]) {
     let started = clock::now();
     let mut rounds = 1;
     while rounds < ROUNDS || clock::now() - started < BUDGET {
         for text in texts.iter_mut().filter(|text| text.first_round() < SLOW) {
-            text.round(case);
+            text.round();
         }
         if texts.iter().all(|text| text.first_round() >= SLOW) {
             return;
@@ -236,7 +249,7 @@ fn median(mut samples: Vec<f64>) -> Option<f64> {
 }
 
 /// A row of the table; growth is left out at the first size.
-fn print_row(case: &Case, measured: &Measured, first: &Measured) {
+fn print_row(measured: &Measured, first: &Measured) {
     let growth = |side| {
         let grown = measured.per_byte(side)? / first.per_byte(side)?;
         (measured.bytes > first.bytes).then_some(grown)
@@ -254,7 +267,7 @@ fn print_row(case: &Case, measured: &Measured, first: &Measured) {
     ];
     println!(
         "| {} | {} | {} | {} | {} | {} |",
-        case.name,
+        measured.case,
         measured.bytes,
         measured.rules,
         measured.diagnostics,

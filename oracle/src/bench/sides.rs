@@ -128,8 +128,7 @@ impl Bench {
     /// Whether the side is linked and its call comes to an end.
     pub fn runs(case: &Case, side: Side) -> bool {
         match side {
-            // The original expands all rules, which no memory holds where the sheet is not lent.
-            Side::Rust => case.sheet,
+            Side::Rust => case.rust,
             Side::Read => foreign::read().is_some(),
             Side::Write => foreign::write().is_some(),
         }
