@@ -3,6 +3,7 @@
 mod damaged;
 mod examples;
 mod filled;
+mod glyphs;
 mod grammar;
 pub mod limits;
 mod long;
@@ -45,10 +46,12 @@ pub enum Family {
     Listed,
     /// Texts of many lines.
     Large,
+    /// Many different characters in rules and in the input.
+    Glyphs,
 }
 
 impl Family {
-    pub const ALL: [Self; 14] = [
+    pub const ALL: [Self; 15] = [
         Self::Grammar,
         Self::Damaged,
         Self::Soup,
@@ -63,6 +66,7 @@ impl Family {
         Self::Named,
         Self::Listed,
         Self::Large,
+        Self::Glyphs,
     ];
 
     /// Those of which answers are stored for the gate.
@@ -92,6 +96,7 @@ impl Family {
             Self::Named => "named",
             Self::Listed => "listed",
             Self::Large => "large",
+            Self::Glyphs => "glyphs",
         }
     }
 
@@ -118,6 +123,7 @@ impl Family {
             Self::Named => spliced::named(&mut self.random(index, seed)),
             Self::Listed => long::listed(&mut self.random(index, seed)),
             Self::Large => long::large(&mut self.random(index, seed)),
+            Self::Glyphs => glyphs::text(&mut self.random(index, seed)),
         }
     }
 
@@ -138,7 +144,7 @@ impl Family {
             Self::Short | Self::Lines => 15,
             Self::Limits => 100,
             Self::Changed | Self::Joined | Self::Odd | Self::Filled | Self::Spliced => 10,
-            Self::Named | Self::Listed => 1,
+            Self::Named | Self::Listed | Self::Glyphs => 1,
             Self::Large => 0,
         }
     }
