@@ -6,6 +6,7 @@ use Prim.Native.Nat.{ℕ, zero, suc, _+_, _-_, _*_, _≤_, _<_, _^_, min}
 use native.Mathlib.Omega.{arith}
 use native.Mathlib.Nat.{mul-le-mul, min-le-right, min-eq-left, min-eq-right}
 use native.Mathlib.Numerals.{add-one}
+use native.Mathlib.Decide.{decLt}
 use mir.Syntax.{w64}
 use mir.Val.{Fits}
 use borrow.Author.Tests.{le-leb, lt-leb, eq-eqb, ne-eqb, leb-true}
@@ -130,9 +131,35 @@ combinations-kept s (t ∷ ts) h = go (eqb (t .kind) 7) refl h (combinations-kep
     go true e h rest = absurd (false≢true (sym h))
     go false e h rest = rest h ∙ counted-kept s t e
 
+-- four tokens of which none is a `}`
+kind-not : (k n : ℕ) (ts : List Token) (i : ℕ) → (peek ts i .kind ≡ k → ⊥) → hasKind k (take n (drop (suc i) ts)) ≡ false → hasKind k (take (suc n) (drop i ts)) ≡ false
+unfolding hasKind
+kind-not k n ts i h rest = go (decLt i (length ts))
+  where
+    go : Dec (i < length ts) → hasKind k (take (suc n) (drop i ts)) ≡ false
+    go (yes l) = ap (λ (l : List Token). hasKind k (take (suc n) l)) (drop-cons ts i ended l) ∙ ap (λ (b : Bool). elim b [ true ↦ true | false ↦ hasKind k (take n (drop (suc i) ts)) ]) (ne-eqb (peek ts i .kind) k h) ∙ rest
+    go (no l) = ap (λ (l : List Token). hasKind k (take (suc n) l)) (drop-of-length-le ts {i = i} (omega arith))
+
+module _ (ts : List Token) (i : ℕ) (a b c d : Token) (at : a ≡ peek ts i) (bt : b ≡ peek ts (i + 1)) (ct : c ≡ peek ts (i + 2)) (dt : d ≡ peek ts (i + 3)) where
+  pub four-lack : (a .kind ≡ 7 → ⊥) → (b .kind ≡ 7 → ⊥) → (c .kind ≡ 7 → ⊥) → (d .kind ≡ 7 → ⊥) → hasKind 7 (take 4 (drop i ts)) ≡ false
+  unfolding hasKind
+  four-lack f g h l =
+      let kind : (t : Token) (j k : ℕ) → t ≡ peek ts j → j ≡ k → (t .kind ≡ 7 → ⊥) → peek ts k .kind ≡ 7 → ⊥ = λ t j k e q n z. n (ap (λ (t : Token). t .kind) e ∙ ap (λ (m : ℕ). peek ts m .kind) q ∙ z) in
+      kind-not 7 3 ts i (kind a i i at refl f) (kind-not 7 2 ts (suc i) (kind b (i + 1) (suc i) bt (omega arith) g)
+      (kind-not 7 1 ts (suc (suc i)) (kind c (i + 2) (suc (suc i)) ct (omega arith) h) (kind-not 7 0 ts (suc (suc (suc i))) (kind d (i + 3) (suc (suc (suc i))) dt (omega arith) l) refl)))
+
+pub plain-here : (ts : List Token) (from to : ℕ) (b : Bool) → to - 4 ≡ from → 4 ≤ to → (b ≡ true → hasKind 7 (take 4 (drop from ts)) ≡ false) → b ≡ true → hasKind 7 (take (to - from) (drop from ts)) ≡ false
+plain-here ts from to b e h f y = let q : to - from ≡ 4 = omega arith in ap (λ (n : ℕ). hasKind 7 (take n (drop from ts))) q ∙ f y
+
+pub plain-not : (t : Bool) → false ≡ true → t ≡ false
+plain-not t e = absurd (false≢true e)
+
 pub combinations-none : (b : Bool) (ts : List Token) → b ≡ hasKind 7 ts → b ≡ false → 1 ≡ combinations ts
 unfolding combinations
 combinations-none b ts e f = sym (combinations-kept (record { product = 1; size = 0 }) ts (sym e ∙ f))
+
+pub combinations-plain : (b : Bool) (ts : List Token) → (b ≡ true → hasKind 7 ts ≡ false) → b ≡ true → 1 ≡ combinations ts
+combinations-plain b ts f y = combinations-none false ts (sym (f y)) refl
 
 -- the walk has come to the index i
 pub record Counting (count : ℕ) (work : List ℕ) (from to : ℕ) (s : Sets) (i : ℕ) : Type 0 where

@@ -1,12 +1,13 @@
 // How many rules a line stands for, and the diagnostics of rules.
 ghost use mathlib.Core.Path.{_≡_};
+ghost use mathlib.Core.Bool.{true, false};
 ghost use Prim.Native.Nat.{_+_, _*_, _-_, _<_, _≤_, _^_};
 ghost use lib.ListN.{length, take, drop};
 ghost use Rattle.diag.specs.Log.{logged, appendAll};
 ghost use Rattle.diag.specs.declared.Span.{Span};
 ghost use Rattle.parser.specs.Row.{peek};
 ghost use Rattle.assembler.specs.Rows.{rows, placeOf};
-ghost use Rattle.assembler.specs.Entries.{entryAt, entries};
+ghost use Rattle.assembler.specs.Entries.{entryAt, entries, hasKind};
 ghost use Rattle.assembler.specs.Feeds.{Fed};
 ghost use Rattle.assembler.specs.Rules.{counted, combinations, sameArity, verdict, after, ruleError, ruleErrors, noRules};
 use crate::entry;
@@ -86,7 +87,7 @@ fn counted(s: Sets, t: Token) -> Sets
 }
 
 // The product of the sizes of the sets from an index to before another, cut off above the limit: 1 where none ends there.
-pub fn combinations(work: &[u32], count: usize, from: usize, to: usize) -> usize
+fn product(work: &[u32], count: usize, from: usize, to: usize) -> usize
     requires { ⌜ (4 * count ≤ length (now work)) × (count < 2 ^ 32) ⌝ }
     ensures { λ r. ⌜ r ≡ combinations (take (to - from) (drop from (rows count (now (work .entry))))) ⌝ }
 {
@@ -106,6 +107,55 @@ pub fn combinations(work: &[u32], count: usize, from: usize, to: usize) -> usize
         i += 1;
     }
     s.product
+}
+
+// Whether no set ends at the four tokens from an index on.
+fn lacks_end(work: &[u32], count: usize, from: usize) -> bool
+    requires { ⌜ (4 * count ≤ length (now work)) × (from + 3 < 2 ^ 64) ⌝ }
+    ensures { λ r. ⌜ (r ≡ true → hasKind 7 (take 4 (drop from (rows count (now (work .entry))))) ≡ false) ⌝ }
+{
+    if entry::token_at(work, count, from).kind == kind::R_BRACE {
+        return false;
+    }
+    if entry::token_at(work, count, from + 1).kind == kind::R_BRACE {
+        return false;
+    }
+    if entry::token_at(work, count, from + 2).kind == kind::R_BRACE {
+        return false;
+    }
+    if entry::token_at(work, count, from + 3).kind == kind::R_BRACE {
+        return false;
+    }
+    true
+}
+
+// Whether four tokens stand from an index to before another, and no set ends there: most rules read one symbol, and have it, `)`, `=` and `(` between
+// their states. False says nothing.
+fn is_plain(work: &[u32], count: usize, from: usize, to: usize) -> bool
+    requires { ⌜ 4 * count ≤ length (now work) ⌝ }
+    ensures { λ r. ⌜ (r ≡ true → hasKind 7 (take (to - from) (drop from (rows count (now (work .entry))))) ≡ false) ⌝ }
+{
+    if to < 4 {
+        return false;
+    }
+    if to - 4 != from {
+        return false;
+    }
+    if count < to {
+        return false;
+    }
+    lacks_end(work, count, from)
+}
+
+// The same product, told at once for most rules.
+pub fn combinations(work: &[u32], count: usize, from: usize, to: usize) -> usize
+    requires { ⌜ (4 * count ≤ length (now work)) × (count < 2 ^ 32) ⌝ }
+    ensures { λ r. ⌜ r ≡ combinations (take (to - from) (drop from (rows count (now (work .entry))))) ⌝ }
+{
+    if is_plain(work, count, from, to) {
+        return 1;
+    }
+    product(work, count, from, to)
 }
 
 // Whether a rule's reads, writes and moves are equal in number.
