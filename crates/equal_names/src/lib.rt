@@ -388,8 +388,27 @@ fn soon(text: &[u8], work: &mut [u32], count: usize, a: usize, b: usize, size: u
     by_table(text, work, count, a, b, size, SMALL, SMALL_WINDOW)
 }
 
+// The row of first equal words by a large table: one slot for each token is enough for a list, where every second is a comma, and is less memory to
+// look things up in; where most tokens are words, two for each. False where a window of both is full.
+fn by_large_table(
+    text: &[u8],
+    work: &mut [u32],
+    count: usize,
+    a: usize,
+    b: usize,
+    size: usize,
+) -> bool
+    requires { ⌜ (4 * count ≤ a) × (a + count ≤ b) × (b + size ≤ length (now work)) × (128 ≤ size) × (count < 2 ^ 31) ⌝ }
+    ensures { λ r. ⌜ Tried (Interned (now (text .entry)) (rows count (now (work .entry))) a (now (work .exit))) a (now (work .entry)) (now (work .exit)) r ⌝ }
+{
+    if by_table(text, work, count, a, b, size, count + SMALL, WINDOW) {
+        return true;
+    }
+    by_table(text, work, count, a, b, size, 2 * count + SMALL, WINDOW)
+}
+
 // The row of first equal words, from the word a on; `size` words from b on are free. Names in order need no table; few find room in a small one, which
-// is soon emptied; others in one that has two slots for each token, where there are so many words; else they are sorted.
+// is soon emptied; others in a large one, where there are so many words; else they are sorted.
 pub fn intern(text: &[u8], work: &mut [u32], count: usize, a: usize, b: usize, size: usize)
     requires { ⌜ (4 * count ≤ a) × (a + count ≤ b) × (b + size ≤ length (now work)) × (count ≤ size) × (count < 2 ^ 31) ⌝ }
     ensures { λ _. ⌜ Kept a (now (work .entry)) (now (work .exit)) × Interned (now (text .entry)) (rows count (now (work .entry))) a (now (work .exit)) ⌝ }
@@ -400,7 +419,7 @@ pub fn intern(text: &[u8], work: &mut [u32], count: usize, a: usize, b: usize, s
     if soon(text, work, count, a, b, size) {
         return;
     }
-    if by_table(text, work, count, a, b, size, 2 * count + SMALL, WINDOW) {
+    if by_large_table(text, work, count, a, b, size) {
         return;
     }
     order::by_order(text, work, count, a, b);

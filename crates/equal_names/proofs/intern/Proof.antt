@@ -16,8 +16,6 @@ intern-spec =
     (λ c κs. search laws)
     (λ c. search laws)
     (λ c. search laws)
-    (λ c. search laws)
-    (λ c. search laws)
     (λ c κs. search laws)
     (λ c. search laws)
     (λ c. search laws)
