@@ -36,11 +36,11 @@ pub record Looked (b n : ℕ) (w : List ℕ) (c : ℕ) : Type 0 where
   pub one : slot c < hints b
   pub room : b + n + hints b < length w
 
--- the word that is the hint of c; 0 says that c is not noted
+-- the word that is the hint of c; where it is looked at, 0 says that c is not noted, unless c is 0 itself
 abbrev pub hintOf : List ℕ → ℕ → ℕ
 hintOf w c = getD w (length w - 1 - slot c) 0
 
--- while there is room, each hint other than 0 is a character that is noted, and of each that is noted the hint is not 0
+-- while there is room, each hint other than 0 is a character that is noted, and the hint of each that is noted, but of 0, is not 0
 pub record Hinted (b n : ℕ) (w : List ℕ) : Type 0 where
   pub right : b + n + hints b < length w → (i : ℕ) → length w ≤ i + hints b → (getD w i 0 ≡ 0 → ⊥) → member eqb (held b n w) (getD w i 0) ≡ true
   pub full : (c : ℕ) → Looked b n w c → (c ≡ 0 → ⊥) → member eqb (held b n w) c ≡ true → hintOf w c ≡ 0 → ⊥
