@@ -10,7 +10,7 @@ use chars::Outside;
 pub const MAX_BYTES: usize = 4_194_304;
 
 // Whether a text is admitted.
-#[derive(Drop)]
+#[derive(Clone, Copy)]
 pub enum Admission {
     Admitted,
     Refused(Refusal),

@@ -18,7 +18,7 @@ use tokens::Token;
 const TRANSITION: u32 = 11;
 
 // Where a walk over read sets stands: whether a set is open, and whether its symbols are skipped.
-#[derive(Drop)]
+#[derive(Clone, Copy)]
 pub struct Walk {
     pub inside: bool,
     pub skip: bool,

@@ -76,7 +76,7 @@ fn put_symbol(t: Token, blank: u32, inferred: bool, out: &mut [u32], at: usize) 
 }
 
 // Where a run of symbols ends: the index behind it, and where the sheet goes on.
-#[derive(Drop)]
+#[derive(Clone, Copy)]
 pub struct Run {
     pub next: usize,
     pub at: usize,

@@ -4,7 +4,7 @@ use machine::Head;
 pub mod words;
 
 // Why a call is refused (paper 01, "What a call returns").
-#[derive(Drop)]
+#[derive(Clone, Copy)]
 pub enum Refusal {
     TextTooLong,
     WorkTooShort,
@@ -19,7 +19,7 @@ pub enum Refusal {
 }
 
 // What a reading call answers: a machine's head, the number of diagnostics, or a refusal.
-#[derive(Drop)]
+#[derive(Clone, Copy)]
 pub enum Answer {
     Machine(Head),
     Diagnostics(usize),

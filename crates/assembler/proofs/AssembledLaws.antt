@@ -4,7 +4,7 @@ use mathlib.Core.Bool.{Bool, true, false, cond, not, false≢true}
 use mathlib.Core.List.{List, [], ◌∷◌, ◌++◌, map}
 use Prim.Native.Nat.{ℕ, zero, suc, ◌+◌, ◌*◌, ◌≤◌, ◌<◌, ◌^◌}
 use native.Mathlib.Omega.{arith}
-use borrow.Author.Tests.{lt-ltb, le-ltb, not_true}
+use borrow.Author.Tests.{lt-ltb, le-ltb, not-true}
 use mir.Syntax.{w64}
 use mir.Val.{Fits}
 use lib.Dec.{eqb, ltb}
@@ -119,7 +119,7 @@ module _ (text : List ℕ) (count : ℕ) (w first : List ℕ) (wrong rules f : �
   none_sound h = record { listed = λ l. absurd (omega arith); sound = λ z y. absurd (omega arith) }
 
   pub none_named : (b : Bool) → b ≡ S.has_states count first rules → not b ≡ true → S.Named text count w first wrong rules
-  none_named b t n = record { listed = λ l. absurd (omega arith); sound = λ z y. absurd (false≢true (sym (not_true b n) ∙ t ∙ y)) }
+  none_named b t n = record { listed = λ l. absurd (omega arith); sound = λ z y. absurd (false≢true (sym (not-true b n) ∙ t ∙ y)) }
 
 module _ (text : List ℕ) (count : ℕ) (w₀ : List ℕ) (laid : Laid count (S.words_from (length text)) (S.marks_from (length text)) w₀) where
   module _ (w₁ first : List ℕ) (wrong rules : ℕ) where

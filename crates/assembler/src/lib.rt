@@ -26,7 +26,7 @@ const START: usize = 9;
 const FINAL: usize = 10;
 
 // What assembly finds: the entry of the first declaration of each name, a value that is no index for none; the number of rules; and the number of diagnostics.
-#[derive(Drop)]
+#[derive(Clone, Copy)]
 pub struct Assembled {
     pub first: [u32; 11],
     pub rules: usize,

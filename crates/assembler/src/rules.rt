@@ -24,21 +24,21 @@ const TOO_LARGE: u32 = 9;
 const WRONG_ARITY: u32 = 10;
 
 // The sets that were read: the product of their sizes, cut off above the limit, and the members since the last began.
-#[derive(Drop)]
+#[derive(Clone, Copy)]
 pub struct Sets {
     pub product: usize,
     pub size: usize,
 }
 
 // The rules so far, and whether one was dropped for the limit.
-#[derive(Drop)]
+#[derive(Clone, Copy)]
 pub struct Tally {
     pub rules: usize,
     pub cut: bool,
 }
 
 // What becomes of a line.
-#[derive(Drop)]
+#[derive(Clone, Copy)]
 pub enum Verdict {
     // It is no rule.
     Other,

@@ -14,7 +14,7 @@ use diag::Span;
 use tokens::Token;
 
 // The number of rules, and of the diagnostics of failed lines, of declarations and of rules.
-#[derive(Drop)]
+#[derive(Clone, Copy)]
 pub struct Counts {
     pub rules: usize,
     pub failures: usize,

@@ -7,7 +7,7 @@ ghost use Rattle.chars.specs.Short.{is_tail, is_two, two_code, is_three, plain_t
 ghost use Rattle.chars.specs.Class.{admitted, outside_from, first_outside, plain_up_to, class_of};
 
 // The character at a place: its code point and the place after it; no character; the text's end.
-#[derive(Drop)]
+#[derive(Clone, Copy)]
 pub enum Decoded {
     Char(u32, usize),
     Invalid,
@@ -15,14 +15,14 @@ pub enum Decoded {
 }
 
 // The place of the first character outside the admitted set, if there is one.
-#[derive(Drop)]
+#[derive(Clone, Copy)]
 pub enum Outside {
     At(usize),
     Nowhere,
 }
 
 // The class of a code point, as the lexer asks for it.
-#[derive(Drop)]
+#[derive(Clone, Copy)]
 pub enum Class {
     Letter,
     Digit,

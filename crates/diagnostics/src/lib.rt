@@ -21,7 +21,7 @@ pub const RULES: u32 = 3;
 
 // How far a search has come: what assembly found, the number of the pass, the index of the token to look at, the rules so far and whether one was
 // dropped for the limit.
-#[derive(Drop)]
+#[derive(Clone, Copy)]
 pub struct Search {
     pub count: usize,
     pub first: [u32; 11],
@@ -34,14 +34,14 @@ pub struct Search {
 }
 
 // A diagnostic, and the search behind it.
-#[derive(Drop)]
+#[derive(Clone, Copy)]
 pub struct Found {
     pub search: Search,
     pub diagnostic: Diagnostic,
 }
 
 // One step of a search: the search behind it, and a diagnostic if one was found.
-#[derive(Drop)]
+#[derive(Clone, Copy)]
 pub struct Step {
     pub search: Search,
     pub found: bool,

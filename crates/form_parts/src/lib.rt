@@ -175,7 +175,7 @@ pub fn directions(out: &mut [u8], at: usize, words: &[u32], n: u32) -> usize
 }
 
 // How far an output is, and how many names of a list are written.
-#[derive(Drop)]
+#[derive(Clone, Copy)]
 struct Listed {
     at: usize,
     count: u32,

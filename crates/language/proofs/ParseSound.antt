@@ -3,7 +3,7 @@ use Prim.Native.Nat.{ℕ}
 use mathlib.Core.Bool.{Bool, true, false, ◌||◌, not}
 use mathlib.Core.List.{List, [], ◌∷◌, map}
 use mathlib.Core.Path.{◌≡◌, refl, sym}
-use borrow.Author.Tests.{not_true}
+use borrow.Author.Tests.{not-true}
 use lib.Dec.{eqb}
 use Rattle.lexer.specs.Text.{codes, same}
 use Rattle.lexer.specs.Tokens.{TokenKind, word, number, quoted, str, sign, comment, newline, unterminatedString, unterminatedQuote}
@@ -51,7 +51,7 @@ when_good good false a h = tt
 
 state_in_lem : (k : TokenKind) → GoodKind k → Maybe GoodName (state_in k)
 unfolding state_in
-state_in_lem (word w) h = when_good GoodName (not (same w (codes "_"))) w (λ e. record { name-word = h.0; name_blank = not_true (same w (codes "_")) e; name_fine = h.1 })
+state_in_lem (word w) h = when_good GoodName (not (same w (codes "_"))) w (λ e. record { name-word = h.0; name_blank = not-true (same w (codes "_")) e; name_fine = h.1 })
 state_in_lem (number w) h = tt
 state_in_lem (quoted c) h = tt
 state_in_lem (str s) h = tt

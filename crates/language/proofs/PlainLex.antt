@@ -4,7 +4,7 @@ use mathlib.Core.Bool.{Bool, true, false, not, false≢true}
 use mathlib.Core.List.{List, [], ◌∷◌, ◌++◌}
 use mathlib.Core.Option.{Option, none, some}
 use mathlib.Core.Path.{◌≡◌, refl, ap, ap₂, ◌∙◌, sym, subst}
-use borrow.Author.Tests.{eqb-true, not_true}
+use borrow.Author.Tests.{eqb-true, not-true}
 use lib.Dec.{eqb}
 use lib.ListN.{length, take, drop}
 use lib.Seq.{drop-append_seam}
@@ -133,7 +133,7 @@ pub record IsComment (s : List ℕ) : Type 0 where
 line-all : (s r : List ℕ) → All (λ c. not (eqb c 10)) s → line (s ++ 10 ∷ r) ≡ s
 unfolding line
 line-all [] r a = refl
-line-all (c ∷ s) r a = rw (not_true (eqb c 10) a.0, line) (ap (λ l. c ∷ l) (line-all s r a.1))
+line-all (c ∷ s) r a = rw (not-true (eqb c 10) a.0, line) (ap (λ l. c ∷ l) (line-all s r a.1))
 
 comment_step_lem : (s r : List ℕ) → All (λ c. not (eqb c 10)) s
     → step 0x2F (0x2F ∷ (s ++ 10 ∷ r)) ≡ tok (T.comment (comment_text (trim_end s))) (2 + sizes (trim_end s)) (2 + indent (trim_end s)) 0 (suc (length s))

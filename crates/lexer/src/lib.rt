@@ -14,14 +14,14 @@ mod quick;
 mod scan;
 
 // A half-open range of byte offsets.
-#[derive(Drop)]
+#[derive(Clone, Copy)]
 pub struct Span {
     pub start: u32,
     pub end: u32,
 }
 
 // What stands at a place of the text.
-#[derive(Drop)]
+#[derive(Clone, Copy)]
 pub enum Piece {
     // A token: its kind, its end, its value, and the place to go on from.
     Token(u32, usize, u32, usize),
@@ -32,21 +32,21 @@ pub enum Piece {
 }
 
 // The rest of a line: its end, and its end without the white space before it.
-#[derive(Drop)]
+#[derive(Clone, Copy)]
 pub struct Line {
     pub trimmed: usize,
     pub end: usize,
 }
 
 // A string behind its quote: the place behind the closing quote, or none on the line.
-#[derive(Drop)]
+#[derive(Clone, Copy)]
 pub enum StringEnd {
     Closed(usize),
     Unclosed,
 }
 
 // Where the text goes on, and how many tokens there are.
-#[derive(Drop)]
+#[derive(Clone, Copy)]
 pub struct Cursor {
     pub at: usize,
     pub n: usize,

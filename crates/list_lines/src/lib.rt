@@ -73,7 +73,7 @@ fn is_due(all: bool, last: u32) -> bool
 }
 
 // How far an output is, and how many names of a list are printed.
-#[derive(Drop)]
+#[derive(Clone, Copy)]
 struct Listed {
     at: usize,
     count: u32,

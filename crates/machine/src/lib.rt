@@ -1,14 +1,14 @@
 // The head of a machine that was read (the source's machine.rs and spec.rs), by value.
 
 // A half-open range of byte offsets (paper 01: place).
-#[derive(Drop)]
+#[derive(Clone, Copy)]
 pub struct Span {
     pub start: u32,
     pub end: u32,
 }
 
 // What a machine is used for.
-#[derive(Drop)]
+#[derive(Clone, Copy)]
 pub enum Kind {
     Acceptor,
     Transducer,
@@ -17,14 +17,14 @@ pub enum Kind {
 }
 
 // The order of bits of a binary output.
-#[derive(Drop)]
+#[derive(Clone, Copy)]
 pub enum BitOrder {
     Lsb,
     Msb,
 }
 
 // How the output is read: as a word, by counting a symbol, as a binary number.
-#[derive(Drop)]
+#[derive(Clone, Copy)]
 pub enum Decoder {
     Word,
     Unary(u32),
@@ -32,7 +32,7 @@ pub enum Decoder {
 }
 
 // Which parts were declared.
-#[derive(Drop)]
+#[derive(Clone, Copy)]
 pub struct Declared {
     pub states: bool,
     pub input_alphabet: bool,
@@ -42,7 +42,7 @@ pub struct Declared {
 }
 
 // Where the parts were written, or none: kind and Q as a whole, the others their values.
-#[derive(Drop)]
+#[derive(Clone, Copy)]
 pub struct SourceMap {
     pub kind: Span,
     pub input: Span,
@@ -52,7 +52,7 @@ pub struct SourceMap {
 }
 
 // How many members each section of the sheet has.
-#[derive(Drop)]
+#[derive(Clone, Copy)]
 pub struct Counts {
     pub states: u32,
     pub sigma: u32,
@@ -64,7 +64,7 @@ pub struct Counts {
 }
 
 // The head: places of name and input between their quotes, the place of the start's name, and the rest of what is said once.
-#[derive(Drop)]
+#[derive(Clone, Copy)]
 pub struct Head {
     pub output: Decoder,
     pub name: Span,

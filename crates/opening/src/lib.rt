@@ -11,7 +11,7 @@ use diagnostics::Search;
 
 // Whether the text was admitted; how many diagnostics the log takes: none where it has too few records; the search for them, at its beginning; and the
 // answer.
-#[derive(Drop)]
+#[derive(Clone, Copy)]
 pub struct Opened {
     pub admitted: bool,
     pub errors: usize,

@@ -7,7 +7,7 @@ pub mod view;
 use lexer::Span;
 
 // What an item declares, or that it is a transition.
-#[derive(Drop)]
+#[derive(Clone, Copy)]
 pub enum ItemKind {
     Machine,
     Kind,
@@ -24,14 +24,14 @@ pub enum ItemKind {
 }
 
 // The item that a token starts, if it starts one.
-#[derive(Drop)]
+#[derive(Clone, Copy)]
 pub enum Keyword {
     Starts(ItemKind),
     Other,
 }
 
 // What stands between an item's keyword and its value; a transition's value is the whole item.
-#[derive(Drop)]
+#[derive(Clone, Copy)]
 pub enum Lead {
     Equals,
     Nothing,
@@ -39,14 +39,14 @@ pub enum Lead {
 }
 
 // What a parser answers: the index behind what it read and how many entries it read; or a failure's code and span.
-#[derive(Drop)]
+#[derive(Clone, Copy)]
 pub enum Parsed {
     Done(usize, usize),
     Failed(u32, Span),
 }
 
 // A transition's parts: the indices where they begin, and how many entries each list has; all 0 for a declaration.
-#[derive(Drop)]
+#[derive(Clone, Copy)]
 pub struct Parts {
     pub from: usize,
     pub read: usize,
@@ -59,14 +59,14 @@ pub struct Parts {
 }
 
 // An item's value: the index behind it, and its parts; or a failure's code and span.
-#[derive(Drop)]
+#[derive(Clone, Copy)]
 pub enum Value {
     Done(usize, Parts),
     Failed(u32, Span),
 }
 
 // An item: its value's tokens are those from `value` to before `end`; a comment stands at `end` if `newline` is not there.
-#[derive(Drop)]
+#[derive(Clone, Copy)]
 pub struct Item {
     pub kind: ItemKind,
     pub value: usize,
@@ -78,7 +78,7 @@ pub struct Item {
 }
 
 // A line: nothing, only a comment (its index), an item, or a failure's code and span.
-#[derive(Drop)]
+#[derive(Clone, Copy)]
 pub enum Line {
     Blank,
     Comment(usize),

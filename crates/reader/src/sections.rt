@@ -16,7 +16,7 @@ use infer::{finals, states};
 use sheet::comments;
 
 // Where each of the sections ends.
-#[derive(Drop)]
+#[derive(Clone, Copy)]
 pub struct Ends {
     pub states: usize,
     pub sigma: usize,
@@ -27,7 +27,7 @@ pub struct Ends {
 }
 
 // These, and how many words the rules take behind them.
-#[derive(Drop)]
+#[derive(Clone, Copy)]
 pub struct Measured {
     pub ends: Ends,
     pub rules: usize,

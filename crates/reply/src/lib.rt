@@ -4,7 +4,7 @@ use answer::Refusal;
 pub mod words;
 
 // What a writing call answers (paper 01, "What a call returns").
-#[derive(Drop)]
+#[derive(Clone, Copy)]
 pub enum WriteAnswer {
     // The length of the form, which stands at the output's front.
     Written(usize),

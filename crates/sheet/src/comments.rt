@@ -15,7 +15,7 @@ use lexer::kind;
 use tokens::Token;
 
 // The comments that wait for an item: whether an item or failed line came earlier, where they begin, and where the block that goes on begins.
-#[derive(Drop)]
+#[derive(Clone, Copy)]
 pub struct Pending {
     pub seen: bool,
     pub from: usize,
@@ -170,7 +170,7 @@ fn header_of(
 }
 
 // Where the header comments end, what is pending behind all lines, and how many words the rules take.
-#[derive(Drop)]
+#[derive(Clone, Copy)]
 pub struct Headed {
     pub end: usize,
     pub left: Pending,

@@ -15,7 +15,7 @@ use lexer::kind;
 use tokens::Token;
 
 // Where the parts of a rule stand: its line's first token, the next state, the first write, the first move; and how many tapes it has.
-#[derive(Drop)]
+#[derive(Clone, Copy)]
 pub struct Rule {
     pub line: usize,
     pub to: usize,

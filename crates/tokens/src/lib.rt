@@ -6,7 +6,7 @@ ghost use Rattle.tokens.specs.View.{token_in};
 use lexer::Span;
 
 // A token as its four words: kind, start, end and value.
-#[derive(Drop)]
+#[derive(Clone, Copy)]
 pub struct Token {
     pub kind: u32,
     pub start: u32,

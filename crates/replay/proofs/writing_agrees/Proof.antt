@@ -1,6 +1,6 @@
 -- `replay::writing_agrees` meets its contract: the parts that are lent are within their buffers, and the text is the end of the case.
 use Rattle.std.proofs.Common.{arith, length-take, rules}
-use borrow.Author.Tests.{not_false, not_true}
+use borrow.Author.Tests.{not-false, not-true}
 use Rattle.replay.proofs.Laws.{write_unfit, write_long, case_written}
 use Rattle.replay.proofs.writing_agrees.Statement.{statement}
 use Rattle.replay.proofs.writing_agrees.Tie as tie
@@ -10,29 +10,29 @@ writing_agrees_spec =
     tie.close
     (tie.spec
     (λ c κs. search rules)
-    (λ c. search (rules, write_unfit, not_true))
+    (λ c. search (rules, write_unfit, not-true))
     (λ c κs. search rules)
-    (λ c. write_long _ _ _ c.before.before.before.lengths_fit.ensures.0 (not_false _ c.before.before.if1.false) _ c.before.size_at.ensures.0 c.if2.true)
-    (λ c κs. search rules)
-    (λ c κs. search rules)
+    (λ c. write_long _ _ _ c.before.before.before.lengths_fit.ensures.0 (not-false _ c.before.before.if1.false) _ c.before.size_at.ensures.0 c.if2.true)
     (λ c κs. search rules)
     (λ c κs. search rules)
-    (λ c. let k = c.before.before.before.before.before.before.before.lengths_fit.ensures.1 (not_false _ c.before.before.before.before.before.before.if1.false) in omega (arith, k.work, k.log, k.sheet, k.text, c.before.before.before.before.before.size_at.ensures.0, c.before.before.before.size_at2.ensures.0, c.before.before.size_at3.ensures.0, c.before.size_at4.ensures.0, c.size_at5.ensures.0))
-    (λ c. let k = c.before.before.before.before.before.before.before.lengths_fit.ensures.1 (not_false _ c.before.before.before.before.before.before.if1.false) in omega (arith, k.work, k.log, k.sheet, k.text, c.before.before.before.before.before.size_at.ensures.0, c.before.before.before.size_at2.ensures.0, c.before.before.size_at3.ensures.0, c.before.size_at4.ensures.0, c.size_at5.ensures.0))
-    (λ c. let k = c.before.before.before.before.before.before.before.lengths_fit.ensures.1 (not_false _ c.before.before.before.before.before.before.if1.false) in omega (arith, k.work, k.log, k.sheet, k.text, c.before.before.before.before.before.size_at.ensures.0, c.before.before.before.size_at2.ensures.0, c.before.before.size_at3.ensures.0, c.before.size_at4.ensures.0, c.size_at5.ensures.0))
-    (λ c. let k = c.before.before.before.before.before.before.before.lengths_fit.ensures.1 (not_false _ c.before.before.before.before.before.before.if1.false) in omega (arith, k.work, k.log, k.sheet, k.text, c.before.before.before.before.before.size_at.ensures.0, c.before.before.before.size_at2.ensures.0, c.before.before.size_at3.ensures.0, c.before.size_at4.ensures.0, c.size_at5.ensures.0))
-    (λ c. let k = c.before.before.before.before.before.before.before.lengths_fit.ensures.1 (not_false _ c.before.before.before.before.before.before.if1.false) in omega (arith, k.work, k.log, k.sheet, k.text, c.before.before.before.before.before.size_at.ensures.0, c.before.before.before.size_at2.ensures.0, c.before.before.size_at3.ensures.0, c.before.size_at4.ensures.0, c.size_at5.ensures.0))
-    (λ c. let k = c.before.before.before.before.before.before.before.before.lengths_fit.ensures.1 (not_false _ c.before.before.before.before.before.before.before.if1.false) in omega (arith, k.work, k.log, k.sheet, k.text, c.before.before.before.before.before.before.size_at.ensures.0, c.before.before.before.before.size_at2.ensures.0, c.before.before.before.size_at3.ensures.0, c.before.before.size_at4.ensures.0, c.before.size_at5.ensures.0, c.before.before.before.before.before.before.before.before.before.before.before.before.before.before.before.requires.0.work, c.before.before.before.before.before.before.before.before.before.before.before.before.before.before.before.requires.0.log, c.before.before.before.before.before.before.before.before.before.before.before.before.before.before.before.requires.0.sheet, c.before.before.before.before.before.before.before.before.before.before.before.before.before.before.before.requires.1, c.before.before.before.before.before.if2.false))
-    (λ c. let k = c.before.before.before.before.before.before.before.before.before.lengths_fit.ensures.1 (not_false _ c.before.before.before.before.before.before.before.before.if1.false) in simp length-take (omega (arith, k.work, k.log, k.sheet, k.text, c.before.before.before.before.before.before.before.size_at.ensures.0, c.before.before.before.before.before.size_at2.ensures.0, c.before.before.before.before.size_at3.ensures.0, c.before.before.before.size_at4.ensures.0, c.before.before.size_at5.ensures.0)))
-    (λ c. let k = c.before.before.before.before.before.before.before.before.before.lengths_fit.ensures.1 (not_false _ c.before.before.before.before.before.before.before.before.if1.false) in omega (arith, k.work, k.log, k.sheet, k.text, c.before.before.before.before.before.before.before.size_at.ensures.0, c.before.before.before.before.before.size_at2.ensures.0, c.before.before.before.before.size_at3.ensures.0, c.before.before.before.size_at4.ensures.0, c.before.before.size_at5.ensures.0, c.before.before.before.before.before.before.before.before.before.before.before.before.before.before.before.before.requires.0.work, c.before.before.before.before.before.before.before.before.before.before.before.before.before.before.before.before.requires.0.log, c.before.before.before.before.before.before.before.before.before.before.before.before.before.before.before.before.requires.0.sheet, c.before.before.before.before.before.before.before.before.before.before.before.before.before.before.before.before.requires.1, c.before.before.before.before.before.before.if2.false))
-    (λ c. let k = c.before.before.before.before.before.before.before.before.before.before.lengths_fit.ensures.1 (not_false _ c.before.before.before.before.before.before.before.before.before.if1.false) in simp length-take (omega (arith, k.work, k.log, k.sheet, k.text, c.before.before.before.before.before.before.before.before.size_at.ensures.0, c.before.before.before.before.before.before.size_at2.ensures.0, c.before.before.before.before.before.size_at3.ensures.0, c.before.before.before.before.size_at4.ensures.0, c.before.before.before.size_at5.ensures.0)))
-    (λ c. let k = c.before.before.before.before.before.before.before.before.before.before.lengths_fit.ensures.1 (not_false _ c.before.before.before.before.before.before.before.before.before.if1.false) in omega (arith, k.work, k.log, k.sheet, k.text, c.before.before.before.before.before.before.before.before.size_at.ensures.0, c.before.before.before.before.before.before.size_at2.ensures.0, c.before.before.before.before.before.size_at3.ensures.0, c.before.before.before.before.size_at4.ensures.0, c.before.before.before.size_at5.ensures.0, c.before.before.before.before.before.before.before.before.before.before.before.before.before.before.before.before.before.requires.0.work, c.before.before.before.before.before.before.before.before.before.before.before.before.before.before.before.before.before.requires.0.log, c.before.before.before.before.before.before.before.before.before.before.before.before.before.before.before.before.before.requires.0.sheet, c.before.before.before.before.before.before.before.before.before.before.before.before.before.before.before.before.before.requires.1, c.before.before.before.before.before.before.before.if2.false))
-    (λ c. let k = c.before.before.before.before.before.before.before.before.before.before.before.lengths_fit.ensures.1 (not_false _ c.before.before.before.before.before.before.before.before.before.before.if1.false) in simp length-take (omega (arith, k.work, k.log, k.sheet, k.text, c.before.before.before.before.before.before.before.before.before.size_at.ensures.0, c.before.before.before.before.before.before.before.size_at2.ensures.0, c.before.before.before.before.before.before.size_at3.ensures.0, c.before.before.before.before.before.size_at4.ensures.0, c.before.before.before.before.size_at5.ensures.0)))
-    (λ c. let k = c.before.before.before.before.before.before.before.before.before.before.before.lengths_fit.ensures.1 (not_false _ c.before.before.before.before.before.before.before.before.before.before.if1.false) in omega (arith, k.work, k.log, k.sheet, k.text, c.before.before.before.before.before.before.before.before.before.size_at.ensures.0, c.before.before.before.before.before.before.before.size_at2.ensures.0, c.before.before.before.before.before.before.size_at3.ensures.0, c.before.before.before.before.before.size_at4.ensures.0, c.before.before.before.before.size_at5.ensures.0, c.before.before.before.before.before.before.before.before.before.before.before.before.before.before.before.before.before.before.requires.0.work, c.before.before.before.before.before.before.before.before.before.before.before.before.before.before.before.before.before.before.requires.0.log, c.before.before.before.before.before.before.before.before.before.before.before.before.before.before.before.before.before.before.requires.0.sheet, c.before.before.before.before.before.before.before.before.before.before.before.before.before.before.before.before.before.before.requires.1, c.before.before.before.before.before.before.before.before.if2.false))
-    (λ c. let k = c.before.before.before.before.before.before.before.before.before.before.before.before.lengths_fit.ensures.1 (not_false _ c.before.before.before.before.before.before.before.before.before.before.before.if1.false) in simp length-take (omega (arith, k.work, k.log, k.sheet, k.text, c.before.before.before.before.before.before.before.before.before.before.size_at.ensures.0, c.before.before.before.before.before.before.before.before.size_at2.ensures.0, c.before.before.before.before.before.before.before.size_at3.ensures.0, c.before.before.before.before.before.before.size_at4.ensures.0, c.before.before.before.before.before.size_at5.ensures.0)))
-    (λ c κs. let k = c.before.before.before.before.before.before.before.before.before.before.before.before.lengths_fit.ensures.1 (not_false _ c.before.before.before.before.before.before.before.before.before.before.before.if1.false) in simp length-take (omega (arith, k.work, k.log, k.sheet, k.text, c.before.before.before.before.before.before.before.before.before.before.size_at.ensures.0, c.before.before.before.before.before.before.before.before.size_at2.ensures.0, c.before.before.before.before.before.before.before.size_at3.ensures.0, c.before.before.before.before.before.before.size_at4.ensures.0, c.before.before.before.before.before.size_at5.ensures.0)))
+    (λ c κs. search rules)
+    (λ c κs. search rules)
+    (λ c. let k = c.before.before.before.before.before.before.before.lengths_fit.ensures.1 (not-false _ c.before.before.before.before.before.before.if1.false) in omega (arith, k.work, k.log, k.sheet, k.text, c.before.before.before.before.before.size_at.ensures.0, c.before.before.before.size_at2.ensures.0, c.before.before.size_at3.ensures.0, c.before.size_at4.ensures.0, c.size_at5.ensures.0))
+    (λ c. let k = c.before.before.before.before.before.before.before.lengths_fit.ensures.1 (not-false _ c.before.before.before.before.before.before.if1.false) in omega (arith, k.work, k.log, k.sheet, k.text, c.before.before.before.before.before.size_at.ensures.0, c.before.before.before.size_at2.ensures.0, c.before.before.size_at3.ensures.0, c.before.size_at4.ensures.0, c.size_at5.ensures.0))
+    (λ c. let k = c.before.before.before.before.before.before.before.lengths_fit.ensures.1 (not-false _ c.before.before.before.before.before.before.if1.false) in omega (arith, k.work, k.log, k.sheet, k.text, c.before.before.before.before.before.size_at.ensures.0, c.before.before.before.size_at2.ensures.0, c.before.before.size_at3.ensures.0, c.before.size_at4.ensures.0, c.size_at5.ensures.0))
+    (λ c. let k = c.before.before.before.before.before.before.before.lengths_fit.ensures.1 (not-false _ c.before.before.before.before.before.before.if1.false) in omega (arith, k.work, k.log, k.sheet, k.text, c.before.before.before.before.before.size_at.ensures.0, c.before.before.before.size_at2.ensures.0, c.before.before.size_at3.ensures.0, c.before.size_at4.ensures.0, c.size_at5.ensures.0))
+    (λ c. let k = c.before.before.before.before.before.before.before.lengths_fit.ensures.1 (not-false _ c.before.before.before.before.before.before.if1.false) in omega (arith, k.work, k.log, k.sheet, k.text, c.before.before.before.before.before.size_at.ensures.0, c.before.before.before.size_at2.ensures.0, c.before.before.size_at3.ensures.0, c.before.size_at4.ensures.0, c.size_at5.ensures.0))
+    (λ c. let k = c.before.before.before.before.before.before.before.before.lengths_fit.ensures.1 (not-false _ c.before.before.before.before.before.before.before.if1.false) in omega (arith, k.work, k.log, k.sheet, k.text, c.before.before.before.before.before.before.size_at.ensures.0, c.before.before.before.before.size_at2.ensures.0, c.before.before.before.size_at3.ensures.0, c.before.before.size_at4.ensures.0, c.before.size_at5.ensures.0, c.before.before.before.before.before.before.before.before.before.before.before.before.before.before.before.requires.0.work, c.before.before.before.before.before.before.before.before.before.before.before.before.before.before.before.requires.0.log, c.before.before.before.before.before.before.before.before.before.before.before.before.before.before.before.requires.0.sheet, c.before.before.before.before.before.before.before.before.before.before.before.before.before.before.before.requires.1, c.before.before.before.before.before.if2.false))
+    (λ c. let k = c.before.before.before.before.before.before.before.before.before.lengths_fit.ensures.1 (not-false _ c.before.before.before.before.before.before.before.before.if1.false) in simp length-take (omega (arith, k.work, k.log, k.sheet, k.text, c.before.before.before.before.before.before.before.size_at.ensures.0, c.before.before.before.before.before.size_at2.ensures.0, c.before.before.before.before.size_at3.ensures.0, c.before.before.before.size_at4.ensures.0, c.before.before.size_at5.ensures.0)))
+    (λ c. let k = c.before.before.before.before.before.before.before.before.before.lengths_fit.ensures.1 (not-false _ c.before.before.before.before.before.before.before.before.if1.false) in omega (arith, k.work, k.log, k.sheet, k.text, c.before.before.before.before.before.before.before.size_at.ensures.0, c.before.before.before.before.before.size_at2.ensures.0, c.before.before.before.before.size_at3.ensures.0, c.before.before.before.size_at4.ensures.0, c.before.before.size_at5.ensures.0, c.before.before.before.before.before.before.before.before.before.before.before.before.before.before.before.before.requires.0.work, c.before.before.before.before.before.before.before.before.before.before.before.before.before.before.before.before.requires.0.log, c.before.before.before.before.before.before.before.before.before.before.before.before.before.before.before.before.requires.0.sheet, c.before.before.before.before.before.before.before.before.before.before.before.before.before.before.before.before.requires.1, c.before.before.before.before.before.before.if2.false))
+    (λ c. let k = c.before.before.before.before.before.before.before.before.before.before.lengths_fit.ensures.1 (not-false _ c.before.before.before.before.before.before.before.before.before.if1.false) in simp length-take (omega (arith, k.work, k.log, k.sheet, k.text, c.before.before.before.before.before.before.before.before.size_at.ensures.0, c.before.before.before.before.before.before.size_at2.ensures.0, c.before.before.before.before.before.size_at3.ensures.0, c.before.before.before.before.size_at4.ensures.0, c.before.before.before.size_at5.ensures.0)))
+    (λ c. let k = c.before.before.before.before.before.before.before.before.before.before.lengths_fit.ensures.1 (not-false _ c.before.before.before.before.before.before.before.before.before.if1.false) in omega (arith, k.work, k.log, k.sheet, k.text, c.before.before.before.before.before.before.before.before.size_at.ensures.0, c.before.before.before.before.before.before.size_at2.ensures.0, c.before.before.before.before.before.size_at3.ensures.0, c.before.before.before.before.size_at4.ensures.0, c.before.before.before.size_at5.ensures.0, c.before.before.before.before.before.before.before.before.before.before.before.before.before.before.before.before.before.requires.0.work, c.before.before.before.before.before.before.before.before.before.before.before.before.before.before.before.before.before.requires.0.log, c.before.before.before.before.before.before.before.before.before.before.before.before.before.before.before.before.before.requires.0.sheet, c.before.before.before.before.before.before.before.before.before.before.before.before.before.before.before.before.before.requires.1, c.before.before.before.before.before.before.before.if2.false))
+    (λ c. let k = c.before.before.before.before.before.before.before.before.before.before.before.lengths_fit.ensures.1 (not-false _ c.before.before.before.before.before.before.before.before.before.before.if1.false) in simp length-take (omega (arith, k.work, k.log, k.sheet, k.text, c.before.before.before.before.before.before.before.before.before.size_at.ensures.0, c.before.before.before.before.before.before.before.size_at2.ensures.0, c.before.before.before.before.before.before.size_at3.ensures.0, c.before.before.before.before.before.size_at4.ensures.0, c.before.before.before.before.size_at5.ensures.0)))
+    (λ c. let k = c.before.before.before.before.before.before.before.before.before.before.before.lengths_fit.ensures.1 (not-false _ c.before.before.before.before.before.before.before.before.before.before.if1.false) in omega (arith, k.work, k.log, k.sheet, k.text, c.before.before.before.before.before.before.before.before.before.size_at.ensures.0, c.before.before.before.before.before.before.before.size_at2.ensures.0, c.before.before.before.before.before.before.size_at3.ensures.0, c.before.before.before.before.before.size_at4.ensures.0, c.before.before.before.before.size_at5.ensures.0, c.before.before.before.before.before.before.before.before.before.before.before.before.before.before.before.before.before.before.requires.0.work, c.before.before.before.before.before.before.before.before.before.before.before.before.before.before.before.before.before.before.requires.0.log, c.before.before.before.before.before.before.before.before.before.before.before.before.before.before.before.before.before.before.requires.0.sheet, c.before.before.before.before.before.before.before.before.before.before.before.before.before.before.before.before.before.before.requires.1, c.before.before.before.before.before.before.before.before.if2.false))
+    (λ c. let k = c.before.before.before.before.before.before.before.before.before.before.before.before.lengths_fit.ensures.1 (not-false _ c.before.before.before.before.before.before.before.before.before.before.before.if1.false) in simp length-take (omega (arith, k.work, k.log, k.sheet, k.text, c.before.before.before.before.before.before.before.before.before.before.size_at.ensures.0, c.before.before.before.before.before.before.before.before.size_at2.ensures.0, c.before.before.before.before.before.before.before.size_at3.ensures.0, c.before.before.before.before.before.before.size_at4.ensures.0, c.before.before.before.before.before.size_at5.ensures.0)))
+    (λ c κs. let k = c.before.before.before.before.before.before.before.before.before.before.before.before.lengths_fit.ensures.1 (not-false _ c.before.before.before.before.before.before.before.before.before.before.before.if1.false) in simp length-take (omega (arith, k.work, k.log, k.sheet, k.text, c.before.before.before.before.before.before.before.before.before.before.size_at.ensures.0, c.before.before.before.before.before.before.before.before.size_at2.ensures.0, c.before.before.before.before.before.before.before.size_at3.ensures.0, c.before.before.before.before.before.before.size_at4.ensures.0, c.before.before.before.before.before.size_at5.ensures.0)))
     (λ c. search rules)
     (λ c. search rules)
     (λ c. search rules)
     (λ c. search rules)
-    (λ c. let k = c.before.before.before.before.before.before.before.before.before.before.before.before.before.before.before.before.before.before.before.before.before.lengths_fit.ensures.1 (not_false _ c.before.before.before.before.before.before.before.before.before.before.before.before.before.before.before.before.before.before.before.before.if1.false) in case_written _ _ _ c.before.before.before.before.before.before.before.before.before.before.before.before.before.before.before.before.before.before.before.before.before.lengths_fit.ensures.0 (not_false _ c.before.before.before.before.before.before.before.before.before.before.before.before.before.before.before.before.before.before.before.before.if1.false) _ _ _ _ c.before.before.before.before.before.before.before.before.before.before.before.before.before.before.before.before.before.size_at2.ensures.0 c.before.before.before.before.before.before.before.before.before.before.before.before.before.before.before.before.size_at3.ensures.0 c.before.before.before.before.before.before.before.before.before.before.before.before.before.before.before.size_at4.ensures.0 c.before.before.before.before.before.before.before.before.before.before.before.before.before.before.size_at5.ensures.0 k _ _ _ _ (omega (arith, k.work, c.before.before.before.before.before.before.before.before.before.before.before.before.before.before.before.before.before.before.before.size_at.ensures.0, c.before.before.before.before.before.before.before.before.before.before.before.before.before.before.before.before.before.size_at2.ensures.0, c.before.before.before.before.before.before.before.before.before.before.before.before.before.before.before.before.size_at3.ensures.0, c.before.before.before.before.before.before.before.before.before.before.before.before.before.before.before.size_at4.ensures.0, c.before.before.before.before.before.before.before.before.before.before.before.before.before.before.size_at5.ensures.0, c.before.before.before.before.before.before.before.before.before.before.before.before.before.before.before.before.before.before.before.before.before.before.before.before.before.before.before.before.requires.0.work)) (omega (arith, k.log, c.before.before.before.before.before.before.before.before.before.before.before.before.before.before.before.before.before.before.before.size_at.ensures.0, c.before.before.before.before.before.before.before.before.before.before.before.before.before.before.before.before.before.size_at2.ensures.0, c.before.before.before.before.before.before.before.before.before.before.before.before.before.before.before.before.size_at3.ensures.0, c.before.before.before.before.before.before.before.before.before.before.before.before.before.before.before.size_at4.ensures.0, c.before.before.before.before.before.before.before.before.before.before.before.before.before.before.size_at5.ensures.0, c.before.before.before.before.before.before.before.before.before.before.before.before.before.before.before.before.before.before.before.before.before.before.before.before.before.before.before.before.requires.0.log)) (omega (arith, k.sheet, c.before.before.before.before.before.before.before.before.before.before.before.before.before.before.before.before.before.before.before.size_at.ensures.0, c.before.before.before.before.before.before.before.before.before.before.before.before.before.before.before.before.before.size_at2.ensures.0, c.before.before.before.before.before.before.before.before.before.before.before.before.before.before.before.before.size_at3.ensures.0, c.before.before.before.before.before.before.before.before.before.before.before.before.before.before.before.size_at4.ensures.0, c.before.before.before.before.before.before.before.before.before.before.before.before.before.before.size_at5.ensures.0, c.before.before.before.before.before.before.before.before.before.before.before.before.before.before.before.before.before.before.before.before.before.before.before.before.before.before.before.before.requires.0.sheet)) _ _ c.before.before.before.before.before.before.before.before.before.before.before.before.before.before.before.before.before.before.before.size_at.ensures.0 c.before.before.before.before.before.before.before.before.before.before.before.before.before.before.before.before.before.before.if2.false (omega (arith, c.before.before.before.before.before.before.before.before.before.before.before.before.before.before.before.before.before.before.if2.false, c.before.before.before.before.before.before.before.before.before.before.before.before.before.before.before.before.before.before.before.before.before.before.before.before.before.before.before.before.requires.1)) c.before.before.before.before.before.before.before.before.write_agrees.ensures))
+    (λ c. let k = c.before.before.before.before.before.before.before.before.before.before.before.before.before.before.before.before.before.before.before.before.before.lengths_fit.ensures.1 (not-false _ c.before.before.before.before.before.before.before.before.before.before.before.before.before.before.before.before.before.before.before.before.if1.false) in case_written _ _ _ c.before.before.before.before.before.before.before.before.before.before.before.before.before.before.before.before.before.before.before.before.before.lengths_fit.ensures.0 (not-false _ c.before.before.before.before.before.before.before.before.before.before.before.before.before.before.before.before.before.before.before.before.if1.false) _ _ _ _ c.before.before.before.before.before.before.before.before.before.before.before.before.before.before.before.before.before.size_at2.ensures.0 c.before.before.before.before.before.before.before.before.before.before.before.before.before.before.before.before.size_at3.ensures.0 c.before.before.before.before.before.before.before.before.before.before.before.before.before.before.before.size_at4.ensures.0 c.before.before.before.before.before.before.before.before.before.before.before.before.before.before.size_at5.ensures.0 k _ _ _ _ (omega (arith, k.work, c.before.before.before.before.before.before.before.before.before.before.before.before.before.before.before.before.before.before.before.size_at.ensures.0, c.before.before.before.before.before.before.before.before.before.before.before.before.before.before.before.before.before.size_at2.ensures.0, c.before.before.before.before.before.before.before.before.before.before.before.before.before.before.before.before.size_at3.ensures.0, c.before.before.before.before.before.before.before.before.before.before.before.before.before.before.before.size_at4.ensures.0, c.before.before.before.before.before.before.before.before.before.before.before.before.before.before.size_at5.ensures.0, c.before.before.before.before.before.before.before.before.before.before.before.before.before.before.before.before.before.before.before.before.before.before.before.before.before.before.before.before.requires.0.work)) (omega (arith, k.log, c.before.before.before.before.before.before.before.before.before.before.before.before.before.before.before.before.before.before.before.size_at.ensures.0, c.before.before.before.before.before.before.before.before.before.before.before.before.before.before.before.before.before.size_at2.ensures.0, c.before.before.before.before.before.before.before.before.before.before.before.before.before.before.before.before.size_at3.ensures.0, c.before.before.before.before.before.before.before.before.before.before.before.before.before.before.before.size_at4.ensures.0, c.before.before.before.before.before.before.before.before.before.before.before.before.before.before.size_at5.ensures.0, c.before.before.before.before.before.before.before.before.before.before.before.before.before.before.before.before.before.before.before.before.before.before.before.before.before.before.before.before.requires.0.log)) (omega (arith, k.sheet, c.before.before.before.before.before.before.before.before.before.before.before.before.before.before.before.before.before.before.before.size_at.ensures.0, c.before.before.before.before.before.before.before.before.before.before.before.before.before.before.before.before.before.size_at2.ensures.0, c.before.before.before.before.before.before.before.before.before.before.before.before.before.before.before.before.size_at3.ensures.0, c.before.before.before.before.before.before.before.before.before.before.before.before.before.before.before.size_at4.ensures.0, c.before.before.before.before.before.before.before.before.before.before.before.before.before.before.size_at5.ensures.0, c.before.before.before.before.before.before.before.before.before.before.before.before.before.before.before.before.before.before.before.before.before.before.before.before.before.before.before.before.requires.0.sheet)) _ _ c.before.before.before.before.before.before.before.before.before.before.before.before.before.before.before.before.before.before.before.size_at.ensures.0 c.before.before.before.before.before.before.before.before.before.before.before.before.before.before.before.before.before.before.if2.false (omega (arith, c.before.before.before.before.before.before.before.before.before.before.before.before.before.before.before.before.before.before.if2.false, c.before.before.before.before.before.before.before.before.before.before.before.before.before.before.before.before.before.before.before.before.before.before.before.before.before.before.before.before.requires.1)) c.before.before.before.before.before.before.before.before.write_agrees.ensures))

@@ -1,6 +1,6 @@
 -- `alphabet::symbols::quoted_run` meets its contract: the invariant: the symbols before this index are stored; a comma is none.
 use borrow.Author.Rules.{rules}
-use borrow.Author.Tests.{not_false}
+use borrow.Author.Tests.{not-false}
 use Prim.Native.Nat.{◌-◌}
 use Rattle.assembler.specs.Rows.{rows}
 use Rattle.sheet.proofs.Writes.{stored_length}
@@ -44,6 +44,6 @@ quoted_run_spec =
     let b = l.before in
     let z = b.before.before.before in
     running_on _ _ _ _ _ _ _ _ _ _ l.loop.invariant (symbol_width z.args.inferred z.args.blank) z.requires.0 _ b.last_below.ensures q.before.loop-test.true
-    _ q.quoted_pair.ensures (not_false _ t.before.before.if1.false) _ _ _ t.token_at.ensures a.put_symbol.ensures)
+    _ q.quoted_pair.ensures (not-false _ t.before.before.if1.false) _ _ _ t.token_at.ensures a.put_symbol.ensures)
     (λ c. search laws)
     (λ c. search laws))

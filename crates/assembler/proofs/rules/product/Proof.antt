@@ -1,6 +1,6 @@
 -- `assembler::rules::product` meets its contract: without a `}` it is 1; the invariant: the tokens from here on, with what was counted so far, give the product of all.
 use borrow.Author.Rules.{rules}
-use borrow.Author.Tests.{not_true}
+use borrow.Author.Tests.{not-true}
 use Prim.Native.Nat.{◌-◌}
 use Rattle.assembler.proofs.RuleLaws.{combinations-none, Counting, counting_start, counting_past, counting_on, counting_end}
 use Rattle.assembler.proofs.rules.product.Statement.{statement}
@@ -12,7 +12,7 @@ invariant-loop work count from to s₀ i₀ s i = Counting count work from to s 
 abbrev decreases-loop : tie.decreases-loop
 decreases-loop work count from to s₀ i₀ s i = to - i
 
-ruleset none = (rules, not_true, combinations-none)
+ruleset none = (rules, not-true, combinations-none)
 
 ruleset laws = (rules, counting_start, counting_past, counting_end)
 

@@ -1,7 +1,7 @@
 -- `lexer::block::line_part` meets its contract: behind plain bytes, the last of them no space, the line ends where it ended before them.
 use Prim.Native.Nat.{◌-◌, ◌≤◌}
 use lib.ListN.{length}
-use borrow.Author.Tests.{not_true, not_false}
+use borrow.Author.Tests.{not-true, not-false}
 use Rattle.lexer.proofs.Scans.{Lined, lined_start, trimmed_same}
 use Rattle.lexer.proofs.Parts.{line-eight, line_seven}
 use borrow.Author.Rules.{rules}
@@ -14,7 +14,7 @@ invariant-loop text at i₀ trimmed₀ i trimmed = (i ≤ length text) × Lined 
 abbrev decreases-loop : tie.decreases-loop
 decreases-loop text at i₀ trimmed₀ i trimmed = length text - i
 
-ruleset laws = (rules, not_true, not_false, lined_start, trimmed_same, line-eight, line_seven)
+ruleset laws = (rules, not-true, not-false, lined_start, trimmed_same, line-eight, line_seven)
 
 pub line_part_spec : {M : Type 1} → statement M
 line_part_spec =
@@ -37,6 +37,6 @@ line_part_spec =
     (λ c. search laws)
     (λ c. search laws)
     (λ c. search laws)
-    (λ c. (search laws, line_seven _ _ _ _ _ c.before.before.before.before.before.before.loop-test.true c.before.before.before.before.before.before.before.loop.invariant.1 c.before.before.before.before.before.plain_eight.ensures (not_false _ c.before.before.before.before.if2.false) c.before.before.if3.false c.if4.true))
+    (λ c. (search laws, line_seven _ _ _ _ _ c.before.before.before.before.before.before.loop-test.true c.before.before.before.before.before.before.before.loop.invariant.1 c.before.before.before.before.before.plain_eight.ensures (not-false _ c.before.before.before.before.if2.false) c.before.before.if3.false c.if4.true))
     (λ c. search laws)
     (λ c. search laws))

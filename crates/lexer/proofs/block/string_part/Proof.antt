@@ -3,7 +3,7 @@ use Prim.Native.Nat.{◌-◌, ◌≤◌}
 use mathlib.Core.Bool.{false}
 use mathlib.Core.Path.{◌≡◌}
 use lib.ListN.{length, drop}
-use borrow.Author.Tests.{not_true, not_false}
+use borrow.Author.Tests.{not-true, not-false}
 use Rattle.chars.specs.Utf8.{decode}
 use Rattle.lexer.specs.Places.{string_end}
 use Rattle.lexer.proofs.Parts.{string-eight}
@@ -17,7 +17,7 @@ invariant-loop text at i₀ i = (i ≤ length text) × (string_end false i (deco
 abbrev decreases-loop : tie.decreases-loop
 decreases-loop text at i₀ i = length text - i
 
-ruleset laws = (rules, not_true, not_false, string-eight)
+ruleset laws = (rules, not-true, not-false, string-eight)
 
 pub string_part_spec : {M : Type 1} → statement M
 string_part_spec =

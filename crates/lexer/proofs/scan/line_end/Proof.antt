@@ -1,7 +1,7 @@
 -- `lexer::scan::line_end` meets its contract: the invariant: the line and the trimmed line from here end where those from `at` end.
 use Prim.Native.Nat.{◌-◌}
 use lib.ListN.{length}
-use borrow.Author.Tests.{not_true, not_false}
+use borrow.Author.Tests.{not-true, not-false}
 use Rattle.chars.proofs.Laws.{char_falls}
 use Rattle.lexer.proofs.Scans.{Lined, lined_white, lined_other, lined_feed, lined_invalid, lined_end}
 use borrow.Author.Rules.{rules}
@@ -14,7 +14,7 @@ invariant-loop text at i₀ trimmed₀ i trimmed = Lined text at i trimmed
 abbrev decreases-loop : tie.decreases-loop
 decreases-loop text at i₀ trimmed₀ i trimmed = length text - i
 
-ruleset laws = (rules, not_true, not_false, char_falls, lined_white, lined_other, lined_feed, lined_invalid, lined_end)
+ruleset laws = (rules, not-true, not-false, char_falls, lined_white, lined_other, lined_feed, lined_invalid, lined_end)
 
 pub line_end_spec : {M : Type 1} → statement M
 line_end_spec =
