@@ -7,11 +7,11 @@ use Rattle.chars.proofs.Short.{above_two, above_three}
 use Rattle.chars.proofs.above_end.Statement.{statement}
 use Rattle.chars.proofs.above_end.Tie as tie
 
-abbrev invariant-loop : tie.invariant-loop
-invariant-loop text at i₀ i = (i ≤ length text) × Above text at i
+abbrev invariant-loop-i : tie.invariant-loop-i
+invariant-loop-i text at i₀ i = (i ≤ length text) × Above text at i
 
-abbrev decreases-loop : tie.decreases-loop
-decreases-loop text at i₀ i = length text - i
+abbrev decreases-loop-i : tie.decreases-loop-i
+decreases-loop-i text at i₀ i = length text - i
 
 ruleset laws = (rules, no_more)
 
@@ -19,8 +19,8 @@ pub above_end_spec : {M : Type 1} → statement M
 above_end_spec =
     tie.close
     (tie.spec
-    invariant-loop
-    decreases-loop
+    invariant-loop-i
+    decreases-loop-i
     (λ c. search laws)
     (λ c. search laws)
     (λ c. search rules)
@@ -32,7 +32,7 @@ above_end_spec =
     (λ c κs. search rules)
     (λ c. search rules)
     (λ c. search rules)
-    (λ c. let x = c.before.before.before.before.before.before.before.before.before.before in let l = c.before.before.before.before.before.before.before.loop in (search rules, above_two x.args.text.now _ _ l.invariant.1 c.before.before.before.before.before.before.loop-test.true _ c.before.before.before.before.wide.ensures.0 _ c.before.before.wide2.ensures.0 _ c.before.is_two.ensures c.if2.true))
+    (λ c. let x = c in let l = c.loop-i in (search rules, above_two x.args.text.now _ _ l.invariant.1 c.loop-i-test.true _ c.wide-a.ensures.0 _ c.wide.ensures.0 _ c.is_two.ensures c.if-is_two.true))
     (λ c. search rules)
     (λ c. search rules)
     (λ c. search rules)
@@ -44,6 +44,6 @@ above_end_spec =
     (λ c κs. search rules)
     (λ c. search rules)
     (λ c. search rules)
-    (λ c. let x = c.before.before.before.before.before.before.before.before.before.before.before.before.before.before.before.before.before in let l = c.before.before.before.before.before.before.before.before.before.before.before.before.before.before.loop in (search rules, above_three x.args.text.now _ _ l.invariant.1 c.before.before.before.before.before.before.before.before.before.before.before.before.before.loop-test.true _ c.before.before.before.before.before.before.before.before.before.before.before.wide.ensures.0 _ _ c.before.before.wide3.ensures.0 c.before.before.before.before.joined.ensures.0 _ c.before.is_three.ensures c.if3.true))
+    (λ c. let x = c in let l = c.loop-i in (search rules, above_three x.args.text.now _ _ l.invariant.1 c.loop-i-test.true _ c.wide-a.ensures.0 _ _ c.wide-else-is_two.ensures.0 c.joined-d.ensures.0 _ c.is_three.ensures c.if-is_three.true))
     (λ c. search rules)
     (λ c. search rules))

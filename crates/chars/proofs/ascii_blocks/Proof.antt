@@ -9,11 +9,11 @@ use borrow.Author.Rules.{rules}
 use Rattle.chars.proofs.ascii_blocks.Statement.{statement}
 use Rattle.chars.proofs.ascii_blocks.Tie as tie
 
-abbrev invariant-loop : tie.invariant-loop
-invariant-loop text at i₀ i = (at ≤ i) × (i ≤ length text) × (i + sizes (decode (drop i text)) ≡ at + sizes (decode (drop at text))) × (outside_from i (decode (drop i text)) ≡ outside_from at (decode (drop at text)))
+abbrev invariant-loop-i : tie.invariant-loop-i
+invariant-loop-i text at i₀ i = (at ≤ i) × (i ≤ length text) × (i + sizes (decode (drop i text)) ≡ at + sizes (decode (drop at text))) × (outside_from i (decode (drop i text)) ≡ outside_from at (decode (drop at text)))
 
-abbrev decreases-loop : tie.decreases-loop
-decreases-loop text at i₀ i = length text - i
+abbrev decreases-loop-i : tie.decreases-loop-i
+decreases-loop-i text at i₀ i = length text - i
 
 ruleset laws = (rules, block_valid, block_outside)
 
@@ -21,8 +21,8 @@ pub ascii_blocks_spec : {M : Type 1} → statement M
 ascii_blocks_spec =
     tie.close
     (tie.spec
-    invariant-loop
-    decreases-loop
+    invariant-loop-i
+    decreases-loop-i
     (λ c. search laws)
     (λ c. search laws)
     (λ c. search laws)

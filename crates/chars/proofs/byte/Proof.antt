@@ -11,4 +11,4 @@ byte_spec =
     (tie.spec
     (λ c. search rules)
     (λ c. search rules)
-    (λ c. sym (get_or-eq_default c.before.args.text.now 0 c.if1.false)))
+    (λ c. sym (get_or-eq_default c.args.text.now 0 c.if-at-text.false)))

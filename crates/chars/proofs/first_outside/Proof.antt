@@ -10,18 +10,18 @@ use Rattle.chars.proofs.Scans.{outside-start, outside-on, outside_here, outside_
 use Rattle.chars.proofs.first_outside.Statement.{statement}
 use Rattle.chars.proofs.first_outside.Tie as tie
 
-abbrev invariant-loop : tie.invariant-loop
-invariant-loop text i₀ i = (i ≤ length text) × (outside_from i (decode (drop i text)) ≡ first_outside text)
+abbrev invariant-loop-c : tie.invariant-loop-c
+invariant-loop-c text i₀ i = (i ≤ length text) × (outside_from i (decode (drop i text)) ≡ first_outside text)
 
-abbrev decreases-loop : tie.decreases-loop
-decreases-loop text i₀ i = length text - i
+abbrev decreases-loop-c : tie.decreases-loop-c
+decreases-loop-c text i₀ i = length text - i
 
 pub first_outside_spec : {M : Type 1} → statement M
 first_outside_spec =
     tie.close
     (tie.spec
-    invariant-loop
-    decreases-loop
+    invariant-loop-c
+    decreases-loop-c
     (λ c. (zero-le, outside-start _))
     (λ c κs. search rules)
     (λ c. search rules)

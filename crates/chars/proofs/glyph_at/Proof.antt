@@ -36,6 +36,6 @@ glyph_at_spec =
     (λ c κs. search rules)
     (λ c. search laws)
     (λ c. search rules)
-    (λ c. three_char _ _ _ c.before.before.before.before.before.before.before.before.before.before.before.before.before.before.before.if1.false c.before.before.before.before.before.before.before.before.before.before.before.before.before.wide.ensures.0 _ _ c.before.before.wide3.ensures.0 c.before.before.before.before.joined.ensures.0 0x2080 0x3080 _ c.before.is_three.ensures c.if5.true refl refl)
+    (λ c. three_char _ _ _ c.if-text-at.false c.wide-a.ensures.0 _ _ c.wide.ensures.0 c.joined-d.ensures.0 0x2080 0x3080 _ c.is_three.ensures c.if-is_three.true refl refl)
     (λ c κs. search rules)
     (λ c. search rules))

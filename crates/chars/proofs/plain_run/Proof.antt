@@ -10,18 +10,18 @@ use Rattle.chars.proofs.Short.{two_step, three-step, step_valid, step-outside}
 use Rattle.chars.proofs.plain_run.Statement.{statement}
 use Rattle.chars.proofs.plain_run.Tie as tie
 
-abbrev invariant-loop : tie.invariant-loop
-invariant-loop text at i₀ i = (at ≤ i) × (i ≤ length text) × (i + sizes (decode (drop i text)) ≡ at + sizes (decode (drop at text))) × (outside_from i (decode (drop i text)) ≡ outside_from at (decode (drop at text)))
+abbrev invariant-loop-i : tie.invariant-loop-i
+invariant-loop-i text at i₀ i = (at ≤ i) × (i ≤ length text) × (i + sizes (decode (drop i text)) ≡ at + sizes (decode (drop at text))) × (outside_from i (decode (drop i text)) ≡ outside_from at (decode (drop at text)))
 
-abbrev decreases-loop : tie.decreases-loop
-decreases-loop text at i₀ i = length text - i
+abbrev decreases-loop-i : tie.decreases-loop-i
+decreases-loop-i text at i₀ i = length text - i
 
 pub plain_run_spec : {M : Type 1} → statement M
 plain_run_spec =
     tie.close
     (tie.spec
-    invariant-loop
-    decreases-loop
+    invariant-loop-i
+    decreases-loop-i
     (λ c. search rules)
     (λ c. search rules)
     (λ c. search rules)
@@ -33,10 +33,10 @@ plain_run_spec =
     (λ c. search rules)
     (λ c. search rules)
     (λ c.
-    let k = c.before.before.before.before in
-    let l = k.before.before in
-    let s = two_step _ _ _ (omega (arith, l.loop-test.true)) k.wide.ensures.0 _ c.before.before.wide2.ensures.0 _ c.before.plain_two.ensures c.if1.true in
-    let i = l.before.loop.invariant in
+    let k = c in
+    let l = k in
+    let s = two_step _ _ _ (omega (arith, l.loop-i-test.true)) k.wide-a.ensures.0 _ c.wide.ensures.0 _ c.plain_two.ensures c.if-plain_two.true in
+    let i = l.loop-i.invariant in
     (search rules, search rules, step_valid _ _ _ s (λ e. omega arith) _ i.2, step-outside _ _ _ s (λ e. omega arith) _ i.3))
     (λ c. search rules)
     (λ c. search rules)
@@ -50,11 +50,11 @@ plain_run_spec =
     (λ c. search rules)
     (λ c. search rules)
     (λ c.
-    let j = c.before.before.before.before in
-    let k = j.before.before.before.before.before.before.before in
-    let l = k.before.before in
-    let s = three-step _ _ _ (omega (arith, l.loop-test.true)) k.wide.ensures.0 _ _ c.before.before.wide3.ensures.0 j.joined.ensures.0 _ _ _ c.before.is_three.ensures c.if2.true refl refl in
-    let i = l.before.loop.invariant in
+    let j = c in
+    let k = j in
+    let l = k in
+    let s = three-step _ _ _ (omega (arith, l.loop-i-test.true)) k.wide-a.ensures.0 _ _ c.wide-else-plain_two.ensures.0 j.joined-d.ensures.0 _ _ _ c.is_three.ensures c.if-is_three.true refl refl in
+    let i = l.loop-i.invariant in
     (search rules, search rules, step_valid _ _ _ s (λ e. omega arith) _ i.2, step-outside _ _ _ s (λ e. omega arith) _ i.3))
     (λ c. search rules)
     (λ c. search rules))

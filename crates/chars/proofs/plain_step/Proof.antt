@@ -30,6 +30,6 @@ plain_step_spec =
     (λ c κs. search rules)
     (λ c κs. search rules)
     (λ c. search rules)
-    (λ c. three-step _ _ _ c.before.before.before.before.before.before.before.before.before.before.before.before.before.requires.0 c.before.before.before.before.before.before.before.before.before.before.before.before.before.requires.1 _ _ c.before.before.wide2.ensures.0 c.before.before.before.before.joined.ensures.0 0x2210 0x24C0 _ c.before.is_three.ensures c.if3.true refl refl)
+    (λ c. three-step _ _ _ c.requires.0 c.requires.1 _ _ c.wide-2.ensures.0 c.joined-d.ensures.0 0x2210 0x24C0 _ c.is_three.ensures c.if-is_three.true refl refl)
     (λ c κs. search rules)
     (λ c. search rules))

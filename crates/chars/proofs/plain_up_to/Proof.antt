@@ -11,11 +11,11 @@ use borrow.Author.Rules.{rules}
 use Rattle.chars.proofs.plain_up_to.Statement.{statement}
 use Rattle.chars.proofs.plain_up_to.Tie as tie
 
-abbrev invariant-loop : tie.invariant-loop
-invariant-loop text at₀ at = (at ≤ length text) × (at + sizes (decode (drop at text)) ≡ valid_up_to text) × (outside_from at (decode (drop at text)) ≡ first_outside text)
+abbrev invariant-loop-at : tie.invariant-loop-at
+invariant-loop-at text at₀ at = (at ≤ length text) × (at + sizes (decode (drop at text)) ≡ valid_up_to text) × (outside_from at (decode (drop at text)) ≡ first_outside text)
 
-abbrev decreases-loop : tie.decreases-loop
-decreases-loop text at₀ at = length text - at
+abbrev decreases-loop-at : tie.decreases-loop-at
+decreases-loop-at text at₀ at = length text - at
 
 ruleset laws = (rules, plain_end, gap_valid, gap_outside, step-le, step_falls, step_valid, step-outside, step_stop)
 
@@ -23,8 +23,8 @@ pub plain_up_to_spec : {M : Type 1} → statement M
 plain_up_to_spec =
     tie.close
     (tie.spec
-    invariant-loop
-    decreases-loop
+    invariant-loop-at
+    decreases-loop-at
     (λ c. (zero-le, valid_start _, outside-start _))
     (λ c. search laws)
     (λ c. search laws)

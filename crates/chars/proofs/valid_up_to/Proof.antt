@@ -9,18 +9,18 @@ use Rattle.chars.proofs.Scans.{valid_start, valid_on, valid_invalid, valid_end}
 use Rattle.chars.proofs.valid_up_to.Statement.{statement}
 use Rattle.chars.proofs.valid_up_to.Tie as tie
 
-abbrev invariant-loop : tie.invariant-loop
-invariant-loop text i₀ i = (i ≤ length text) × (i + sizes (decode (drop i text)) ≡ valid_up_to text)
+abbrev invariant-loop-next : tie.invariant-loop-next
+invariant-loop-next text i₀ i = (i ≤ length text) × (i + sizes (decode (drop i text)) ≡ valid_up_to text)
 
-abbrev decreases-loop : tie.decreases-loop
-decreases-loop text i₀ i = length text - i
+abbrev decreases-loop-next : tie.decreases-loop-next
+decreases-loop-next text i₀ i = length text - i
 
 pub valid_up_to_spec : {M : Type 1} → statement M
 valid_up_to_spec =
     tie.close
     (tie.spec
-    invariant-loop
-    decreases-loop
+    invariant-loop-next
+    decreases-loop-next
     (λ c. (zero-le, valid_start _))
     (λ c κs. search rules)
     (λ c. search rules)

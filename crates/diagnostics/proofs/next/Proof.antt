@@ -5,21 +5,21 @@ use Rattle.diagnostics.proofs.Going.{Going, going_start, going_on, going_less, f
 use Rattle.diagnostics.proofs.next.Statement.{statement}
 use Rattle.diagnostics.proofs.next.Tie as tie
 
-abbrev invariant-loop : tie.invariant-loop
-invariant-loop text work₀ q₀ work q = Going text work₀ q₀ work q
+abbrev invariant-loop-diagnostic : tie.invariant-loop-diagnostic
+invariant-loop-diagnostic text work₀ q₀ work q = Going text work₀ q₀ work q
 
-abbrev decreases-loop : tie.decreases-loop
-decreases-loop text work₀ q₀ work q = left q
+abbrev decreases-loop-diagnostic : tie.decreases-loop-diagnostic
+decreases-loop-diagnostic text work₀ q₀ work q = left q
 
 pub next_spec : {M : Type 1} → statement M
 next_spec =
     tie.close
     (tie.spec
-    invariant-loop
-    decreases-loop
-    (λ c. going_start _ _ _ c.before.before.requires.0 c.before.before.requires.1)
-    (λ c κs. (c.before.loop.invariant.stands, c.before.loop.invariant.some))
+    invariant-loop-diagnostic
+    decreases-loop-diagnostic
+    (λ c. going_start _ _ _ c.requires.0 c.requires.1)
+    (λ c κs. (c.loop-diagnostic.invariant.stands, c.loop-diagnostic.invariant.some))
     (λ c. search rules)
-    (λ c. let g = c.before.before.before.before.before.before.before.loop.invariant in let e = c.before.before.before.before.before.step.ensures in (found-next _ _ _ _ _ g _ _ e c.before.if1.true, found_stands _ _ _ _ _ g _ _ e, found-size _ _ _ _ _ g _ _ e))
-    (λ c. going_less _ _ _ _ _ c.before.before.before.before.before.before.loop.invariant _ _ c.before.before.before.before.step.ensures)
-    (λ c. going_on _ _ _ _ _ c.before.before.before.before.before.before.loop.invariant _ _ c.before.before.before.before.step.ensures c.if1.false))
+    (λ c. let g = c.loop-diagnostic.invariant in let e = c.step-p.ensures in (found-next _ _ _ _ _ g _ _ e c.if-p.true, found_stands _ _ _ _ _ g _ _ e, found-size _ _ _ _ _ g _ _ e))
+    (λ c. going_less _ _ _ _ _ c.loop-diagnostic.invariant _ _ c.step-p.ensures)
+    (λ c. going_on _ _ _ _ _ c.loop-diagnostic.invariant _ _ c.step-p.ensures c.if-p.false))

@@ -11,4 +11,4 @@ start_spec =
     (λ c. search rules)
     (λ c κs. search rules)
     (λ c. search rules)
-    (λ c. started _ _ _ _ _ _ _ c.before.before.before.before.before.before.before.before.before.requires c.before.before.before.before.assemble.ensures))
+    (λ c. started _ _ _ _ _ _ _ c.requires c.assemble-a.ensures))

@@ -10,18 +10,18 @@ use Rattle.emit.proofs.bytes.Tie as tie
 
 ruleset laws = (rules, part_full, part_start_lem, part-next, part_done)
 
-abbrev invariant-loop : tie.invariant-loop
-invariant-loop out₀ at part end n i₀ out i = (i ≤ n) × (length out ≡ length out₀) × (sets out (at + i) (drop i part) ≡ sets out₀ at part)
+abbrev invariant-loop-i : tie.invariant-loop-i
+invariant-loop-i out₀ at part end n i₀ out i = (i ≤ n) × (length out ≡ length out₀) × (sets out (at + i) (drop i part) ≡ sets out₀ at part)
 
-abbrev decreases-loop : tie.decreases-loop
-decreases-loop out₀ at part end n i₀ out i = n - i
+abbrev decreases-loop-i : tie.decreases-loop-i
+decreases-loop-i out₀ at part end n i₀ out i = n - i
 
 pub bytes_spec : {M : Type 1} → statement M
 bytes_spec =
     tie.close
     (tie.spec
-    invariant-loop
-    decreases-loop
+    invariant-loop-i
+    decreases-loop-i
     (λ c κs. search laws)
     (λ c. search laws)
     (λ c. search laws)

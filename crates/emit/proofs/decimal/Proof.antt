@@ -10,18 +10,18 @@ use Rattle.emit.proofs.decimal.Tie as tie
 
 ruleset laws = (rules, digits-start, digits-left, digits_fits, digits-next, digits_room, digits_end, digits_stored)
 
-abbrev invariant-loop : tie.invariant-loop
-invariant-loop out at n digits₀ i₀ left₀ digits i left = (1 ≤ i) × (i ≤ 20) × (length digits ≡ 20) × (left < 10 ^ i) × (digits_from (i - 1) left (drop i digits) ≡ decimal n)
+abbrev invariant-loop-left : tie.invariant-loop-left
+invariant-loop-left out at n digits₀ i₀ left₀ digits i left = (1 ≤ i) × (i ≤ 20) × (length digits ≡ 20) × (left < 10 ^ i) × (digits_from (i - 1) left (drop i digits) ≡ decimal n)
 
-abbrev decreases-loop : tie.decreases-loop
-decreases-loop out at n digits₀ i₀ left₀ digits i left = i
+abbrev decreases-loop-left : tie.decreases-loop-left
+decreases-loop-left out at n digits₀ i₀ left₀ digits i left = i
 
 pub decimal_spec : {M : Type 1} → statement M
 decimal_spec =
     tie.close
     (tie.spec
-    invariant-loop
-    decreases-loop
+    invariant-loop-left
+    decreases-loop-left
     (λ c. search laws)
     (λ c. search laws)
     (λ c. search laws)

@@ -8,11 +8,11 @@ use Rattle.equal_names.proofs.IndexLaws.{hash-on, hash-end}
 use Rattle.equal_names.proofs.hash.Statement.{statement}
 use Rattle.equal_names.proofs.hash.Tie as tie
 
-abbrev invariant-loop : tie.invariant-loop
-invariant-loop name h₀ i₀ h i = (hash_from h (drop i name) ≡ hash_from 0 name) × (h < 2 ^ 30) × (i ≤ length name)
+abbrev invariant-loop-i : tie.invariant-loop-i
+invariant-loop-i name h₀ i₀ h i = (hash_from h (drop i name) ≡ hash_from 0 name) × (h < 2 ^ 30) × (i ≤ length name)
 
-abbrev decreases-loop : tie.decreases-loop
-decreases-loop name h₀ i₀ h i = length name - i
+abbrev decreases-loop-i : tie.decreases-loop-i
+decreases-loop-i name h₀ i₀ h i = length name - i
 
 ruleset laws = (rules, hash-on, hash-end)
 
@@ -20,8 +20,8 @@ pub hash_spec : {M : Type 1} → statement M
 hash_spec =
     tie.close
     (tie.spec
-    invariant-loop
-    decreases-loop
+    invariant-loop-i
+    decreases-loop-i
     (λ c. search laws)
     (λ c. search laws)
     (λ c κs. search laws)

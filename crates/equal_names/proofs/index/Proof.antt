@@ -5,11 +5,11 @@ use Rattle.equal_names.proofs.IndexLaws.{Indexing, indexing_start, next_room, in
 use Rattle.equal_names.proofs.index.Statement.{statement}
 use Rattle.equal_names.proofs.index.Tie as tie
 
-abbrev invariant-loop : tie.invariant-loop
-invariant-loop text work₀ count a b letters span window x₀ work x = Indexing text count a b letters span window work₀ work x
+abbrev invariant-loop-x : tie.invariant-loop-x
+invariant-loop-x text work₀ count a b letters span window x₀ work x = Indexing text count a b letters span window work₀ work x
 
-abbrev decreases-loop : tie.decreases-loop
-decreases-loop text work₀ count a b letters span window x₀ work x = count - x
+abbrev decreases-loop-x : tie.decreases-loop-x
+decreases-loop-x text work₀ count a b letters span window x₀ work x = count - x
 
 ruleset laws = (rules, indexing_start, next_room, indexing_on, indexing_full, indexing_end)
 
@@ -17,8 +17,8 @@ pub index_spec : {M : Type 1} → statement M
 index_spec =
     tie.close
     (tie.spec
-    invariant-loop
-    decreases-loop
+    invariant-loop-x
+    decreases-loop-x
     (λ c κs. search laws)
     (λ c. search laws)
     (λ c κs. search laws)

@@ -7,11 +7,11 @@ use Rattle.equal_names.proofs.NameLaws.{none_yet, none-one, none_two}
 use Rattle.equal_names.proofs.next_word.Statement.{statement}
 use Rattle.equal_names.proofs.next_word.Tie as tie
 
-abbrev invariant-loop : tie.invariant-loop
-invariant-loop work count from i₀ i = NoWords (rows count work) from i × (i ≤ count)
+abbrev invariant-loop-i : tie.invariant-loop-i
+invariant-loop-i work count from i₀ i = NoWords (rows count work) from i × (i ≤ count)
 
-abbrev decreases-loop : tie.decreases-loop
-decreases-loop work count from i₀ i = count - i
+abbrev decreases-loop-i : tie.decreases-loop-i
+decreases-loop-i work count from i₀ i = count - i
 
 ruleset laws = (rules, none_yet, none-one)
 
@@ -19,8 +19,8 @@ pub next_word_spec : {M : Type 1} → statement M
 next_word_spec =
     tie.close
     (tie.spec
-    invariant-loop
-    decreases-loop
+    invariant-loop-i
+    decreases-loop-i
     (λ c. search laws)
     (λ c. search laws)
     (λ c κs. search laws)
@@ -31,5 +31,5 @@ next_word_spec =
     (λ c. search laws)
     (λ c. search laws)
     (λ c. search laws)
-    (λ c. let b = c.before.before in let i = b.before in let a = i.before.before in let l = a.before.before in (none_two _ _ _ l.loop.invariant.0 _ _ a.token_at.ensures i.if1.false b.token_at2.ensures c.if2.false, search rules))
+    (λ c. let b = c in let i = b in let a = i in let l = a in (none_two _ _ _ l.loop-i.invariant.0 _ _ a.token_at.ensures i.if-token_at-eq-WORD.false b.token_at-in-loop-i.ensures c.if-token_at-eq-WORD-2.false, search rules))
     (λ c. search laws))

@@ -11,17 +11,17 @@ write_answer_spec =
     (tie.spec
     (λ c. search rules)
     (λ c κs.
-    let chosen = c.before.before in
-    let began = chosen.before.before.before.before.before in
-    began.requires _ chosen.a.given.1)
+    let chosen = c in
+    let began = chosen in
+    began.requires _ chosen.a-1.given.1)
     (λ other. search rules)
     (λ c. search rules)
     (λ c. search rules)
     (λ c.
-    let formed = c.before.before in
-    let chosen = formed.before.before.before in (
-      machine-written _ _ _ _ _ chosen.a.given.1 formed.write_form.result _ formed.write_form.ensures,
-      form_frees _ _ _ formed.write_form.result _ _ chosen.a.given.1 formed.write_form.ensures,
+    let formed = c in
+    let chosen = formed in (
+      machine-written _ _ _ _ _ chosen.a-1.given.1 formed.write_form.result _ formed.write_form.ensures,
+      form_frees _ _ _ formed.write_form.result _ _ chosen.a-1.given.1 formed.write_form.ensures,
     ))
-    (λ c. (diagnostics_handed _ _ _ _ _ c.before.a2.given.1, λ e. absurd (false≢true e)))
-    (λ c. (refusal_handed _ _ _ _ _ c.before.a3.given.1, refusal_leaves _ _ c.before.a3.given.1)))
+    (λ c. (diagnostics_handed _ _ _ _ _ c.a-in-Diagnostics-1.given.1, λ e. absurd (false≢true e)))
+    (λ c. (refusal_handed _ _ _ _ _ c.a-in-Refused-1.given.1, refusal_leaves _ _ c.a-in-Refused-1.given.1)))

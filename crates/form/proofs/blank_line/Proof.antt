@@ -19,5 +19,5 @@ blank_line_spec =
     let at_symbol = at-say2.before.before.before.before.before in
     let at-say = at_symbol.before.before.before.before in
     let at-if1 = at-say.before.before.before in
-    blank_written _ _ _ _ _ _ at-if1.if1.true at-say.say.ensures at_symbol.symbol.ensures at-say2.say2.ensures)
-    (λ c. blank_none _ _ _ c.if1.false))
+    blank_written _ _ _ _ _ _ at-if1.if-declared.true at-say.say-a.ensures at_symbol.symbol-b.ensures at-say2.say.ensures)
+    (λ c. blank_none _ _ _ c.if-declared.false))

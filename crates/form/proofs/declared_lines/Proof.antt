@@ -10,15 +10,15 @@ declared_lines_spec =
     (tie.spec
     (λ c κs. search rules)
     (λ c κs.
-    let start = c.before.before.before.before.before.before.before.before.before.before.before.before in
+    let start = c in
     (search (sigma-scalar, gamma-scalar), start.requires.sigma_codes))
     (λ c κs.
-    let start = c.before.before.before.before.before.before.before.before.before.before.before.before.before.before.before.before in
+    let start = c in
     (search (sigma-scalar, gamma-scalar), start.requires.gamma_codes))
     (λ c κs. search rules)
     (λ c κs. search rules)
     (λ c κs.
-    let start = c.before.before.before.before.before.before.before.before.before.before.before.before.before.before.before.before.before.before.before.before.before.before.before.before.before.before.before.before.before in
+    let start = c in
     start.requires.names)
     (λ c. search rules)
     (λ c.
@@ -28,4 +28,4 @@ declared_lines_spec =
     let at-symbols-line2 = at-blank-line.before.before.before.before in
     let at-symbols-line = at-symbols-line2.before.before.before.before in
     let at-states-line = at-symbols-line.before.before.before.before in
-    declared-written _ _ _ _ _ _ _ _ _ _ _ _ at-states-line.states_line.ensures at-symbols-line.symbols_line.ensures at-symbols-line2.symbols_line2.ensures at-blank-line.blank_line.ensures at-start-line.start_line.ensures at-finals-line.finals_line.ensures))
+    declared-written _ _ _ _ _ _ _ _ _ _ _ _ at-states-line.states_line-a.ensures at-symbols-line.symbols_line-b.ensures at-symbols-line2.symbols_line-c.ensures at-blank-line.blank_line-d.ensures at-start-line.start_line-e.ensures at-finals-line.finals_line.ensures))

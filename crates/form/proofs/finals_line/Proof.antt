@@ -18,4 +18,4 @@ finals_line_spec =
     let at-say2 = c.before.before in
     let at-final-names = at-say2.before.before.before.before.before in
     let at-say = at-final-names.before.before.before.before in
-    finals-written _ _ _ _ _ _ _ at-say.say.ensures at-final-names.final_names.ensures at-say2.say2.ensures))
+    finals-written _ _ _ _ _ _ _ at-say.say-a.ensures at-final-names.final_names-b.ensures at-say2.say.ensures))

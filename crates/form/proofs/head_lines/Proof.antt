@@ -21,7 +21,7 @@ head_lines_spec =
     (λ c. search rules)
     (λ c κs. search rules)
     (λ c κs.
-    let start = c.before.before.before.before.before.before.before.before.before.before.before.before.before.before.before.before.before.before.before.before.before.before.before.before.before.before.before.before.before.before.before.before.before.before.before.before.before in
+    let start = c in
     start.requires.output)
     (λ c. search rules)
     (λ c κs. search rules)
@@ -40,7 +40,7 @@ head_lines_spec =
     let at-say2 = at-kind.before.before.before.before in
     let at-string = at-say2.before.before.before.before.before in
     let at-say = at-string.before.before.before.before.before in
-    at-say6.say6.auto.0 ∙ at-number.number.auto.0 ∙ at-say5.say5.auto.0 ∙ at-decoder.decoder.auto.0 ∙ at-say4.say4.auto.0 ∙ at-string2.string2.auto.0 ∙ at-say3.say3.auto.0 ∙ at-kind.kind.auto.0 ∙ at-say2.say2.auto.0 ∙ at-string.string.auto.0 ∙ at-say.say.auto.0)
+    at-say6.say.auto.0 ∙ at-number.number-j.auto.0 ∙ at-say5.say-i.auto.0 ∙ at-decoder.decoder-h.auto.0 ∙ at-say4.say-g.auto.0 ∙ at-string2.string-f.auto.0 ∙ at-say3.say-e.auto.0 ∙ at-kind.kind-d.auto.0 ∙ at-say2.say-c.auto.0 ∙ at-string.string-b.auto.0 ∙ at-say.say-a.auto.0)
     (λ c.
     let at-say6 = c.before.before in
     let at-number = at-say6.before.before.before.before.before in
@@ -53,4 +53,4 @@ head_lines_spec =
     let at-say2 = at-kind.before.before.before.before in
     let at-string = at-say2.before.before.before.before.before in
     let at-say = at-string.before.before.before.before.before in
-    head-written _ _ _ _ _ _ _ _ _ _ _ _ _ _ at-say.say.ensures at-string.string.ensures at-say2.say2.ensures at-kind.kind.ensures at-say3.say3.ensures at-string2.string2.ensures at-say4.say4.ensures at-decoder.decoder.ensures at-say5.say5.ensures at-number.number.ensures at-say6.say6.ensures))
+    head-written _ _ _ _ _ _ _ _ _ _ _ _ _ _ at-say.say-a.ensures at-string.string-b.ensures at-say2.say-c.ensures at-kind.kind-d.ensures at-say3.say-e.ensures at-string2.string-f.ensures at-say4.say-g.ensures at-decoder.decoder-h.ensures at-say5.say-i.ensures at-number.number-j.ensures at-say6.say.ensures))

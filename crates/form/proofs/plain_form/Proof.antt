@@ -32,10 +32,10 @@ plain_form_spec =
     let at-after3 = at-after4.before.before in
     let at-after2 = at-after3.before.before.before in
     let at_after = at-after2.before.before in
-    let start = at_after.before.before.before.before.before.before in
-    header-formed (answer start.args.head start.args.sheet.now start.args.text.now) _ _ _ _ _ at_after.after.ensures at-after2.after2.ensures at-after3.after3.ensures at-after4.after4.ensures c.before.after5.ensures start.requires)
+    let start = at_after in
+    header-formed (answer start.args.head start.args.sheet.now start.args.text.now) _ _ _ _ _ at_after.after-sigma.ensures at-after2.after-gamma.ensures at-after3.after-header.ensures at-after4.after-trailing.ensures c.after-records.ensures start.requires)
     (λ c κs.
-    let start = c.before.before.before.before.before.before.before.before.before.before.before.before.before.before.before.before.before.before.before.before in
+    let start = c in
     start.requires.head_part)
     (λ c κs.
     let at-after5 = c.before.before.before.before.before.before.before.before.before in
@@ -43,24 +43,24 @@ plain_form_spec =
     let at-after3 = at-after4.before.before in
     let at-after2 = at-after3.before.before.before in
     let at_after = at-after2.before.before in
-    let start = at_after.before.before.before.before.before.before in
-    declared-formed (answer start.args.head start.args.sheet.now start.args.text.now) _ _ _ _ _ at_after.after.ensures at-after2.after2.ensures at-after3.after3.ensures at-after4.after4.ensures at-after5.after5.ensures start.requires)
+    let start = at_after in
+    declared-formed (answer start.args.head start.args.sheet.now start.args.text.now) _ _ _ _ _ at_after.after-sigma.ensures at-after2.after-gamma.ensures at-after3.after-header.ensures at-after4.after-trailing.ensures at-after5.after-records.ensures start.requires)
     (λ c κs.
     let at-after5 = c.before.before.before.before.before.before.before.before.before.before.before.before.before in
     let at-after4 = at-after5.before.before in
     let at-after3 = at-after4.before.before in
     let at-after2 = at-after3.before.before.before in
     let at_after = at-after2.before.before in
-    let start = at_after.before.before.before.before.before.before in
-    rules-formed (answer start.args.head start.args.sheet.now start.args.text.now) _ _ _ _ _ at_after.after.ensures at-after2.after2.ensures at-after3.after3.ensures at-after4.after4.ensures at-after5.after5.ensures start.requires)
+    let start = at_after in
+    rules-formed (answer start.args.head start.args.sheet.now start.args.text.now) _ _ _ _ _ at_after.after-sigma.ensures at-after2.after-gamma.ensures at-after3.after-header.ensures at-after4.after-trailing.ensures at-after5.after-records.ensures start.requires)
     (λ c κs.
     let at-after5 = c.before.before.before.before.before.before.before.before.before.before.before.before.before.before.before.before.before in
     let at-after4 = at-after5.before.before in
     let at-after3 = at-after4.before.before in
     let at-after2 = at-after3.before.before.before in
     let at_after = at-after2.before.before in
-    let start = at_after.before.before.before.before.before.before in
-    trailing-formed (answer start.args.head start.args.sheet.now start.args.text.now) _ _ _ _ _ at_after.after.ensures at-after2.after2.ensures at-after3.after3.ensures at-after4.after4.ensures at-after5.after5.ensures start.requires)
+    let start = at_after in
+    trailing-formed (answer start.args.head start.args.sheet.now start.args.text.now) _ _ _ _ _ at_after.after-sigma.ensures at-after2.after-gamma.ensures at-after3.after-header.ensures at-after4.after-trailing.ensures at-after5.after-records.ensures start.requires)
     (λ c. search rules)
     (λ c.
     let at-comment-lines2 = c.before.before in
@@ -73,5 +73,5 @@ plain_form_spec =
     let at-after3 = at-after4.before.before in
     let at-after2 = at-after3.before.before.before in
     let at_after = at-after2.before.before in
-    let start = at_after.before.before.before.before.before.before in
-    form-written (answer start.args.head start.args.sheet.now start.args.text.now) _ _ _ _ _ at_after.after.ensures at-after2.after2.ensures at-after3.after3.ensures at-after4.after4.ensures at-after5.after5.ensures _ _ _ _ _ _ (search rules) at-comment-lines.comment_lines.ensures at-head-lines.head_lines.ensures at-declared-lines.declared_lines.ensures at-rules.rules.ensures at-comment-lines2.comment_lines2.ensures))
+    let start = at_after in
+    form-written (answer start.args.head start.args.sheet.now start.args.text.now) _ _ _ _ _ at_after.after-sigma.ensures at-after2.after-gamma.ensures at-after3.after-header.ensures at-after4.after-trailing.ensures at-after5.after-records.ensures _ _ _ _ _ _ (search rules) at-comment-lines.comment_lines-a.ensures at-head-lines.head_lines-b.ensures at-declared-lines.declared_lines-c.ensures at-rules.rules-d.ensures at-comment-lines2.comment_lines.ensures))

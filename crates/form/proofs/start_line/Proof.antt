@@ -19,5 +19,5 @@ start_line_spec =
     let at-verbatim = at-say2.before.before.before.before.before in
     let at-say = at-verbatim.before.before.before.before in
     let at-if1 = at-say.before.before.before in
-    start-written _ _ _ _ _ _ _ at-if1.if1.true at-say.say.ensures at-verbatim.verbatim.ensures at-say2.say2.ensures)
-    (λ c. start_none _ _ _ _ c.if1.false))
+    start-written _ _ _ _ _ _ _ at-if1.if-declared.true at-say.say-a.ensures at-verbatim.verbatim-b.ensures at-say2.say.ensures)
+    (λ c. start_none _ _ _ _ c.if-declared.false))

@@ -19,5 +19,5 @@ states_line_spec =
     let at_Names = at-say2.before.before.before.before.before in
     let at-say = at_Names.before.before.before.before in
     let at-if1 = at-say.before.before.before in
-    states-written _ _ _ _ _ _ _ _ at-if1.if1.true at-say.say.ensures at_Names.names.ensures at-say2.say2.ensures)
-    (λ c. states-none _ _ _ _ _ c.if1.false))
+    states-written _ _ _ _ _ _ _ _ at-if1.if-declared.true at-say.say-a.ensures at_Names.names-b.ensures at-say2.say.ensures)
+    (λ c. states-none _ _ _ _ _ c.if-declared.false))

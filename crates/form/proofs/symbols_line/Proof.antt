@@ -14,7 +14,7 @@ symbols_line_spec =
     (λ c κs.
     let at-if1 = c.before.before.before.before.before.before.before.before.before.before in
     let start = at-if1.before.before.before in
-    (search rules, search rules, start.requires.1 at-if1.if1.true))
+    (search rules, search rules, start.requires.1 at-if1.if-declared.true))
     (λ c. search rules)
     (λ c κs. search rules)
     (λ c. search rules)
@@ -24,5 +24,5 @@ symbols_line_spec =
     let at-say = at-symbols.before.before.before.before in
     let at-character = at-say.before.before.before.before.before in
     let at-if1 = at-character.before.before in
-    symbols-written _ _ _ _ _ _ _ _ _ at-if1.if1.true at-character.character.ensures at-say.say.ensures at-symbols.symbols.ensures at-say2.say2.ensures)
-    (λ c. symbols-none _ _ _ _ _ c.if1.false))
+    symbols-written _ _ _ _ _ _ _ _ _ at-if1.if-declared.true at-character.character-a.ensures at-say.say-b.ensures at-symbols.symbols-c.ensures at-say2.say.ensures)
+    (λ c. symbols-none _ _ _ _ _ c.if-declared.false))

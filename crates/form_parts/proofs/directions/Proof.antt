@@ -15,18 +15,18 @@ use Rattle.form_parts.proofs.directions.Tie as tie
 
 ruleset laws = (rules, moves-start, moves-on, moves-end)
 
-abbrev invariant-loop : tie.invariant-loop
-invariant-loop out₀ at words n end₀ i₀ j₀ out end i j = (i ≤ n) × (j ≤ 7 * i) × (length out ≡ length out₀) × Goes (more direction i (map dir_of (codes 7 6 n i j words))) (output out end) (commas direction (map dir_of (column 7 6 n words))) (output out₀ at)
+abbrev invariant-loop-i : tie.invariant-loop-i
+invariant-loop-i out₀ at words n end₀ i₀ j₀ out end i j = (i ≤ n) × (j ≤ 7 * i) × (length out ≡ length out₀) × Goes (more direction i (map dir_of (codes 7 6 n i j words))) (output out end) (commas direction (map dir_of (column 7 6 n words))) (output out₀ at)
 
-abbrev decreases-loop : tie.decreases-loop
-decreases-loop out₀ at words n end₀ i₀ j₀ out end i j = n - i
+abbrev decreases-loop-i : tie.decreases-loop-i
+decreases-loop-i out₀ at words n end₀ i₀ j₀ out end i j = n - i
 
 pub directions_spec : {M : Type 1} → statement M
 directions_spec =
     tie.close
     (tie.spec
-    invariant-loop
-    decreases-loop
+    invariant-loop-i
+    decreases-loop-i
     (λ c. search laws)
     (λ c κs. search laws)
     (λ c. search laws)
@@ -40,8 +40,8 @@ directions_spec =
     let at-word = at-direction.before in
     let at-comma = at-word.before.before.before.before in
     let in-loop = at-comma.before.before in
-    let t = in-loop.loop-test.true in
-    let l = in-loop.before.loop.invariant in
-    (search rules, search rules, search rules, moves-on _ _ _ _ _ _ t (search rules) _ at-word.word.ensures _ _ _ _ _ at-comma.comma.ensures l.3 at-direction.direction.ensures))
+    let t = in-loop.loop-i-test.true in
+    let l = in-loop.loop-i.invariant in
+    (search rules, search rules, search rules, moves-on _ _ _ _ _ _ t (search rules) _ at-word.word.ensures _ _ _ _ _ at-comma.comma-a.ensures l.3 at-direction.direction-end.ensures))
     (λ c. search laws)
     (λ c. search laws))

@@ -15,23 +15,23 @@ use Rattle.form_parts.proofs.final_names.Tie as tie
 
 ruleset laws = (rules, names-all, names-next, finals-start, finals_utf8, finals-count, finals-on, finals-end)
 
-abbrev invariant-loop : tie.invariant-loop
-invariant-loop out₀ at text words n l₀ i₀ j₀ out l i j = (i ≤ n) × (j ≤ 3 * i) × (l.count ≤ i) × (length out ≡ length out₀) × Names text 3 n i j words × Goes (more verbatim l.count (finals text n i j words)) (output out l.at) (commas verbatim (final_names (map (state_in text) (groups 3 n words)))) (output out₀ at)
+abbrev invariant-loop-i : tie.invariant-loop-i
+invariant-loop-i out₀ at text words n l₀ i₀ j₀ out l i j = (i ≤ n) × (j ≤ 3 * i) × (l.count ≤ i) × (length out ≡ length out₀) × Names text 3 n i j words × Goes (more verbatim l.count (finals text n i j words)) (output out l.at) (commas verbatim (final_names (map (state_in text) (groups 3 n words)))) (output out₀ at)
 
-abbrev decreases-loop : tie.decreases-loop
-decreases-loop out₀ at text words n l₀ i₀ j₀ out l i j = n - i
+abbrev decreases-loop-i : tie.decreases-loop-i
+decreases-loop-i out₀ at text words n l₀ i₀ j₀ out l i j = n - i
 
 pub final_names_spec : {M : Type 1} → statement M
 final_names_spec =
     tie.close
     (tie.spec
-    invariant-loop
-    decreases-loop
+    invariant-loop-i
+    decreases-loop-i
     (λ c. search laws)
     (λ c κs. search laws)
     (λ c. search laws)
     (λ c. search laws)
     (λ c. search laws)
-    (λ c. let f = c.before.before in let t = f.before.before.loop-test.true in let l = f.before.before.before.loop.invariant in (search rules, search rules, finals-count _ _ _ _ _ _ _ f.final_name.ensures l.2, search rules, names-next _ _ _ _ _ _ t l.4, finals-on _ _ _ _ _ t _ _ _ _ _ _ l.5 f.final_name.ensures))
+    (λ c. let f = c in let t = f.loop-i-test.true in let l = f.loop-i.invariant in (search rules, search rules, finals-count _ _ _ _ _ _ _ f.final_name-l.ensures l.2, search rules, names-next _ _ _ _ _ _ t l.4, finals-on _ _ _ _ _ t _ _ _ _ _ _ l.5 f.final_name-l.ensures))
     (λ c. search laws)
     (λ c. search laws))

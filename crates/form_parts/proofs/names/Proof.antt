@@ -14,18 +14,18 @@ use Rattle.form_parts.proofs.names.Tie as tie
 
 ruleset laws = (rules, names-all, names-next, names_here, list-start, list_on, list-end)
 
-abbrev invariant-loop : tie.invariant-loop
-invariant-loop out₀ at text words n end₀ i₀ j₀ out end i j = (i ≤ n) × (j ≤ 3 * i) × (length out ≡ length out₀) × Names text 3 n i j words × Goes (more verbatim i (texts text 3 n i j words)) (output out end) (commas verbatim (map (text_in text) (groups 3 n words))) (output out₀ at)
+abbrev invariant-loop-i : tie.invariant-loop-i
+invariant-loop-i out₀ at text words n end₀ i₀ j₀ out end i j = (i ≤ n) × (j ≤ 3 * i) × (length out ≡ length out₀) × Names text 3 n i j words × Goes (more verbatim i (texts text 3 n i j words)) (output out end) (commas verbatim (map (text_in text) (groups 3 n words))) (output out₀ at)
 
-abbrev decreases-loop : tie.decreases-loop
-decreases-loop out₀ at text words n end₀ i₀ j₀ out end i j = n - i
+abbrev decreases-loop-i : tie.decreases-loop-i
+decreases-loop-i out₀ at text words n end₀ i₀ j₀ out end i j = n - i
 
 pub names_spec : {M : Type 1} → statement M
 names_spec =
     tie.close
     (tie.spec
-    invariant-loop
-    decreases-loop
+    invariant-loop-i
+    decreases-loop-i
     (λ c. search laws)
     (λ c κs. search laws)
     (λ c κs. search laws)
@@ -38,8 +38,8 @@ names_spec =
     let at-place-at = at-verbatim.before in
     let at-comma = at-place-at.before.before.before.before in
     let in-loop = at-comma.before.before in
-    let t = in-loop.loop-test.true in
-    let l = in-loop.before.loop.invariant in
-    (search rules, search rules, search rules, names-next _ _ _ _ _ _ t l.3, list_on _ _ _ _ _ _ t (search rules) _ at-place-at.place_at.ensures _ _ _ _ _ l.4 at-comma.comma.ensures at-verbatim.verbatim.ensures))
+    let t = in-loop.loop-i-test.true in
+    let l = in-loop.loop-i.invariant in
+    (search rules, search rules, search rules, names-next _ _ _ _ _ _ t l.3, list_on _ _ _ _ _ _ t (search rules) _ at-place-at.place_at.ensures _ _ _ _ _ l.4 at-comma.comma-a.ensures at-verbatim.verbatim-end.ensures))
     (λ c. search laws)
     (λ c. search laws))

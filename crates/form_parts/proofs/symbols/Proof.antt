@@ -13,18 +13,18 @@ use Rattle.form_parts.proofs.symbols.Tie as tie
 
 ruleset laws = (rules, codes_all, codes_here, codes-left, symbols-start, symbols-on, symbols-end)
 
-abbrev invariant-loop : tie.invariant-loop
-invariant-loop out₀ at words k o n end₀ i₀ j₀ out end i j = (i ≤ n) × (j ≤ 7 * i) × (length out ≡ length out₀) × Codes k o n i j words × Goes (more symbol i (codes k o n i j words)) (output out end) (commas symbol (column k o n words)) (output out₀ at)
+abbrev invariant-loop-i : tie.invariant-loop-i
+invariant-loop-i out₀ at words k o n end₀ i₀ j₀ out end i j = (i ≤ n) × (j ≤ 7 * i) × (length out ≡ length out₀) × Codes k o n i j words × Goes (more symbol i (codes k o n i j words)) (output out end) (commas symbol (column k o n words)) (output out₀ at)
 
-abbrev decreases-loop : tie.decreases-loop
-decreases-loop out₀ at words k o n end₀ i₀ j₀ out end i j = n - i
+abbrev decreases-loop-i : tie.decreases-loop-i
+decreases-loop-i out₀ at words k o n end₀ i₀ j₀ out end i j = n - i
 
 pub symbols_spec : {M : Type 1} → statement M
 symbols_spec =
     tie.close
     (tie.spec
-    invariant-loop
-    decreases-loop
+    invariant-loop-i
+    decreases-loop-i
     (λ c. search laws)
     (λ c κs. search laws)
     (λ c. search laws)
@@ -34,12 +34,12 @@ symbols_spec =
     (λ c. search laws)
     (λ c. search laws)
     (λ c.
-    let at_symbol = c.before.before in
+    let at_symbol = c in
     let at-word = at_symbol.before in
     let at-comma = at-word.before.before.before.before in
     let in-loop = at-comma.before.before in
-    let t = in-loop.loop-test.true in
-    let l = in-loop.before.loop.invariant in
-    (search rules, search rules, search rules, codes-left _ _ _ _ _ _ t (search rules) _ at-word.word.ensures l.3, symbols-on _ _ _ _ _ _ t (search rules) _ at-word.word.ensures _ _ _ _ _ at-comma.comma.ensures l.4 at_symbol.symbol.ensures))
+    let t = in-loop.loop-i-test.true in
+    let l = in-loop.loop-i.invariant in
+    (search rules, search rules, search rules, codes-left _ _ _ _ _ _ t (search rules) _ at-word.word.ensures l.3, symbols-on _ _ _ _ _ _ t (search rules) _ at-word.word.ensures _ _ _ _ _ at-comma.comma-a.ensures l.4 at_symbol.symbol-end.ensures))
     (λ c. search laws)
     (λ c. search laws))

@@ -24,4 +24,4 @@ head_spec =
     (λ c κs. search rules)
     (λ c. search rules)
     (λ c κs. search rules)
-    (λ c. let h = c.before.before.before.before.before.before.before.before.before.before.before.before.before.before.before.before.before.requires in search (rules, head_in)))
+    (λ c. let h = c.requires in search (rules, head_in)))

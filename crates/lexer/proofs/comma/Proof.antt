@@ -13,10 +13,10 @@ comma_spec =
     (tie.spec
     (λ c. (search rules, search (rules, past_count), search (rules, past_words)))
     (λ c. search laws)
-    (λ c. (search rules, other-count _ _ [] 0 _ (search rules) c.if2.true, other_words_lem _ _ _ _ _ (search rules) c.if2.true))
+    (λ c. (search rules, other-count _ _ [] 0 _ (search rules) c.if-text-at-ne44.true, other_words_lem _ _ _ _ _ (search rules) c.if-text-at-ne44.true))
     (λ c. search laws)
     (λ c. search laws)
     (λ c. search laws)
-    (λ c κs. c.before.before.before.before.before.before.requires.1 c.before.before.before.if1.false)
+    (λ c κs. c.requires.1 c.if-text-at.false)
     (λ c. search laws)
     (λ c. (search rules, search (rules, here_count), search (rules, here_words))))

@@ -7,11 +7,11 @@ use borrow.Author.Rules.{rules}
 use Rattle.lexer.proofs.fill.Statement.{statement}
 use Rattle.lexer.proofs.fill.Tie as tie
 
-abbrev invariant-loop : tie.invariant-loop
-invariant-loop table text work₀ at₀ n₀ work at n = State text work₀ work at n
+abbrev invariant-loop-v : tie.invariant-loop-v
+invariant-loop-v table text work₀ at₀ n₀ work at n = State text work₀ work at n
 
-abbrev decreases-loop : tie.decreases-loop
-decreases-loop table text work₀ at₀ n₀ work at n = length text - at
+abbrev decreases-loop-v : tie.decreases-loop-v
+decreases-loop-v table text work₀ at₀ n₀ work at n = length text - at
 
 ruleset laws = (rules, state_start_lem, end_fits, token_room, gap_falls, state_gap, end_room, done_count, done_words, quick_in, quick_room, quick_falls, state_quick, blank_in, blank_falls, state_blank, comma_room, place_fits, both_falls)
 
@@ -21,8 +21,8 @@ pub fill_spec : {M : Type 1} → statement M
 fill_spec =
     tie.close
     (tie.spec
-    invariant-loop
-    decreases-loop
+    invariant-loop-v
+    decreases-loop-v
     (λ c. search laws)
     (λ c κs. search laws)
     (λ c. search laws)

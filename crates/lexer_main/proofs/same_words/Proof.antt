@@ -8,11 +8,11 @@ use borrow.Author.Rules.{rules}
 use Rattle.lexer_main.proofs.same_words.Statement.{statement}
 use Rattle.lexer_main.proofs.same_words.Tie as tie
 
-abbrev invariant-loop : tie.invariant-loop
-invariant-loop a b i₀ i = same (drop i a) (drop i b) ≡ same a b
+abbrev invariant-loop-i : tie.invariant-loop-i
+invariant-loop-i a b i₀ i = same (drop i a) (drop i b) ≡ same a b
 
-abbrev decreases-loop : tie.decreases-loop
-decreases-loop a b i₀ i = length a - i
+abbrev decreases-loop-i : tie.decreases-loop-i
+decreases-loop-i a b i₀ i = length a - i
 
 ruleset laws = (rules, same_lengths, same-on, same_off, same_end)
 
@@ -20,8 +20,8 @@ pub same_words_spec : {M : Type 1} → statement M
 same_words_spec =
     tie.close
     (tie.spec
-    invariant-loop
-    decreases-loop
+    invariant-loop-i
+    decreases-loop-i
     (λ c. search laws)
     (λ c. search laws)
     (λ c. search laws)

@@ -13,18 +13,18 @@ use Rattle.list_lines.proofs.codes.Tie as tie
 
 ruleset laws = (rules, codes-start, codes-on, codes-end)
 
-abbrev invariant-loop : tie.invariant-loop
-invariant-loop out₀ at words k o n sep end₀ i₀ j₀ out end i j = (i ≤ n) × (j ≤ 7 * i) × (length out ≡ length out₀) × Goes (more sep i (codes_left sep k o n words i j)) (output out end) (parted sep (codes o (groups k n words))) (output out₀ at)
+abbrev invariant-loop-i : tie.invariant-loop-i
+invariant-loop-i out₀ at words k o n sep end₀ i₀ j₀ out end i j = (i ≤ n) × (j ≤ 7 * i) × (length out ≡ length out₀) × Goes (more sep i (codes_left sep k o n words i j)) (output out end) (parted sep (codes o (groups k n words))) (output out₀ at)
 
-abbrev decreases-loop : tie.decreases-loop
-decreases-loop out₀ at words k o n sep end₀ i₀ j₀ out end i j = n - i
+abbrev decreases-loop-i : tie.decreases-loop-i
+decreases-loop-i out₀ at words k o n sep end₀ i₀ j₀ out end i j = n - i
 
 pub codes_spec : {M : Type 1} → statement M
 codes_spec =
     tie.close
     (tie.spec
-    invariant-loop
-    decreases-loop
+    invariant-loop-i
+    decreases-loop-i
     (λ c. search laws)
     (λ c κs. search laws)
     (λ c. search laws)
@@ -34,12 +34,12 @@ codes_spec =
     (λ c. search laws)
     (λ c. search laws)
     (λ c.
-    let at_code = c.before.before in
+    let at_code = c in
     let at-word = at_code.before in
     let at-separator = at-word.before.before.before.before in
     let in-loop = at-separator.before.before in
-    let t = in-loop.loop-test.true in
-    let l = in-loop.before.loop.invariant in
-    (search rules, search rules, search rules, codes-on _ _ _ _ _ _ _ t (search rules) _ at-word.word.ensures _ _ _ _ _ at-separator.separator.ensures l.3 at_code.code.ensures))
+    let t = in-loop.loop-i-test.true in
+    let l = in-loop.loop-i.invariant in
+    (search rules, search rules, search rules, codes-on _ _ _ _ _ _ _ t (search rules) _ at-word.word.ensures _ _ _ _ _ at-separator.separator-a.ensures l.3 at_code.code-end.ensures))
     (λ c. search laws)
     (λ c. search laws))

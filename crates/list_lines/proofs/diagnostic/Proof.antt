@@ -38,7 +38,7 @@ diagnostic_spec =
     let at-say2 = at_place.before.before.before.before.before in
     let at_code = at-say2.before.before.before.before.before in
     let at-say = at_code.before.before.before.before.before in
-    at-say5.say5.auto.0 ∙ at-position-of.position_of.auto.0 ∙ at-say4.say4.auto.0 ∙ at-related.related.auto.0 ∙ at-say3.say3.auto.0 ∙ at_place.place.auto.0 ∙ at-say2.say2.auto.0 ∙ at_code.code.auto.0 ∙ at-say.say.auto.0)
+    at-say5.say.auto.0 ∙ at-position-of.position_of-h.auto.0 ∙ at-say4.say-g.auto.0 ∙ at-related.related-f.auto.0 ∙ at-say3.say-e.auto.0 ∙ at_place.place-d.auto.0 ∙ at-say2.say-c.auto.0 ∙ at_code.code-b.auto.0 ∙ at-say.say-a.auto.0)
     (λ c.
     let at-say5 = c.before.before in
     let at-position-of = at-say5.before.before.before.before.before in
@@ -54,4 +54,4 @@ diagnostic_spec =
     let at-word2 = at_code.before in
     let at-say = at-word2.before.before.before.before in
     let at-word = at-say.before.before.before in
-    diagnostic-put _ _ _ _ _ _ _ _ _ _ _ _ _ _ _ _ _ at-word2.word2.ensures at-word.word.ensures at-word3.word3.ensures at-word4.word4.ensures at-word5.word5.ensures at-say.say.ensures at_code.code.ensures at-say2.say2.ensures at_place.place.ensures at-say3.say3.ensures at-related.related.ensures at-say4.say4.ensures at-position-of.position_of.ensures at-say5.say5.ensures))
+    diagnostic-put _ _ _ _ _ _ _ _ _ _ _ _ _ _ _ _ _ at-word2.word.ensures at-word.word-start.ensures at-word3.word-2.ensures at-word4.word-3.ensures at-word5.word-4.ensures at-say.say-a.ensures at_code.code-b.ensures at-say2.say-c.ensures at_place.place-d.ensures at-say3.say-e.ensures at-related.related-f.ensures at-say4.say-g.ensures at-position-of.position_of-h.ensures at-say5.say.ensures))

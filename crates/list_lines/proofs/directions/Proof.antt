@@ -13,18 +13,18 @@ use Rattle.list_lines.proofs.directions.Tie as tie
 
 ruleset laws = (rules, moves-start, moves-on, moves-end)
 
-abbrev invariant-loop : tie.invariant-loop
-invariant-loop out₀ at words n end₀ i₀ j₀ out end i j = (i ≤ n) × (j ≤ 7 * i) × (length out ≡ length out₀) × Goes (more 0x2C i (moves_left 0x2C n words i j)) (output out end) (parted 0x2C (moves (groups 7 n words))) (output out₀ at)
+abbrev invariant-loop-i : tie.invariant-loop-i
+invariant-loop-i out₀ at words n end₀ i₀ j₀ out end i j = (i ≤ n) × (j ≤ 7 * i) × (length out ≡ length out₀) × Goes (more 0x2C i (moves_left 0x2C n words i j)) (output out end) (parted 0x2C (moves (groups 7 n words))) (output out₀ at)
 
-abbrev decreases-loop : tie.decreases-loop
-decreases-loop out₀ at words n end₀ i₀ j₀ out end i j = n - i
+abbrev decreases-loop-i : tie.decreases-loop-i
+decreases-loop-i out₀ at words n end₀ i₀ j₀ out end i j = n - i
 
 pub directions_spec : {M : Type 1} → statement M
 directions_spec =
     tie.close
     (tie.spec
-    invariant-loop
-    decreases-loop
+    invariant-loop-i
+    decreases-loop-i
     (λ c. search laws)
     (λ c κs. search laws)
     (λ c. search laws)
@@ -38,8 +38,8 @@ directions_spec =
     let at-word = at-direction.before in
     let at-separator = at-word.before.before.before.before in
     let in-loop = at-separator.before.before in
-    let t = in-loop.loop-test.true in
-    let l = in-loop.before.loop.invariant in
-    (search rules, search rules, search rules, moves-on _ _ _ _ _ t _ at-word.word.ensures _ _ _ _ _ at-separator.separator.ensures l.3 at-direction.direction.ensures))
+    let t = in-loop.loop-i-test.true in
+    let l = in-loop.loop-i.invariant in
+    (search rules, search rules, search rules, moves-on _ _ _ _ _ t _ at-word.word.ensures _ _ _ _ _ at-separator.separator-a.ensures l.3 at-direction.direction-end.ensures))
     (λ c. search laws)
     (λ c. search laws))

@@ -40,4 +40,4 @@ machine_lines_spec =
     let at-after3 = at-say.before.before.before in
     let at-after2 = at-after3.before.before.before.before.before in
     let at_after = at-after2.before.before in
-    machine-put _ _ _ _ _ _ _ _ _ _ _ _ at_after.after.ensures at-after2.after2.ensures at-after3.after3.ensures at-say.say.ensures at-state-lines.state_lines.ensures at-symbol-lines.symbol_lines.ensures at-transition-lines.transition_lines.ensures))
+    machine-put _ _ _ _ _ _ _ _ _ _ _ _ at_after.after-sigma.ensures at-after2.after-gamma.ensures at-after3.after-rules.ensures at-say.say-a.ensures at-state-lines.state_lines-b.ensures at-symbol-lines.symbol_lines-c.ensures at-transition-lines.transition_lines.ensures))

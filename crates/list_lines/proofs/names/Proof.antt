@@ -13,27 +13,27 @@ use Rattle.list_lines.proofs.names.Tie as tie
 
 ruleset laws = (rules, names-start, names-count, names-on, names-end)
 
-abbrev invariant-loop : tie.invariant-loop
-invariant-loop out₀ at text words n all l₀ i₀ j₀ out l i j = (i ≤ n) × (j ≤ 3 * i) × (l.count ≤ i) × (length out ≡ length out₀) × Goes (more 0x20 l.count (names_left text all n words i j)) (output out l.at) (parted 0x20 (names text all (groups 3 n words))) (output out₀ at)
+abbrev invariant-loop-i : tie.invariant-loop-i
+invariant-loop-i out₀ at text words n all l₀ i₀ j₀ out l i j = (i ≤ n) × (j ≤ 3 * i) × (l.count ≤ i) × (length out ≡ length out₀) × Goes (more 0x20 l.count (names_left text all n words i j)) (output out l.at) (parted 0x20 (names text all (groups 3 n words))) (output out₀ at)
 
-abbrev decreases-loop : tie.decreases-loop
-decreases-loop out₀ at text words n all l₀ i₀ j₀ out l i j = n - i
+abbrev decreases-loop-i : tie.decreases-loop-i
+decreases-loop-i out₀ at text words n all l₀ i₀ j₀ out l i j = n - i
 
 pub names_spec : {M : Type 1} → statement M
 names_spec =
     tie.close
     (tie.spec
-    invariant-loop
-    decreases-loop
+    invariant-loop-i
+    decreases-loop-i
     (λ c. search laws)
     (λ c κs. search laws)
     (λ c. search laws)
     (λ c. search laws)
     (λ c. search laws)
     (λ c.
-    let f = c.before.before in
-    let t = f.before.before.loop-test.true in
-    let l = f.before.before.before.loop.invariant in
-    (search rules, search rules, names-count _ _ _ _ _ _ _ f.state_name.ensures l.2, search rules, names-on _ _ _ _ _ _ t _ _ _ _ _ _ l.4 f.state_name.ensures))
+    let f = c in
+    let t = f.loop-i-test.true in
+    let l = f.loop-i.invariant in
+    (search rules, search rules, names-count _ _ _ _ _ _ _ f.state_name-l.ensures l.2, search rules, names-on _ _ _ _ _ _ t _ _ _ _ _ _ l.4 f.state_name-l.ensures))
     (λ c. search laws)
     (λ c. search laws))

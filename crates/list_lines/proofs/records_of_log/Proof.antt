@@ -14,18 +14,18 @@ use Rattle.list_lines.proofs.records_of_log.Tie as tie
 
 ruleset laws = (rules, log-start, log-on, log-end)
 
-abbrev invariant-loop : tie.invariant-loop
-invariant-loop out₀ at text log n end₀ i₀ j₀ out end i j = (i ≤ n) × (j ≡ 5 * i) × (length out ≡ length out₀) × Goes (log_left text n log i j) (output out end) (each (diagnostic text) (groups 5 n log)) (output out₀ at)
+abbrev invariant-loop-i : tie.invariant-loop-i
+invariant-loop-i out₀ at text log n end₀ i₀ j₀ out end i j = (i ≤ n) × (j ≡ 5 * i) × (length out ≡ length out₀) × Goes (log_left text n log i j) (output out end) (each (diagnostic text) (groups 5 n log)) (output out₀ at)
 
-abbrev decreases-loop : tie.decreases-loop
-decreases-loop out₀ at text log n end₀ i₀ j₀ out end i j = n - i
+abbrev decreases-loop-i : tie.decreases-loop-i
+decreases-loop-i out₀ at text log n end₀ i₀ j₀ out end i j = n - i
 
 pub records_of_log_spec : {M : Type 1} → statement M
 records_of_log_spec =
     tie.close
     (tie.spec
-    invariant-loop
-    decreases-loop
+    invariant-loop-i
+    decreases-loop-i
     (λ c. search laws)
     (λ c. search laws)
     (λ c. search laws)

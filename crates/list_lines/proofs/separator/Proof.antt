@@ -11,5 +11,5 @@ separator_spec =
     (λ c. search rules)
     (λ c κs. search rules)
     (λ c. search rules)
-    (λ c. separator-put _ _ _ _ c.before.before.before.before.before.if1.true c.before.before.say.ensures)
-    (λ c. separator-none _ _ _ c.if1.false))
+    (λ c. separator-put _ _ _ _ c.if-i-gt0.true c.say.ensures)
+    (λ c. separator-none _ _ _ c.if-i-gt0.false))

@@ -28,4 +28,4 @@ state_lines_spec =
     let at-say2 = at-names2.before.before.before.before in
     let at_Names = at-say2.before.before.before.before.before in
     let at-say = at_Names.before.before.before.before in
-    states-put _ _ _ _ _ _ _ _ _ _ _ _ at-say.say.ensures at_Names.names.ensures at-say2.say2.ensures at-names2.names2.ensures at-say3.say3.ensures at_named.named.ensures at-say4.say4.ensures))
+    states-put _ _ _ _ _ _ _ _ _ _ _ _ at-say.say-a.ensures at_Names.names-b.ensures at-say2.say-c.ensures at-names2.names-d.ensures at-say3.say-e.ensures at_named.named-f.ensures at-say4.say.ensures))

@@ -23,4 +23,4 @@ symbol_lines_spec =
     let at-say2 = at-codes2.before.before.before.before in
     let at-codes = at-say2.before.before.before.before.before in
     let at-say = at-codes.before.before.before.before in
-    symbols-put _ _ _ _ _ _ _ _ _ _ at-say.say.ensures at-codes.codes.ensures at-say2.say2.ensures at-codes2.codes2.ensures at-say3.say3.ensures))
+    symbols-put _ _ _ _ _ _ _ _ _ _ at-say.say-a.ensures at-codes.codes-b.ensures at-say2.say-c.ensures at-codes2.codes-d.ensures at-say3.say.ensures))

@@ -44,7 +44,7 @@ transition_spec =
     let at-say2 = at-codes.before.before.before.before in
     let at_named = at-say2.before.before.before.before.before in
     let at-say = at_named.before.before.before.before.before.before in
-    at-say6.say6.auto.0 ∙ at-directions.directions.auto.0 ∙ at-say5.say5.auto.0 ∙ at-codes2.codes2.auto.0 ∙ at-say4.say4.auto.0 ∙ at-named2.named2.auto.0 ∙ at-say3.say3.auto.0 ∙ at-codes.codes.auto.0 ∙ at-say2.say2.auto.0 ∙ at_named.named.auto.0 ∙ at-say.say.auto.0)
+    at-say6.say.auto.0 ∙ at-directions.directions-j.auto.0 ∙ at-say5.say-i.auto.0 ∙ at-codes2.codes-h.auto.0 ∙ at-say4.say-g.auto.0 ∙ at-named2.named-f.auto.0 ∙ at-say3.say-e.auto.0 ∙ at-codes.codes-d.auto.0 ∙ at-say2.say-c.auto.0 ∙ at_named.named-b.auto.0 ∙ at-say.say-a.auto.0)
     (λ c.
     let at-say6 = c.before.before in
     let at-directions = at-say6.before.before.before.before.before in
@@ -63,4 +63,4 @@ transition_spec =
     let at-say = at-word2.before.before.before.before in
     let at-word = at-say.before.before.before in
     let at_after = at-word.before in
-    transition-put _ _ _ _ _ _ _ _ _ _ _ _ _ _ _ _ _ _ _ _ at_after.after.ensures at-word.word.ensures at-word2.word2.ensures at-word3.word3.ensures at-word4.word4.ensures at-word5.word5.ensures at-say.say.ensures at_named.named.ensures at-say2.say2.ensures at-codes.codes.ensures at-say3.say3.ensures at-named2.named2.ensures at-say4.say4.ensures at-codes2.codes2.ensures at-say5.say5.ensures at-directions.directions.ensures at-say6.say6.ensures))
+    transition-put _ _ _ _ _ _ _ _ _ _ _ _ _ _ _ _ _ _ _ _ at_after.after-actions.ensures at-word.word-n.ensures at-word2.word.ensures at-word3.word-2.ensures at-word4.word-3.ensures at-word5.word-4.ensures at-say.say-a.ensures at_named.named-b.ensures at-say2.say-c.ensures at-codes.codes-d.ensures at-say3.say-e.ensures at-named2.named-f.ensures at-say4.say-g.ensures at-codes2.codes-h.ensures at-say5.say-i.ensures at-directions.directions-j.ensures at-say6.say.ensures))

@@ -14,18 +14,18 @@ use Rattle.list_lines.proofs.transitions.Tie as tie
 
 ruleset laws = (rules, rules-start, rules-on, rules-end)
 
-abbrev invariant-loop : tie.invariant-loop
-invariant-loop out₀ at text words n end₀ i₀ j₀ out end i j = (i ≤ n) × (j ≤ length words) × (length out ≡ length out₀) × Goes (rules_left text n words i j) (output out end) (each (transition text) (records n words)) (output out₀ at)
+abbrev invariant-loop-i : tie.invariant-loop-i
+invariant-loop-i out₀ at text words n end₀ i₀ j₀ out end i j = (i ≤ n) × (j ≤ length words) × (length out ≡ length out₀) × Goes (rules_left text n words i j) (output out end) (each (transition text) (records n words)) (output out₀ at)
 
-abbrev decreases-loop : tie.decreases-loop
-decreases-loop out₀ at text words n end₀ i₀ j₀ out end i j = n - i
+abbrev decreases-loop-i : tie.decreases-loop-i
+decreases-loop-i out₀ at text words n end₀ i₀ j₀ out end i j = n - i
 
 pub transitions_spec : {M : Type 1} → statement M
 transitions_spec =
     tie.close
     (tie.spec
-    invariant-loop
-    decreases-loop
+    invariant-loop-i
+    decreases-loop-i
     (λ c. search laws)
     (λ c κs. search laws)
     (λ c κs. search laws)
@@ -39,7 +39,7 @@ transitions_spec =
     let at-transition = c.before.before.before.before in
     let at-record-at = at-transition.before in
     let at-loop-test = at-record-at.before.before in
-    let l = at-loop-test.before.loop.invariant in
-    (search rules, search rules, search rules, rules-on _ _ _ _ _ at-loop-test.loop-test.true _ at-record-at.record_at.ensures _ _ c.before.word.ensures c.least.ensures _ _ _ _ l.3 at-transition.transition.ensures))
+    let l = at-loop-test.loop-i.invariant in
+    (search rules, search rules, search rules, rules-on _ _ _ _ _ at-loop-test.loop-i-test.true _ at-record-at.record_at.ensures _ _ c.word.ensures c.least-j.ensures _ _ _ _ l.3 at-transition.transition-end.ensures))
     (λ c. search laws)
-    (λ c. rules-end _ _ _ _ _ _ _ _ c.loop-test.false c.before.loop.invariant.3))
+    (λ c. rules-end _ _ _ _ _ _ _ _ c.loop-i-test.false c.loop-i.invariant.3))

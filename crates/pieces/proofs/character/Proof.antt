@@ -12,4 +12,4 @@ character_spec =
     (tie.spec
     (λ c κs. search laws)
     (λ c. search rules)
-    (λ c. character-written _ _ _ _ (search laws) c.before.before.code_point.ensures))
+    (λ c. character-written _ _ _ _ (search laws) c.code_point.ensures))

@@ -15,18 +15,18 @@ use Rattle.pieces.proofs.string_text.Tie as tie
 
 ruleset laws = (rules, char_scalar, char_le, char_falls, text_start, text_goes, text_closes, text_on, text_invalid, text_end)
 
-abbrev invariant-loop : tie.invariant-loop
-invariant-loop out₀ at part end₀ i₀ slash₀ out end i slash = (i ≤ length part) × (length out ≡ length out₀) × ClosedFrom slash (decode (drop i part)) × Goes (escaped_text (value_from slash (decode (drop i part)))) (output out end) (escaped_text (unescape (decode part))) (output out₀ at)
+abbrev invariant-loop-c : tie.invariant-loop-c
+invariant-loop-c out₀ at part end₀ i₀ slash₀ out end i slash = (i ≤ length part) × (length out ≡ length out₀) × ClosedFrom slash (decode (drop i part)) × Goes (escaped_text (value_from slash (decode (drop i part)))) (output out end) (escaped_text (unescape (decode part))) (output out₀ at)
 
-abbrev decreases-loop : tie.decreases-loop
-decreases-loop out₀ at part end₀ i₀ slash₀ out end i slash = length part - i
+abbrev decreases-loop-c : tie.decreases-loop-c
+decreases-loop-c out₀ at part end₀ i₀ slash₀ out end i slash = length part - i
 
 pub string_text_spec : {M : Type 1} → statement M
 string_text_spec =
     tie.close
     (tie.spec
-    invariant-loop
-    decreases-loop
+    invariant-loop-c
+    decreases-loop-c
     (λ c. search laws)
     (λ c κs. search laws)
     (λ c. search laws)

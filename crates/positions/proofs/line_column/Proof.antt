@@ -7,18 +7,18 @@ use Rattle.positions.proofs.line_column.Tie as tie
 
 ruleset laws = (rules, below_start, below_next, below_line, below_column, behind-start, behind-next, behind-end)
 
-abbrev invariant-loop : tie.invariant-loop
-invariant-loop text offset n p₀ i₀ p i = (i ≤ n) × Below p i × Behind text offset n i p
+abbrev invariant-loop-i : tie.invariant-loop-i
+invariant-loop-i text offset n p₀ i₀ p i = (i ≤ n) × Below p i × Behind text offset n i p
 
-abbrev decreases-loop : tie.decreases-loop
-decreases-loop text offset n p₀ i₀ p i = n - i
+abbrev decreases-loop-i : tie.decreases-loop-i
+decreases-loop-i text offset n p₀ i₀ p i = n - i
 
 pub line_column_spec : {M : Type 1} → statement M
 line_column_spec =
     tie.close
     (tie.spec
-    invariant-loop
-    decreases-loop
+    invariant-loop-i
+    decreases-loop-i
     (λ c κs. search laws)
     (λ c. search laws)
     (λ c. search laws)

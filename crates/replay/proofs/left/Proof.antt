@@ -5,11 +5,11 @@ use Rattle.replay.proofs.Laws.{left_short, left-on, left_off, left_end}
 use Rattle.replay.proofs.left.Statement.{statement}
 use Rattle.replay.proofs.left.Tie as tie
 
-abbrev invariant-loop : tie.invariant-loop
-invariant-loop before case from mark row i₀ i = (i ≤ length row) × (left_from before case from mark i (drop i row) ≡ left_from before case from mark 0 row)
+abbrev invariant-loop-i : tie.invariant-loop-i
+invariant-loop-i before case from mark row i₀ i = (i ≤ length row) × (left_from before case from mark i (drop i row) ≡ left_from before case from mark 0 row)
 
-abbrev decreases-loop : tie.decreases-loop
-decreases-loop before case from mark row i₀ i = length row - i
+abbrev decreases-loop-i : tie.decreases-loop-i
+decreases-loop-i before case from mark row i₀ i = length row - i
 
 ruleset laws = (rules, left_short, left-on, left_off, left_end)
 
@@ -17,8 +17,8 @@ pub left_spec : {M : Type 1} → statement M
 left_spec =
     tie.close
     (tie.spec
-    invariant-loop
-    decreases-loop
+    invariant-loop-i
+    decreases-loop-i
     (λ c κs. search laws)
     (λ c. search laws)
     (λ c. search laws)
@@ -28,5 +28,5 @@ left_spec =
     (λ c. search laws)
     (λ c. search laws)
     (λ c. search laws)
-    (λ c. (omega arith, left-on _ _ _ _ _ _ _ c.before.before.before.before.loop.invariant.1 c.before.before.before.loop-test.true _ c.before.wanted.ensures c.if2.false))
+    (λ c. (omega arith, left-on _ _ _ _ _ _ _ c.loop-i.invariant.1 c.loop-i-test.true _ c.wanted.ensures c.if-row-i.false))
     (λ c. search laws))

@@ -5,11 +5,11 @@ use Rattle.replay.proofs.Laws.{output_short, output_on, output_off, output-end}
 use Rattle.replay.proofs.output_left.Statement.{statement}
 use Rattle.replay.proofs.output_left.Tie as tie
 
-abbrev invariant-loop : tie.invariant-loop
-invariant-loop case from n output i₀ i = (i ≤ length output) × (output_from case from n i (drop i output) ≡ output_from case from n 0 output)
+abbrev invariant-loop-i : tie.invariant-loop-i
+invariant-loop-i case from n output i₀ i = (i ≤ length output) × (output_from case from n i (drop i output) ≡ output_from case from n 0 output)
 
-abbrev decreases-loop : tie.decreases-loop
-decreases-loop case from n output i₀ i = length output - i
+abbrev decreases-loop-i : tie.decreases-loop-i
+decreases-loop-i case from n output i₀ i = length output - i
 
 ruleset laws = (rules, output_short, output_off, output-end)
 
@@ -17,8 +17,8 @@ pub output_left_spec : {M : Type 1} → statement M
 output_left_spec =
     tie.close
     (tie.spec
-    invariant-loop
-    decreases-loop
+    invariant-loop-i
+    decreases-loop-i
     (λ c. search laws)
     (λ c. search rules)
     (λ c. search rules)
@@ -26,5 +26,5 @@ output_left_spec =
     (λ c. search laws)
     (λ c. search rules)
     (λ c. search rules)
-    (λ c. (omega arith, output_on _ _ _ _ _ _ c.before.before.before.before.loop.invariant.1 c.before.before.before.loop-test.true _ c.before.byte_wanted.ensures c.if2.false))
+    (λ c. (omega arith, output_on _ _ _ _ _ _ c.loop-i.invariant.1 c.loop-i-test.true _ c.byte_wanted.ensures c.if-output-i.false))
     (λ c. search laws))

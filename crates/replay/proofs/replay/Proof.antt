@@ -3,19 +3,19 @@ use Rattle.std.proofs.Common.{◌≡◌, ◌-◌, ◌≤◌, length, arith, leng
 use Rattle.replay.proofs.replay.Statement.{statement}
 use Rattle.replay.proofs.replay.Tie as tie
 
-abbrev invariant-loop : tie.invariant-loop
-invariant-loop n before case₀ work₀ log₀ sheet₀ output₀ tally₀ i₀ case work log sheet output tally i =
+abbrev invariant-loop-i : tie.invariant-loop-i
+invariant-loop-i n before case₀ work₀ log₀ sheet₀ output₀ tally₀ i₀ case work log sheet output tally i =
     (i ≤ n) × (length case ≡ length case₀) × (length work ≡ length work₀) × (length log ≡ length log₀) × (length sheet ≡ length sheet₀) × (length output ≡ length output₀)
 
-abbrev decreases-loop : tie.decreases-loop
-decreases-loop n before case₀ work₀ log₀ sheet₀ output₀ tally₀ i₀ case work log sheet output tally i = n - i
+abbrev decreases-loop-i : tie.decreases-loop-i
+decreases-loop-i n before case₀ work₀ log₀ sheet₀ output₀ tally₀ i₀ case work log sheet output tally i = n - i
 
 pub replay_spec : {M : Type 1} → statement M
 replay_spec =
     tie.close
     (tie.spec
-    invariant-loop
-    decreases-loop
+    invariant-loop-i
+    decreases-loop-i
     (λ c. search rules)
     (λ c κs. search rules)
     (λ c. search rules)

@@ -3,18 +3,18 @@ use Rattle.std.proofs.Common.{◌-◌, ◌≤◌, rules}
 use Rattle.replay.proofs.say_kinds.Statement.{statement}
 use Rattle.replay.proofs.say_kinds.Tie as tie
 
-abbrev invariant-loop : tie.invariant-loop
-invariant-loop tally from k₀ k = k ≤ 9
+abbrev invariant-loop-k : tie.invariant-loop-k
+invariant-loop-k tally from k₀ k = k ≤ 9
 
-abbrev decreases-loop : tie.decreases-loop
-decreases-loop tally from k₀ k = 9 - k
+abbrev decreases-loop-k : tie.decreases-loop-k
+decreases-loop-k tally from k₀ k = 9 - k
 
 pub say_kinds_spec : {M : Type 1} → statement M
 say_kinds_spec =
     tie.close
     (tie.spec
-    invariant-loop
-    decreases-loop
+    invariant-loop-k
+    decreases-loop-k
     (λ c. search rules)
     (λ c. search rules)
     (λ c. search rules)

@@ -3,18 +3,18 @@ use Rattle.std.proofs.Common.{◌≡◌, ◌-◌, ◌≤◌, length, rules}
 use Rattle.replay.proofs.scatter.Statement.{statement}
 use Rattle.replay.proofs.scatter.Tie as tie
 
-abbrev invariant-loop : tie.invariant-loop
-invariant-loop row₀ dirt₀ i₀ row dirt i = (i ≤ length row₀) × (length row ≡ length row₀)
+abbrev invariant-loop-i : tie.invariant-loop-i
+invariant-loop-i row₀ dirt₀ i₀ row dirt i = (i ≤ length row₀) × (length row ≡ length row₀)
 
-abbrev decreases-loop : tie.decreases-loop
-decreases-loop row₀ dirt₀ i₀ row dirt i = length row₀ - i
+abbrev decreases-loop-i : tie.decreases-loop-i
+decreases-loop-i row₀ dirt₀ i₀ row dirt i = length row₀ - i
 
 pub scatter_spec : {M : Type 1} → statement M
 scatter_spec =
     tie.close
     (tie.spec
-    invariant-loop
-    decreases-loop
+    invariant-loop-i
+    decreases-loop-i
     (λ c. search rules)
     (λ c. search rules)
     (λ c. search rules)

@@ -12,7 +12,7 @@ write_agrees_spec =
     (λ c κs. search rules)
     (λ c κs. search rules)
     (λ c κs. search rules)
-    (λ c κs. (omega arith, fronted _ _ _ c.before.before.before.before.before.before.before.before.before.before.before.before.before.before.before.before.before.before.before.before.before.before.before.before.before.before.before.requires.1 c.before.before.before.before.before.before.before.before.before.before.before.before.before.before.before.before.before.before.soil.ensures, omega arith, omega arith, omega arith, omega arith))
+    (λ c κs. (omega arith, fronted _ _ _ c.requires.1 c.soil.ensures, omega arith, omega arith, omega arith, omega arith))
     (λ c. search rules)
     (λ c. search rules)
     (λ c. search rules)

@@ -12,15 +12,15 @@ rule_left_spec =
     (λ c κs. search rules)
     (λ c κs. search rules)
     (λ c κs.
-    let start = c.before.before.before.before.before.before.before.before.before.before in
+    let start = c in
     placed _ start.args.words.now 1 _ c.place_at.ensures start.requires.from)
     (λ c. search rules)
     (λ c κs. search rules)
     (λ c κs. search rules)
     (λ c κs. search rules)
     (λ c κs.
-    let start = c.before.before.before.before.before.before.before.before.before.before.before.before.before.before.before.before.before.before.before.before.before in
-    (search rules, search rules, search (coded start.args.words.now _ _ c.word.ensures c.before.after.ensures 0 start.requires.reads, coded start.args.words.now _ _ c.word.ensures c.before.after.ensures 3 start.requires.writes)))
+    let start = c in
+    (search rules, search rules, search (coded start.args.words.now _ _ c.word.ensures c.after.ensures 0 start.requires.reads, coded start.args.words.now _ _ c.word.ensures c.after.ensures 3 start.requires.writes)))
     (λ c. search rules)
     (λ c κs. search rules)
     (λ c. search rules)
@@ -33,4 +33,4 @@ rule_left_spec =
     let at-verbatim = at-say2.before.before.before.before.before in
     let at-place-at = at-verbatim.before in
     let at-say = at-place-at.before.before.before.before in
-    left-written _ _ _ _ at-word.word.ensures at_after.after.ensures _ _ _ _ _ _ _ at-place-at.place_at.ensures at-say.say.ensures at-verbatim.verbatim.ensures at-say2.say2.ensures at-symbols.symbols.ensures at-say3.say3.ensures))
+    left-written _ _ _ _ at-word.word.ensures at_after.after.ensures _ _ _ _ _ _ _ at-place-at.place_at.ensures at-say.say-a.ensures at-verbatim.verbatim-b.ensures at-say2.say-c.ensures at-symbols.symbols-d.ensures at-say3.say.ensures))

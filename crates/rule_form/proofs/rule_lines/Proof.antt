@@ -17,12 +17,12 @@ rule_lines_spec =
     (λ c κs.
     let at-word = c.before.before.before in
     let start = at-word.before.before.before.before in
-    leading_utf8 _ _ _ _ _ at-word.word.ensures c.word2.ensures c.before.after.ensures start.requires.leading)
+    leading_utf8 _ _ _ _ _ at-word.word.ensures c.word-2.ensures c.after.ensures start.requires.leading)
     (λ c κs. search rules)
     (λ c κs. search rules)
     (λ c κs. search rules)
     (λ c κs.
-    let start = c.before.before.before.before.before.before.before.before.before.before.before.before.before.before.before.before.before.before.before.before in
+    let start = c in
     placed _ start.args.words.now 7 _ c.place_at.ensures start.requires.comment)
     (λ c. search rules)
     (λ c κs. search rules)
@@ -37,4 +37,4 @@ rule_lines_spec =
     let at-word2 = at-comment-lines.before in
     let at_after = at-word2.before in
     let at-word = at_after.before.before in
-    lines-written _ _ _ _ _ at-word.word.ensures at-word2.word2.ensures at_after.after.ensures _ _ _ _ _ _ _ at-place-at.place_at.ensures at-comment-lines.comment_lines.ensures at-rule-left.rule_left.ensures at-rule-right.rule_right.ensures at-own-comment.own_comment_lem.ensures at-say.say.ensures))
+    lines-written _ _ _ _ _ at-word.word.ensures at-word2.word-2.ensures at_after.after.ensures _ _ _ _ _ _ _ at-place-at.place_at.ensures at-comment-lines.comment_lines-a.ensures at-rule-left.rule_left-b.ensures at-rule-right.rule_right-c.ensures at-own-comment.own_comment_lem.ensures at-say.say.ensures))

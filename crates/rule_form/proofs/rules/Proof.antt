@@ -13,24 +13,24 @@ use borrow.Author.Rules.{rules}
 use Rattle.rule_form.proofs.rules.Statement.{statement}
 use Rattle.rule_form.proofs.rules.Tie as tie
 
-abbrev invariant-loop : tie.invariant-loop
-invariant-loop out₀ at text words n end₀ i₀ j₀ out end i j = (i ≤ n) × (j ≤ length words) × (length out ≡ length out₀) × Formed text n i j words × Goes (each rule_lines (map (rule_in text) (records_left n i j words))) (output out end) (each rule_lines (map (rule_in text) (records n words))) (output out₀ at)
+abbrev invariant-loop-i : tie.invariant-loop-i
+invariant-loop-i out₀ at text words n end₀ i₀ j₀ out end i j = (i ≤ n) × (j ≤ length words) × (length out ≡ length out₀) × Formed text n i j words × Goes (each rule_lines (map (rule_in text) (records_left n i j words))) (output out end) (each rule_lines (map (rule_in text) (records n words))) (output out₀ at)
 
-abbrev decreases-loop : tie.decreases-loop
-decreases-loop out₀ at text words n end₀ i₀ j₀ out end i j = n - i
+abbrev decreases-loop-i : tie.decreases-loop-i
+decreases-loop-i out₀ at text words n end₀ i₀ j₀ out end i j = n - i
 
 pub rules_spec : {M : Type 1} → statement M
 rules_spec =
     tie.close
     (tie.spec
-    invariant-loop
-    decreases-loop
-    (λ c. (search rules, search rules, search rules, formed-all _ _ _ c.before.before.before.requires, rules-start _ _ _ _))
+    invariant-loop-i
+    decreases-loop-i
+    (λ c. (search rules, search rules, search rules, formed-all _ _ _ c.requires, rules-start _ _ _ _))
     (λ c κs. search rules)
     (λ c κs.
     let at-loop-test = c.before.before in
     let at-loop = at-loop-test.before in
-    formed_here _ _ _ _ _ at-loop-test.loop-test.true _ c.record_at.ensures at-loop.loop.invariant.3)
+    formed_here _ _ _ _ _ at-loop-test.loop-i-test.true _ c.record_at.ensures at-loop.loop-i.invariant.3)
     (λ c κs. search rules)
     (λ c. search rules)
     (λ c. search rules)
@@ -43,8 +43,8 @@ rules_spec =
     let at-loop-test = at-record-at.before.before in
     let at-loop = at-loop-test.before in
     let r = at-record-at.record_at.ensures in
-    let t = at-loop-test.loop-test.true in
-    let l = at-loop.loop.invariant in
-    (search rules, search rules, search rules, formed-next _ _ _ _ _ t _ r _ _ c.before.word.ensures c.least.ensures l.3, rules-on _ _ _ _ _ t _ r _ _ c.before.word.ensures c.least.ensures _ _ _ _ l.4 at-rule-lines.rule_lines.ensures))
+    let t = at-loop-test.loop-i-test.true in
+    let l = at-loop.loop-i.invariant in
+    (search rules, search rules, search rules, formed-next _ _ _ _ _ t _ r _ _ c.word.ensures c.least-j.ensures l.3, rules-on _ _ _ _ _ t _ r _ _ c.word.ensures c.least-j.ensures _ _ _ _ l.4 at-rule-lines.rule_lines-end.ensures))
     (λ c. search rules)
-    (λ c. rules-end _ _ _ _ _ _ _ _ c.loop-test.false c.before.loop.invariant.4))
+    (λ c. rules-end _ _ _ _ _ _ _ _ c.loop-i-test.false c.loop-i.invariant.4))

@@ -16,8 +16,8 @@ pevzoncs_write_spec =
     (λ c. search rules)
     (λ c. search rules)
     (λ c.
-    let told = c.before.before in
-    let called = told.before.before.before.before.before.before.before.before.before.before in (
-      given_back _ called.write.result _ _ _ _ _ _ called.write.ensures.0 told.give.ensures.0 told.give.ensures.1,
-      number_keeps called.write.result _ _ _ told.give.ensures.0 called.write.ensures.1,
+    let told = c in
+    let called = told in (
+      given_back _ called.write-a.result _ _ _ _ _ _ called.write-a.ensures.0 told.give.ensures.0 told.give.ensures.1,
+      number_keeps called.write-a.result _ _ _ told.give.ensures.0 called.write-a.ensures.1,
     )))

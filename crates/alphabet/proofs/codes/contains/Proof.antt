@@ -11,12 +11,12 @@ use Rattle.alphabet.proofs.CodeLaws.{contains-on, contains-all}
 use Rattle.alphabet.proofs.codes.contains.Statement.{statement}
 use Rattle.alphabet.proofs.codes.contains.Tie as tie
 
-abbrev invariant-loop : tie.invariant-loop
-invariant-loop work base n c found₀ i₀ found i =
+abbrev invariant-loop-i : tie.invariant-loop-i
+invariant-loop-i work base n c found₀ i₀ found i =
     (found || member eqb (drop i (held base n work)) c) ≡ member eqb (held base n work) c
 
-abbrev decreases-loop : tie.decreases-loop
-decreases-loop work base n c found₀ i₀ found i = n - i
+abbrev decreases-loop-i : tie.decreases-loop-i
+decreases-loop-i work base n c found₀ i₀ found i = n - i
 
 ruleset laws = (rules, contains-on, contains-all)
 
@@ -24,8 +24,8 @@ pub contains_spec : {M : Type 1} → statement M
 contains_spec =
     tie.close
     (tie.spec
-    invariant-loop
-    decreases-loop
+    invariant-loop-i
+    decreases-loop-i
     (λ c. search laws)
     (λ c. search laws)
     (λ c. search laws)

@@ -22,10 +22,10 @@ is_single_spec =
     (λ c. search rules)
     (λ c κs. search rules)
     (λ c e.
-    let y = c.before in
-    let x = y.before in
-    let f = x.before in
-    let d = f.before in
-    let t = d.before in
-    let z = t.before.before in
-    single_is _ z.args.from z.args.to z.args.w z.args.d t.if1.false d.if2.false _ _ _ _ f.is_at.ensures x.is_at2.ensures y.is_at3.ensures c.is_at4.ensures e))
+    let y = c in
+    let x = y in
+    let f = x in
+    let d = f in
+    let t = d in
+    let z = t in
+    single_is _ z.args.from z.args.to z.args.w z.args.d t.if-to-from.false d.if-d-w.false _ _ _ _ f.is_at.ensures x.is_at-2.ensures y.is_at-3.ensures c.is_at-4.ensures e))

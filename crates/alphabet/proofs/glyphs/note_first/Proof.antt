@@ -12,7 +12,7 @@ note_first_spec =
     (tie.spec
     (λ c κs. search laws)
     (λ c κs. search laws)
-    (λ c κs. one_room _ _ c.before.before.before.before.before.args.blank c.before.before.before.before.before.args.work.now _ _ (is_first _ _ _ c.before.before.before.takes.ensures c.before.before.if1.true) _ c.resolve.ensures c.before.before.before.before.before.requires)
+    (λ c κs. one_room _ _ c.args.blank c.args.work-1.now _ _ (is_first _ _ _ c.takes.ensures c.if-takes.true) _ c.resolve.ensures c.requires)
     (λ c. search laws)
-    (λ c. one-noted c.before.before.before.before.before.before.before.before.args.base c.before.before.before.before.before.before.before.before.args.n c.before.before.before.before.before.before.before.before.args.blank c.before.before.before.before.before.before.before.before.args.work.now _ _ (is_first _ _ _ c.before.before.before.before.before.before.takes.ensures c.before.before.before.before.before.if1.true) _ _ _ c.before.before.before.resolve.ensures c.before.before.note.ensures)
-    (λ c. none-noted _ _ _ _ _ (no_first _ _ _ c.before.takes.ensures c.if1.false) c.before.before.before.requires))
+    (λ c. one-noted c.args.base c.args.n c.args.blank c.args.work-1.now _ _ (is_first _ _ _ c.takes.ensures c.if-takes.true) _ _ _ c.resolve.ensures c.note.ensures)
+    (λ c. none-noted _ _ _ _ _ (no_first _ _ _ c.takes.ensures c.if-takes.false) c.requires))

@@ -9,12 +9,12 @@ use Rattle.alphabet.proofs.GlyphLaws.{first_room, first_next, first-end}
 use Rattle.alphabet.proofs.glyphs.note_firsts.Statement.{statement}
 use Rattle.alphabet.proofs.glyphs.note_firsts.Tie as tie
 
-abbrev invariant-loop : tie.invariant-loop
-invariant-loop work₀ count base n from to blank s₀ m₀ i₀ work s m i =
+abbrev invariant-loop-i : tie.invariant-loop-i
+invariant-loop-i work₀ count base n from to blank s₀ m₀ i₀ work s m i =
     Noting base (noted_all (held base n work₀) (codes_of blank (firsts outside (range (rows count work₀) from to)))) work₀ work m (codes_of blank (firsts s (range (rows count work₀) i to)))
 
-abbrev decreases-loop : tie.decreases-loop
-decreases-loop work₀ count base n from to blank s₀ m₀ i₀ work s m i = to - i
+abbrev decreases-loop-i : tie.decreases-loop-i
+decreases-loop-i work₀ count base n from to blank s₀ m₀ i₀ work s m i = to - i
 
 ruleset laws = (rules, noting_start, first_room)
 
@@ -22,14 +22,14 @@ pub note_firsts_spec : {M : Type 1} → statement M
 note_firsts_spec =
     tie.close
     (tie.spec
-    invariant-loop
-    decreases-loop
-    (λ c. noting_start _ _ _ _ c.before.requires.1)
+    invariant-loop-i
+    decreases-loop-i
+    (λ c. noting_start _ _ _ _ c.requires.1)
     (λ c κs. search laws)
-    (λ c κs. first_room _ _ c.before.before.before.before.before.before.args.blank _ _ _ _ _ _ c.before.before.before.before.before.before.requires.0 _ c.before.before.before.before.loop.invariant _ c.before.before.before.loop-test.true c.before.token_at.ensures)
+    (λ c κs. first_room _ _ c.args.blank _ _ _ _ _ _ c.requires.0 _ c.loop-i.invariant _ c.loop-i-test.true c.token_at-t.ensures)
     (λ c κs. search laws)
     (λ c. search laws)
     (λ c. search laws)
-    (λ c. first_next _ _ c.before.before.before.before.before.before.before.before.before.before.args.blank _ _ _ _ _ _ c.before.before.before.before.before.before.before.before.before.before.requires.0 _ c.before.before.before.before.before.before.before.before.loop.invariant _ c.before.before.before.before.before.before.before.loop-test.true c.before.before.before.before.before.token_at.ensures _ _ _ c.before.before.before.note_first.ensures c.walked.ensures)
+    (λ c. first_next _ _ c.args.blank _ _ _ _ _ _ c.requires.0 _ c.loop-i.invariant _ c.loop-i-test.true c.token_at-t.ensures _ _ _ c.note_first-m.ensures c.walked-s.ensures)
     (λ c. search laws)
-    (λ c. first-end _ _ c.before.before.before.args.blank _ _ _ _ _ _ c.before.before.before.requires.0 _ c.before.loop.invariant c.loop-test.false))
+    (λ c. first-end _ _ c.args.blank _ _ _ _ _ _ c.requires.0 _ c.loop-i.invariant c.loop-i-test.false))

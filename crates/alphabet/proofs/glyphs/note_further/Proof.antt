@@ -8,12 +8,12 @@ use Rattle.alphabet.proofs.GlyphLaws.{Turning, turning_start, turning_room, turn
 use Rattle.alphabet.proofs.glyphs.note_further.Statement.{statement}
 use Rattle.alphabet.proofs.glyphs.note_further.Tie as tie
 
-abbrev invariant-loop : tie.invariant-loop
-invariant-loop work₀ count base n from to blank m₀ i₀ work m i =
+abbrev invariant-loop-i : tie.invariant-loop-i
+invariant-loop-i work₀ count base n from to blank m₀ i₀ work m i =
     Turning base count blank (noted_all (held base n work₀) (codes_of blank (further (range (rows count work₀) from to)))) work₀ work m from to i
 
-abbrev decreases-loop : tie.decreases-loop
-decreases-loop work₀ count base n from to blank m₀ i₀ work m i = i - from
+abbrev decreases-loop-i : tie.decreases-loop-i
+decreases-loop-i work₀ count base n from to blank m₀ i₀ work m i = i - from
 
 ruleset laws = (rules, turning_start)
 
@@ -21,14 +21,14 @@ pub note_further_spec : {M : Type 1} → statement M
 note_further_spec =
     tie.close
     (tie.spec
-    invariant-loop
-    decreases-loop
-    (λ c. turning_start _ _ _ _ _ _ _ c.before.requires.1)
+    invariant-loop-i
+    decreases-loop-i
+    (λ c. turning_start _ _ _ _ _ _ _ c.requires.1)
     (λ c. search laws)
     (λ c κs. search laws)
     (λ c. search laws)
-    (λ c κs. (c.before.before.before.before.before.before.requires.0, turning_room _ _ c.before.before.before.before.before.before.args.blank _ _ _ _ _ _ _ c.before.before.before.before.before.before.requires.0 c.before.before.before.before.loop.invariant _ c.before.before.before.loop-test.true c.before.token_at.ensures))
+    (λ c κs. (c.requires.0, turning_room _ _ c.args.blank _ _ _ _ _ _ _ c.requires.0 c.loop-i.invariant _ c.loop-i-test.true c.token_at-t.ensures))
     (λ c. search laws)
-    (λ c. turning_next _ _ c.before.before.before.before.before.before.before.before.before.args.blank _ _ _ _ _ _ _ c.before.before.before.before.before.before.before.before.before.requires.0 c.before.before.before.before.before.before.before.loop.invariant _ c.before.before.before.before.before.before.loop-test.true c.before.before.before.before.token_at.ensures _ _ c.before.before.note_set.ensures)
+    (λ c. turning_next _ _ c.args.blank _ _ _ _ _ _ _ c.requires.0 c.loop-i.invariant _ c.loop-i-test.true c.token_at-t.ensures _ _ c.note_set-m.ensures)
     (λ c. search laws)
-    (λ c. turning_end _ _ c.before.before.before.args.blank _ _ _ _ _ _ _ c.before.before.before.requires.0 c.before.loop.invariant c.loop-test.false))
+    (λ c. turning_end _ _ c.args.blank _ _ _ _ _ _ _ c.requires.0 c.loop-i.invariant c.loop-i-test.false))

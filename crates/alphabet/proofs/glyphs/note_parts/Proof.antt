@@ -10,15 +10,15 @@ note_parts_spec =
     (tie.spec
     (λ c κs. search rules)
     (λ c κs.
-    let i = c.before in
-    let z = i.before.before.before.before in
-    (z.requires.0, room_as z.args.base z.args.n z.args.blank z.args.work.now _ _ (i.before.is_single.ensures i.if1.true) z.requires.3))
+    let i = c in
+    let z = i in
+    (z.requires.0, room_as z.args.base z.args.n z.args.blank z.args.work-1.now _ _ (i.is_single.ensures i.if-is_single.true) z.requires.3))
     (λ c. search rules)
     (λ c.
-    let s = c.before.before in
-    let i = s.before.before in
-    let z = i.before.before.before.before in
-    noted_as z.args.base z.args.n z.args.blank z.args.work.now _ _ (i.before.is_single.ensures i.if1.true) _ _ s.note_single.ensures)
+    let s = c in
+    let i = s in
+    let z = i in
+    noted_as z.args.base z.args.n z.args.blank z.args.work-1.now _ _ (i.is_single.ensures i.if-is_single.true) _ _ s.note_single.ensures)
     (λ c κs. search rules)
     (λ c. search rules)
     (λ c. search rules))

@@ -9,12 +9,12 @@ use Rattle.alphabet.proofs.GlyphLaws.{Ranging, ranging_start, ranging_as, rangin
 use Rattle.alphabet.proofs.glyphs.note_range.Statement.{statement}
 use Rattle.alphabet.proofs.glyphs.note_range.Tie as tie
 
-abbrev invariant-loop : tie.invariant-loop
-invariant-loop work₀ count base n from to blank last₀ m₀ i₀ work last m i =
+abbrev invariant-loop-i : tie.invariant-loop-i
+invariant-loop-i work₀ count base n from to blank last₀ m₀ i₀ work last m i =
     Ranging base count blank (noted_all (held base n work₀) (codes_of blank (symbols (range (rows count work₀) from to)))) work₀ work last m i to
 
-abbrev decreases-loop : tie.decreases-loop
-decreases-loop work₀ count base n from to blank last₀ m₀ i₀ work last m i = to - i
+abbrev decreases-loop-i : tie.decreases-loop-i
+decreases-loop-i work₀ count base n from to blank last₀ m₀ i₀ work last m i = to - i
 
 ruleset laws = (rules, ranging_start)
 
@@ -22,30 +22,30 @@ pub note_range_spec : {M : Type 1} → statement M
 note_range_spec =
     tie.close
     (tie.spec
-    invariant-loop
-    decreases-loop
-    (λ c. ranging_start _ _ c.before.args.blank _ _ _ _ c.before.requires.1)
+    invariant-loop-i
+    decreases-loop-i
+    (λ c. ranging_start _ _ c.args.blank _ _ _ _ c.requires.1)
     (λ c κs. search laws)
     (λ c κs. search laws)
     (λ c κs. search laws)
     (λ c κs.
-    let t = c.before.before.before.before in
-    let l = t.before.before.before in
-    let z = l.before.before in
-    ranging_room _ _ z.args.blank _ _ _ _ _ _ _ z.requires.0 l.loop.invariant _ t.before.before.loop-test.true t.token_at.ensures _ c.before.before.before.is_new.ensures _ c.resolve.ensures c.before.before.if1.true)
+    let t = c in
+    let l = t in
+    let z = l in
+    ranging_room _ _ z.args.blank _ _ _ _ _ _ _ z.requires.0 l.loop-i.invariant _ t.loop-i-test.true t.token_at-t.ensures _ c.is_new.ensures _ c.resolve.ensures c.if-is_new.true)
     (λ c. search laws)
     (λ c. search laws)
     (λ c.
-    let s = c.before in
-    let t = s.before in
-    let l = t.before.before.before in
-    let z = l.before.before in
+    let s = c in
+    let t = s in
+    let l = t in
+    let z = l in
     ⊎_elim
     (λ y. ranging_as _ _ z.args.blank _ _ _ _ _ _ _ _ _ _ y.6 y.7 y.8
-    (ranging_noted _ _ z.args.blank _ _ _ _ _ _ _ z.requires.0 l.loop.invariant _ t.before.before.loop-test.true t.token_at.ensures _ s.is_new.ensures
+    (ranging_noted _ _ z.args.blank _ _ _ _ _ _ _ z.requires.0 l.loop-i.invariant _ t.loop-i-test.true t.token_at-t.ensures _ s.is_new.ensures
     _ y.2.ensures y.0.taken _ _ y.3.ensures))
     (λ y. ranging_as _ _ z.args.blank _ _ _ _ _ _ _ _ _ _ y.1 y.2 y.3
-    (ranging_passed _ _ z.args.blank _ _ _ _ _ _ _ z.requires.0 l.loop.invariant _ t.before.before.loop-test.true t.token_at.ensures _ s.is_new.ensures y.0.left))
-    c.if1.branch)
+    (ranging_passed _ _ z.args.blank _ _ _ _ _ _ _ z.requires.0 l.loop-i.invariant _ t.loop-i-test.true t.token_at-t.ensures _ s.is_new.ensures y.0.left))
+    c.if-is_new.branch)
     (λ c. search laws)
-    (λ c. let z = c.before.before.before in ranging_end _ _ z.args.blank _ _ _ _ _ _ _ z.requires.0 c.before.loop.invariant c.loop-test.false))
+    (λ c. let z = c in ranging_end _ _ z.args.blank _ _ _ _ _ _ _ z.requires.0 c.loop-i.invariant c.loop-i-test.false))

@@ -13,9 +13,9 @@ note_rule_spec =
     (λ c. search rules)
     (λ c. search rules)
     (λ c.
-    let t = c.before.before in
-    let z = t.before.before.before in
-    rule-none z.args.base z.args.count z.args.blank z.args.work.now z.args.n z.args.e _ t.token_at.ensures z.requires.2 c.if1.true)
+    let t = c in
+    let z = t in
+    rule-none z.args.base z.args.count z.args.blank z.args.work-1.now z.args.n z.args.e _ t.token_at-t.ensures z.requires.2 c.if-t.true)
     (λ c. search rules)
     (λ c κs. search rules)
     (λ c κs. search rules)
@@ -23,23 +23,23 @@ note_rule_spec =
     (λ c κs. search rules)
     (λ c. search rules)
     (λ c κs.
-    let u = c.before.before.before in
-    let i = u.before.before.before in
-    let t = i.before.before in
-    let z = t.before.before.before in (
+    let u = c in
+    let i = u in
+    let t = i in
+    let z = t in (
       z.requires.0,
       omega (arith, z.requires.0, z.requires.1, z.ranges.base.fits),
-      omega (arith, c.before.before.wide2.ensures.1),
-      rule_room z.args.base z.args.count z.args.blank z.args.work.now z.args.n z.args.e _ t.token_at.ensures z.requires.2 i.if1.false
-          _ u.before.token_at2.ensures _ _ _ u.wide.ensures.0 c.before.before.wide2.ensures.0 c.before.wide3.ensures.0,
+      omega (arith, c.wide-w.ensures.1),
+      rule_room z.args.base z.args.count z.args.blank z.args.work-1.now z.args.n z.args.e _ t.token_at-t.ensures z.requires.2 i.if-t.false
+          _ u.token_at-q.ensures _ _ _ u.wide-to.ensures.0 c.wide-w.ensures.0 c.wide-d.ensures.0,
     ))
     (λ c. search rules)
     (λ c.
-    let p = c.before.before in
-    let v = p.before.before in
-    let u = v.before.before in
-    let i = u.before.before.before in
-    let t = i.before.before in
-    let z = t.before.before.before in
-    rule-all z.args.base z.args.count z.args.blank z.args.work.now z.args.n z.args.e _ t.token_at.ensures z.requires.2 i.if1.false
-    _ u.before.token_at2.ensures _ _ _ u.wide.ensures.0 v.before.wide2.ensures.0 v.wide3.ensures.0 _ _ p.note_parts.ensures))
+    let p = c in
+    let v = p in
+    let u = v in
+    let i = u in
+    let t = i in
+    let z = t in
+    rule-all z.args.base z.args.count z.args.blank z.args.work-1.now z.args.n z.args.e _ t.token_at-t.ensures z.requires.2 i.if-t.false
+    _ u.token_at-q.ensures _ _ _ u.wide-to.ensures.0 v.wide-w.ensures.0 v.wide-d.ensures.0 _ _ p.note_parts.ensures))

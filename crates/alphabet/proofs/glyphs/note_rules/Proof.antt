@@ -10,12 +10,12 @@ use Rattle.alphabet.proofs.GlyphLaws.{left_rules, rules-start, rules_room, rules
 use Rattle.alphabet.proofs.glyphs.note_rules.Statement.{statement}
 use Rattle.alphabet.proofs.glyphs.note_rules.Tie as tie
 
-abbrev invariant-loop : tie.invariant-loop
-invariant-loop work₀ count base n blank m₀ e₀ work m e =
+abbrev invariant-loop-e : tie.invariant-loop-e
+invariant-loop-e work₀ count base n blank m₀ e₀ work m e =
     Noting base (noted_all (held base n work₀) (codes_of blank (rules_symbols (rows count work₀) (entries (rows count work₀))))) work₀ work m (left_rules count blank work₀ e)
 
-abbrev decreases-loop : tie.decreases-loop
-decreases-loop work₀ count base n blank m₀ e₀ work m e = count - e
+abbrev decreases-loop-e : tie.decreases-loop-e
+decreases-loop-e work₀ count base n blank m₀ e₀ work m e = count - e
 
 ruleset laws = (rules, rules-start)
 
@@ -23,13 +23,13 @@ pub note_rules_spec : {M : Type 1} → statement M
 note_rules_spec =
     tie.close
     (tie.spec
-    invariant-loop
-    decreases-loop
-    (λ c. rules-start c.before.args.base c.before.args.count c.before.args.blank c.before.args.work.now c.before.args.n c.before.requires.1)
+    invariant-loop-e
+    decreases-loop-e
+    (λ c. rules-start c.args.base c.args.count c.args.blank c.args.work-1.now c.args.n c.requires.1)
     (λ c κs. search laws)
-    (λ c κs. (c.before.before.before.before.before.before.requires.0, c.before.before.before.loop-test.true, rules_room _ _ c.before.before.before.before.before.before.args.blank _ _ _ _ _ c.before.before.before.before.before.before.requires.0 c.before.before.before.before.loop.invariant _ c.before.before.before.loop-test.true c.before.token_at.ensures))
+    (λ c κs. (c.requires.0, c.loop-e-test.true, rules_room _ _ c.args.blank _ _ _ _ _ c.requires.0 c.loop-e.invariant _ c.loop-e-test.true c.token_at-t.ensures))
     (λ c κs. search laws)
     (λ c. search laws)
-    (λ c. rules-next _ _ c.before.before.before.before.before.before.before.before.before.before.args.blank _ _ _ _ _ c.before.before.before.before.before.before.before.before.before.before.requires.0 c.before.before.before.before.before.before.before.before.loop.invariant _ c.before.before.before.before.before.before.before.loop-test.true c.before.before.before.before.before.token_at.ensures _ _ _ c.before.before.before.note_rule.ensures c.next_line_lem.ensures)
+    (λ c. rules-next _ _ c.args.blank _ _ _ _ _ c.requires.0 c.loop-e.invariant _ c.loop-e-test.true c.token_at-t.ensures _ _ _ c.note_rule-m.ensures c.next_line_lem.ensures)
     (λ c. search laws)
-    (λ c. rules-end _ _ c.before.before.before.args.blank _ _ _ _ _ c.before.before.before.requires.0 c.before.loop.invariant c.loop-test.false))
+    (λ c. rules-end _ _ c.args.blank _ _ _ _ _ c.requires.0 c.loop-e.invariant c.loop-e-test.false))

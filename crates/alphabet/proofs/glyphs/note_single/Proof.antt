@@ -11,21 +11,21 @@ note_single_spec =
     (λ c κs. search rules)
     (λ c κs. search rules)
     (λ c κs.
-    let u = c.before in
-    let t = u.before.before in
-    let z = t.before.before.before in
-    single_room z.args.base z.args.count z.args.blank z.args.work.now _ z.args.from z.args.w _ _ t.token_at.ensures u.token_at2.ensures z.requires.1)
+    let u = c in
+    let t = u in
+    let z = t in
+    single_room z.args.base z.args.count z.args.blank z.args.work-1.now _ z.args.from z.args.w _ _ t.token_at-t.ensures u.token_at-u.ensures z.requires.1)
     (λ c κs.
-    let s = c.before.before.before in
-    let u = s.before.before in
-    let t = u.before.before in
-    let z = t.before.before.before in
-    single_room_2 z.args.base z.args.count z.args.blank z.args.work.now _ z.args.from z.args.w _ _ t.token_at.ensures u.token_at2.ensures z.requires.1 _ _ s.note_symbol.ensures)
+    let s = c in
+    let u = s in
+    let t = u in
+    let z = t in
+    single_room_2 z.args.base z.args.count z.args.blank z.args.work-1.now _ z.args.from z.args.w _ _ t.token_at-t.ensures u.token_at-u.ensures z.requires.1 _ _ s.note_symbol-m.ensures)
     (λ c. search rules)
     (λ c.
-    let r = c.before.before in
-    let s = r.before.before.before.before in
-    let u = s.before.before in
-    let t = u.before.before in
-    let z = t.before.before.before in
-    single_all z.args.base z.args.count z.args.blank z.args.work.now _ z.args.from z.args.w _ _ t.token_at.ensures u.token_at2.ensures z.requires.1 _ _ s.note_symbol.ensures _ _ r.note_symbol2.ensures))
+    let r = c in
+    let s = r in
+    let u = s in
+    let t = u in
+    let z = t in
+    single_all z.args.base z.args.count z.args.blank z.args.work-1.now _ z.args.from z.args.w _ _ t.token_at-t.ensures u.token_at-u.ensures z.requires.1 _ _ s.note_symbol-m.ensures _ _ r.note_symbol.ensures))

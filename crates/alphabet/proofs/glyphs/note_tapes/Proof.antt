@@ -10,36 +10,36 @@ note_tapes_spec =
     (tie.spec
     (λ c κs. search rules)
     (λ c κs.
-    let z = c.before.before.before.before.before in
-    (z.requires.0, part_room _ _ z.args.blank z.args.work.now _ z.args.from z.args.to z.args.w z.args.d z.requires.0 z.requires.1))
+    let z = c in
+    (z.requires.0, part_room _ _ z.args.blank z.args.work-1.now _ z.args.from z.args.to z.args.w z.args.d z.requires.0 z.requires.1))
     (λ c κs.
-    let f = c.before.before.before in
-    let z = f.before.before.before.before.before.before in
-    (z.requires.0, part_room_2 _ _ z.args.blank z.args.work.now _ z.args.from z.args.to z.args.w z.args.d z.requires.0 z.requires.1 _ _ f.note_firsts.ensures))
+    let f = c in
+    let z = f in
+    (z.requires.0, part_room_2 _ _ z.args.blank z.args.work-1.now _ z.args.from z.args.to z.args.w z.args.d z.requires.0 z.requires.1 _ _ f.note_firsts-i.ensures))
     (λ c κs.
-    let g = c.before.before.before in
-    let f = g.before.before.before.before in
-    let z = f.before.before.before.before.before.before in
-    (z.requires.0, part_room_3 _ _ z.args.blank z.args.work.now _ z.args.from z.args.to z.args.w z.args.d z.requires.0 z.requires.1 _ _ f.note_firsts.ensures _ _ g.note_range.ensures))
+    let g = c in
+    let f = g in
+    let z = f in
+    (z.requires.0, part_room_3 _ _ z.args.blank z.args.work-1.now _ z.args.from z.args.to z.args.w z.args.d z.requires.0 z.requires.1 _ _ f.note_firsts-i.ensures _ _ g.note_range-j.ensures))
     (λ c. search rules)
     (λ c.
-    let h = c.before.before in
-    let g = h.before.before.before.before in
-    let f = g.before.before.before.before in
-    let z = f.before.before.before.before.before.before in
-    parts_all _ _ z.args.blank z.args.work.now _ z.args.from z.args.to z.args.w z.args.d z.requires.0 z.requires.1 _ _ f.note_firsts.ensures _ _ g.note_range.ensures _ _ h.note_further.ensures)
+    let h = c in
+    let g = h in
+    let f = g in
+    let z = f in
+    parts_all _ _ z.args.blank z.args.work-1.now _ z.args.from z.args.to z.args.w z.args.d z.requires.0 z.requires.1 _ _ f.note_firsts-i.ensures _ _ g.note_range-j.ensures _ _ h.note_further.ensures)
     (λ c κs.
-    let z = c.before.before.before.before.before in
-    (z.requires.0, plain_room _ _ z.args.blank z.args.work.now _ z.args.from z.args.to z.args.w z.args.d z.requires.0 z.requires.1 _ c.before.before.has_kind.ensures c.before.if1.false))
+    let z = c in
+    (z.requires.0, plain_room _ _ z.args.blank z.args.work-1.now _ z.args.from z.args.to z.args.w z.args.d z.requires.0 z.requires.1 _ c.has_kind.ensures c.if-has_kind.false))
     (λ c κs.
-    let f = c.before.before.before in
-    let i = f.before.before in
-    let z = i.before.before.before.before in
-    (z.requires.0, plain_room_2 _ _ z.args.blank z.args.work.now _ z.args.from z.args.to z.args.w z.args.d z.requires.0 z.requires.1 _ i.before.has_kind.ensures i.if1.false _ _ f.note_range2.ensures))
+    let f = c in
+    let i = f in
+    let z = i in
+    (z.requires.0, plain_room_2 _ _ z.args.blank z.args.work-1.now _ z.args.from z.args.to z.args.w z.args.d z.requires.0 z.requires.1 _ i.has_kind.ensures i.if-has_kind.false _ _ f.note_range-i.ensures))
     (λ c. search rules)
     (λ c.
-    let g = c.before.before in
-    let f = g.before.before.before.before in
-    let i = f.before.before in
-    let z = i.before.before.before.before in
-    plain-all _ _ z.args.blank z.args.work.now _ z.args.from z.args.to z.args.w z.args.d z.requires.0 z.requires.1 _ i.before.has_kind.ensures i.if1.false _ _ f.note_range2.ensures _ _ g.note_range3.ensures))
+    let g = c in
+    let f = g in
+    let i = f in
+    let z = i in
+    plain-all _ _ z.args.blank z.args.work-1.now _ z.args.from z.args.to z.args.w z.args.d z.requires.0 z.requires.1 _ i.has_kind.ensures i.if-has_kind.false _ _ f.note_range-i.ensures _ _ g.note_range.ensures))

@@ -12,4 +12,4 @@ is_known_spec =
     (tie.spec
     (λ c. search laws)
     (λ c κs. search laws)
-    (λ c. known_seen _ _ _ c.before.if1.false c.is_seen.ensures))
+    (λ c. known_seen _ _ _ c.if-c-lt128.false c.is_seen.ensures))

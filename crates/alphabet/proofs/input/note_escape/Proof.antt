@@ -12,10 +12,10 @@ note_escape_spec =
     tie.close
     (tie.spec
     (λ c κs. search laws)
-    (λ c κs. head_room _ _ c.before.before.before.before.args.work.now _ c.before.before.before.before.requires _ _ (escape_itself _ _ c.before.before.escape_code.ensures c.before.if1.true))
-    (λ c κs. second_room _ _ _ _ c.before.before.before.before.before.before.before.before.requires _ _ (escape_itself _ _ c.before.before.before.before.before.before.escape_code.ensures c.before.before.before.before.before.if1.true) _ _ c.before.before.before.note.ensures _ refl)
+    (λ c κs. head_room _ _ c.args.work-1.now _ c.requires _ _ (escape_itself _ _ c.escape_code-v.ensures c.if-v-eq0.true))
+    (λ c κs. second_room _ _ _ _ c.requires _ _ (escape_itself _ _ c.escape_code-v.ensures c.if-v-eq0.true) _ _ c.note-m.ensures _ refl)
     (λ c. search laws)
-    (λ c. noted_second _ _ _ _ c.before.before.before.before.before.before.before.before.before.before.before.requires _ _ (escape_itself _ _ c.before.before.before.before.before.before.before.before.before.escape_code.ensures c.before.before.before.before.before.before.before.before.if1.true) _ _ c.before.before.before.before.before.before.note.ensures _ refl _ _ c.before.before.note2.ensures)
-    (λ c κs. head_room _ _ c.before.before.before.before.args.work.now _ c.before.before.before.before.requires _ _ (escape-other _ _ c.before.before.escape_code.ensures c.before.if1.false))
+    (λ c. noted_second _ _ _ _ c.requires _ _ (escape_itself _ _ c.escape_code-v.ensures c.if-v-eq0.true) _ _ c.note-m.ensures _ refl _ _ c.note.ensures)
+    (λ c κs. head_room _ _ c.args.work-1.now _ c.requires _ _ (escape-other _ _ c.escape_code-v.ensures c.if-v-eq0.false))
     (λ c. search laws)
-    (λ c. noted-head _ _ _ _ c.before.before.before.before.before.before.before.requires _ _ (escape-other _ _ c.before.before.before.before.before.escape_code.ensures c.before.before.before.before.if1.false) _ _ c.before.before.note3.ensures refl))
+    (λ c. noted-head _ _ _ _ c.requires _ _ (escape-other _ _ c.escape_code-v.ensures c.if-v-eq0.false) _ _ c.note-2.ensures refl))

@@ -9,11 +9,11 @@ use Rattle.alphabet.proofs.InputLaws.{Passed, passed_start, passed_on}
 use Rattle.alphabet.proofs.input.seen_end.Statement.{statement}
 use Rattle.alphabet.proofs.input.seen_end.Tie as tie
 
-abbrev invariant-loop : tie.invariant-loop
-invariant-loop text at work base n i₀ i = Passed text (held base n work) false at i
+abbrev invariant-loop-c : tie.invariant-loop-c
+invariant-loop-c text at work base n i₀ i = Passed text (held base n work) false at i
 
-abbrev decreases-loop : tie.decreases-loop
-decreases-loop text at work base n i₀ i = length text - i
+abbrev decreases-loop-c : tie.decreases-loop-c
+decreases-loop-c text at work base n i₀ i = length text - i
 
 ruleset laws = (rules, char_falls)
 
@@ -21,14 +21,14 @@ pub seen_end_spec : {M : Type 1} → statement M
 seen_end_spec =
     tie.close
     (tie.spec
-    invariant-loop
-    decreases-loop
+    invariant-loop-c
+    decreases-loop-c
     (λ c. passed_start _ _ _ _)
     (λ c κs. search laws)
     (λ c. search laws)
     (λ c κs. search laws)
     (λ c. search laws)
-    (λ c. passed_on c.before.before.before.before.before.before.before.before.before.args.text.now _ _ _ c.before.before.before.before.before.before.loop.invariant _ c.before.before.before.before.before.glyph_at.ensures _ _ c.before.before.before.s.given.1 (c.before.is_known.ensures c.if1.true))
+    (λ c. passed_on c.args.text.now _ _ _ c.loop-c.invariant _ c.glyph_at-s.ensures _ _ c.s-1.given.1 (c.is_known.ensures c.if-is_known.true))
     (λ c. search laws)
     (λ c. search laws)
     (λ c. search laws)

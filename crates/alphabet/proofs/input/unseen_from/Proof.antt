@@ -10,4 +10,4 @@ unseen_from_spec =
     (tie.spec
     (λ c. search rules)
     (λ c κs. search rules)
-    (λ c. passed-plain c.before.before.before.before.args.text.now _ _ _ _ c.before.if1.false c.seen_end.ensures))
+    (λ c. passed-plain c.args.text.now _ _ _ _ c.if-escaped.false c.seen_end.ensures))

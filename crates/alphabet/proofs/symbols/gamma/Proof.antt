@@ -15,9 +15,9 @@ gamma_spec =
     (tie.spec
     (λ c. search laws)
     (λ c κs. search laws)
-    (λ c κs. (c.before.before.before.before.before.before.requires.0, c.before.before.index.ensures.1, c.before.before.before.before.before.before.requires.2))
+    (λ c κs. (c.requires.0, c.index-g.ensures.1, c.requires.2))
     (λ c. search laws)
-    (λ c. gamma-declared _ _ _ _ _ 7 _ (length-rows _ _ c.before.before.before.before.before.before.before.before.before.requires.0) c.before.before.before.before.before.index.ensures.0 _ _ _ _ refl c.before.before.before.before.if1.true c.before.before.put_gamma.ensures)
-    (λ c κs. (c.before.before.before.before.before.before.requires.1, c.before.before.before.before.before.before.requires.2))
+    (λ c. gamma-declared _ _ _ _ _ 7 _ (length-rows _ _ c.requires.0) c.index-g.ensures.0 _ _ _ _ refl c.if-g-count.true c.put_gamma.ensures)
+    (λ c κs. (c.requires.1, c.requires.2))
     (λ c. search laws)
-    (λ c. gamma-inferred _ _ _ _ _ 7 _ (length-rows _ _ c.before.before.before.before.before.before.before.before.before.requires.0) c.before.before.before.before.before.index.ensures.0 _ _ _ _ refl c.before.before.before.before.if1.false c.before.before.put_codes.ensures))
+    (λ c. gamma-inferred _ _ _ _ _ 7 _ (length-rows _ _ c.requires.0) c.index-g.ensures.0 _ _ _ _ refl c.if-g-count.false c.put_codes.ensures))

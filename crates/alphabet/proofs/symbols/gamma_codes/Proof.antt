@@ -9,7 +9,7 @@ gamma_codes_spec =
     tie.close
     (tie.spec
     (λ c κs. search rules)
-    (λ c κs. gamma-head _ _ _ _ _ _ c.before.before.before.before.before.before.before.requires.0 (gamma_space _ _ _ _ _ _ c.before.before.before.before.before.before.before.requires.0 c.before.before.before.before.before.before.before.requires.1 _ c.before.before.before.clear_hints.ensures.0 c.before.before.before.clear_hints.ensures.1))
-    (λ c κs. (c.before.before.before.before.before.before.before.before.before.before.before.requires.0, gamma_room _ _ _ _ _ _ c.before.before.before.before.before.before.before.before.before.before.before.requires.0 (gamma_space _ _ _ _ _ _ c.before.before.before.before.before.before.before.before.before.before.before.requires.0 c.before.before.before.before.before.before.before.before.before.before.before.requires.1 _ c.before.before.before.before.before.before.before.clear_hints.ensures.0 c.before.before.before.before.before.before.before.clear_hints.ensures.1) _ _ c.before.before.before.note.ensures))
+    (λ c κs. gamma-head _ _ _ _ _ _ c.requires.0 (gamma_space _ _ _ _ _ _ c.requires.0 c.requires.1 _ c.clear_hints.ensures.0 c.clear_hints.ensures.1))
+    (λ c κs. (c.requires.0, gamma_room _ _ _ _ _ _ c.requires.0 (gamma_space _ _ _ _ _ _ c.requires.0 c.requires.1 _ c.clear_hints.ensures.0 c.clear_hints.ensures.1) _ _ c.note-n.ensures))
     (λ c. search rules)
-    (λ c. gamma_codes_lem _ _ _ _ _ _ c.before.before.before.before.before.before.before.before.before.before.before.before.before.before.requires.0 c.before.before.before.before.before.before.before.before.before.before.before.before.before.before.requires.1 _ c.before.before.before.before.before.before.before.before.before.before.clear_hints.ensures.0 c.before.before.before.before.before.before.before.before.before.before.clear_hints.ensures.1 _ _ (gamma-noted _ _ _ _ _ _ c.before.before.before.before.before.before.before.before.before.before.before.before.before.before.requires.0 (gamma_space _ _ _ _ _ _ c.before.before.before.before.before.before.before.before.before.before.before.before.before.before.requires.0 c.before.before.before.before.before.before.before.before.before.before.before.before.before.before.requires.1 _ c.before.before.before.before.before.before.before.before.before.before.clear_hints.ensures.0 c.before.before.before.before.before.before.before.before.before.before.clear_hints.ensures.1) _ _ c.before.before.before.before.before.before.note.ensures _ _ c.before.before.note_candidates.ensures)))
+    (λ c. gamma_codes_lem _ _ _ _ _ _ c.requires.0 c.requires.1 _ c.clear_hints.ensures.0 c.clear_hints.ensures.1 _ _ (gamma-noted _ _ _ _ _ _ c.requires.0 (gamma_space _ _ _ _ _ _ c.requires.0 c.requires.1 _ c.clear_hints.ensures.0 c.clear_hints.ensures.1) _ _ c.note-n.ensures _ _ c.note_candidates.ensures)))

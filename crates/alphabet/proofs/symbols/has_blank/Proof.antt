@@ -8,12 +8,12 @@ use Rattle.alphabet.proofs.AlphabetLaws.{blank_here, blank_on, blank_end}
 use Rattle.alphabet.proofs.symbols.has_blank.Statement.{statement}
 use Rattle.alphabet.proofs.symbols.has_blank.Tie as tie
 
-abbrev invariant-loop : tie.invariant-loop
-invariant-loop work count from to blank i₀ i =
+abbrev invariant-loop-i : tie.invariant-loop-i
+invariant-loop-i work count from to blank i₀ i =
     has_blank blank (range (rows count work) i to) ≡ has_blank blank (range (rows count work) from to)
 
-abbrev decreases-loop : tie.decreases-loop
-decreases-loop work count from to blank i₀ i = to - i
+abbrev decreases-loop-i : tie.decreases-loop-i
+decreases-loop-i work count from to blank i₀ i = to - i
 
 ruleset laws = (rules, blank_here, blank_on, blank_end)
 
@@ -21,8 +21,8 @@ pub has_blank_spec : {M : Type 1} → statement M
 has_blank_spec =
     tie.close
     (tie.spec
-    invariant-loop
-    decreases-loop
+    invariant-loop-i
+    decreases-loop-i
     (λ c. search laws)
     (λ c κs. search laws)
     (λ c κs. search laws)

@@ -7,12 +7,12 @@ use Rattle.alphabet.proofs.AlphabetLaws.{Coding, coding_start, coding_on, coding
 use Rattle.alphabet.proofs.symbols.put_codes.Statement.{statement}
 use Rattle.alphabet.proofs.symbols.put_codes.Tie as tie
 
-abbrev invariant-loop : tie.invariant-loop
-invariant-loop work base n out₀ at m₀ i₀ out m i =
+abbrev invariant-loop-i : tie.invariant-loop-i
+invariant-loop-i work base n out₀ at m₀ i₀ out m i =
     Coding (held base n work) out₀ at out m i
 
-abbrev decreases-loop : tie.decreases-loop
-decreases-loop work base n out₀ at m₀ i₀ out m i = n - i
+abbrev decreases-loop-i : tie.decreases-loop-i
+decreases-loop-i work base n out₀ at m₀ i₀ out m i = n - i
 
 ruleset laws = (rules, writing-same, coding_start)
 
@@ -20,8 +20,8 @@ pub put_codes_spec : {M : Type 1} → statement M
 put_codes_spec =
     tie.close
     (tie.spec
-    invariant-loop
-    decreases-loop
+    invariant-loop-i
+    decreases-loop-i
     (λ c. search laws)
     (λ c. search laws)
     (λ c. search laws)
@@ -29,6 +29,6 @@ put_codes_spec =
     (λ c κs. search laws)
     (λ c. search laws)
     (λ c. search laws)
-    (λ c. coding_on _ _ c.before.before.before.before.before.before.before.before.before.args.work.now _ _ _ _ _ c.before.before.before.before.before.before.before.before.before.requires.0 c.before.before.before.before.before.before.loop.invariant _ _ c.before.before.before.before.before.loop-test.true c.before.before.symbol.ensures)
+    (λ c. coding_on _ _ c.args.work.now _ _ _ _ _ c.requires.0 c.loop-i.invariant _ _ c.loop-i-test.true c.symbol-m.ensures)
     (λ c. search laws)
-    (λ c. coding_end _ _ c.before.before.before.before.args.work.now _ _ _ _ _ c.before.before.before.before.requires.0 c.before.loop.invariant c.loop-test.false))
+    (λ c. coding_end _ _ c.args.work.now _ _ _ _ _ c.requires.0 c.loop-i.invariant c.loop-i-test.false))

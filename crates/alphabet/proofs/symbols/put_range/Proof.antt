@@ -8,12 +8,12 @@ use Rattle.alphabet.proofs.AlphabetLaws.{symbol_width, Putting, putting_start, p
 use Rattle.alphabet.proofs.symbols.put_range.Statement.{statement}
 use Rattle.alphabet.proofs.symbols.put_range.Tie as tie
 
-abbrev invariant-loop : tie.invariant-loop
-invariant-loop work count from to blank inferred out₀ at n₀ i₀ out n i =
+abbrev invariant-loop-i : tie.invariant-loop-i
+invariant-loop-i work count from to blank inferred out₀ at n₀ i₀ out n i =
     Putting (symbol_words inferred blank) (rows count work) from to out₀ at out n i
 
-abbrev decreases-loop : tie.decreases-loop
-decreases-loop work count from to blank inferred out₀ at n₀ i₀ out n i = to - i
+abbrev decreases-loop-i : tie.decreases-loop-i
+decreases-loop-i work count from to blank inferred out₀ at n₀ i₀ out n i = to - i
 
 ruleset laws = (rules, symbol_width, writing-same, putting_start, putting_end, past_falls, turn_room, turn_on)
 
@@ -21,8 +21,8 @@ pub put_range_spec : {M : Type 1} → statement M
 put_range_spec =
     tie.close
     (tie.spec
-    invariant-loop
-    decreases-loop
+    invariant-loop-i
+    decreases-loop-i
     (λ c. search laws)
     (λ c κs. search laws)
     (λ c κs. search laws)

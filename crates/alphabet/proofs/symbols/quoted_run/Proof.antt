@@ -9,12 +9,12 @@ use Rattle.alphabet.proofs.AlphabetLaws.{symbol_width, Running, running_start, r
 use Rattle.alphabet.proofs.symbols.quoted_run.Statement.{statement}
 use Rattle.alphabet.proofs.symbols.quoted_run.Tie as tie
 
-abbrev invariant-loop : tie.invariant-loop
-invariant-loop work count from to blank inferred out₀ at last n₀ i₀ out n i =
+abbrev invariant-loop-i : tie.invariant-loop-i
+invariant-loop-i work count from to blank inferred out₀ at last n₀ i₀ out n i =
     Running (symbol_words inferred blank) (rows count work) from to out₀ at out n i
 
-abbrev decreases-loop : tie.decreases-loop
-decreases-loop work count from to blank inferred out₀ at last n₀ i₀ out n i = to - i
+abbrev decreases-loop-i : tie.decreases-loop-i
+decreases-loop-i work count from to blank inferred out₀ at last n₀ i₀ out n i = to - i
 
 ruleset laws = (rules, stored_length, running_start)
 
@@ -22,8 +22,8 @@ pub quoted_run_spec : {M : Type 1} → statement M
 quoted_run_spec =
     tie.close
     (tie.spec
-    invariant-loop
-    decreases-loop
+    invariant-loop-i
+    decreases-loop-i
     (λ c κs. search laws)
     (λ c. search laws)
     (λ c κs. search laws)
@@ -37,13 +37,13 @@ quoted_run_spec =
     (λ c. search laws)
     (λ c. search laws)
     (λ c.
-    let a = c.before.before in
-    let t = a.before.before in
-    let q = t.before.before.before in
-    let l = q.before.before in
-    let b = l.before in
-    let z = b.before.before.before in
-    running_on _ _ _ _ _ _ _ _ _ _ l.loop.invariant (symbol_width z.args.inferred z.args.blank) z.requires.0 _ b.last_below.ensures q.before.loop-test.true
-    _ q.quoted_pair.ensures (not-false _ t.before.before.if1.false) _ _ _ t.token_at.ensures a.put_symbol.ensures)
+    let a = c in
+    let t = a in
+    let q = t in
+    let l = q in
+    let b = l in
+    let z = b in
+    running_on _ _ _ _ _ _ _ _ _ _ l.loop-i.invariant (symbol_width z.args.inferred z.args.blank) z.requires.0 _ b.last_below-last.ensures q.loop-i-test.true
+    _ q.quoted_pair.ensures (not-false _ t.if-not-quoted_pair.false) _ _ _ t.token_at.ensures a.put_symbol-n.ensures)
     (λ c. search laws)
     (λ c. search laws))

@@ -27,4 +27,4 @@ declared_spec =
     (λ c. search rules)
     (λ c. search rules)
     (λ c. search rules)
-    (λ c. rw (c.before.before.before.before.flag.ensures, c.before.before.before.flag2.ensures, c.before.before.flag3.ensures, c.before.flag4.ensures, c.flag5.ensures) (simp towards_suc)))
+    (λ c. rw (c.flag.ensures, c.flag-2.ensures, c.flag-3.ensures, c.flag-4.ensures, c.flag-5.ensures) (simp towards_suc)))

@@ -23,4 +23,4 @@ head_words_spec =
     (λ c κs. search rules)
     (λ c κs. search rules)
     (λ c κs. search rules)
-    (λ c. head_of _ _ _ _ _ _ _ _ _ _ _ c.counts.ensures c.before.before.places.ensures c.before.before.before.before.place3.ensures c.before.before.before.before.before.before.declared.ensures c.before.before.before.before.before.before.before.before.before.kind_number.ensures c.before.before.before.before.before.before.before.before.before.before.place2.ensures c.before.before.before.before.before.before.before.before.before.before.before.before.place.ensures c.before.before.before.before.before.before.before.before.before.before.before.before.before.before.before.decoder_tag.ensures c.before.before.before.before.before.before.before.before.before.before.before.before.before.before.decoder_value.ensures))
+    (λ c. head_of _ _ _ _ _ _ _ _ _ _ _ c.counts.ensures c.places.ensures c.place-3.ensures c.declared.ensures c.kind_number.ensures c.place-2.ensures c.place.ensures c.decoder_tag.ensures c.decoder_value.ensures))

@@ -17,4 +17,4 @@ places_spec =
     (λ c κs. search rules)
     (λ c. search rules)
     (λ c κs. search rules)
-    (λ c. let s = c.before.before.before.before.before.before.before.before.before.before.args in places_of s.row.now s.at s.m _ _ _ _ _ c.place5.ensures c.before.before.place4.ensures c.before.before.before.before.place3.ensures c.before.before.before.before.before.before.place2.ensures c.before.before.before.before.before.before.before.before.place.ensures))
+    (λ c. let s = c.args in places_of s.row.now s.at s.m _ _ _ _ _ c.place-5.ensures c.place-4.ensures c.place-3.ensures c.place-2.ensures c.place.ensures))

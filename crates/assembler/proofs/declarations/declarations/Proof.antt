@@ -9,13 +9,13 @@ use Rattle.assembler.proofs.DeclarationLaws.{Declaring, declaring_start, declari
 use Rattle.assembler.proofs.declarations.declarations.Statement.{statement}
 use Rattle.assembler.proofs.declarations.declarations.Tie as tie
 
-abbrev invariant-loop : tie.invariant-loop
-invariant-loop work count first₀ log₀ errors n₀ at₀ first log n at =
+abbrev invariant-loop-at : tie.invariant-loop-at
+invariant-loop-at work count first₀ log₀ errors n₀ at₀ first log n at =
     Declaring count work (declarations count first₀ (entries (rows count work)))
     (append_all (logged log₀ errors) (declaration_errors (rows count work) first₀ (entries (rows count work)))) errors log₀ first log n at
 
-abbrev decreases-loop : tie.decreases-loop
-decreases-loop work count first₀ log₀ errors n₀ at₀ first log n at = count - at
+abbrev decreases-loop-at : tie.decreases-loop-at
+decreases-loop-at work count first₀ log₀ errors n₀ at₀ first log n at = count - at
 
 ruleset laws = (rules, declaring_on, declared-end, declaring_end)
 
@@ -23,8 +23,8 @@ pub declarations_spec : {M : Type 1} → statement M
 declarations_spec =
     tie.close
     (tie.spec
-    invariant-loop
-    decreases-loop
+    invariant-loop-at
+    decreases-loop-at
     (λ c. declaring_start _ _ _ _ _ (search rules))
     (λ c κs. search laws)
     (λ c κs. search laws)

@@ -5,11 +5,11 @@ use Rattle.assembler.proofs.Rows.{Seeking, seeking_start, seeking_on, seeking_he
 use Rattle.assembler.proofs.entry.behind_feed.Statement.{statement}
 use Rattle.assembler.proofs.entry.behind_feed.Tie as tie
 
-abbrev invariant-loop : tie.invariant-loop
-invariant-loop work count at i₀ i = Seeking count work at i
+abbrev invariant-loop-i : tie.invariant-loop-i
+invariant-loop-i work count at i₀ i = Seeking count work at i
 
-abbrev decreases-loop : tie.decreases-loop
-decreases-loop work count at i₀ i = count - i
+abbrev decreases-loop-i : tie.decreases-loop-i
+decreases-loop-i work count at i₀ i = count - i
 
 ruleset laws = (rules, seeking_start, seeking_on, seeking_here, seeking_end)
 
@@ -17,8 +17,8 @@ pub behind_feed_spec : {M : Type 1} → statement M
 behind_feed_spec =
     tie.close
     (tie.spec
-    invariant-loop
-    decreases-loop
+    invariant-loop-i
+    decreases-loop-i
     (λ c. search laws)
     (λ c κs. search laws)
     (λ c. search laws)

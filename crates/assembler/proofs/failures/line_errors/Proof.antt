@@ -10,11 +10,11 @@ use Rattle.assembler.proofs.FailureLaws.{line_on, line_end_lem}
 use Rattle.assembler.proofs.failures.line_errors.Statement.{statement}
 use Rattle.assembler.proofs.failures.line_errors.Tie as tie
 
-abbrev invariant-loop : tie.invariant-loop
-invariant-loop work count log₀ errors n₀ at₀ log n at = Passing (rows count work) line_errors (append_all (logged log₀ errors) (line_errors (entries (rows count work)))) errors log₀ log n at
+abbrev invariant-loop-at : tie.invariant-loop-at
+invariant-loop-at work count log₀ errors n₀ at₀ log n at = Passing (rows count work) line_errors (append_all (logged log₀ errors) (line_errors (entries (rows count work)))) errors log₀ log n at
 
-abbrev decreases-loop : tie.decreases-loop
-decreases-loop work count log₀ errors n₀ at₀ log n at = count - at
+abbrev decreases-loop-at : tie.decreases-loop-at
+decreases-loop-at work count log₀ errors n₀ at₀ log n at = count - at
 
 ruleset laws = (rules, line_on, line_end_lem)
 
@@ -22,8 +22,8 @@ pub line_errors_spec : {M : Type 1} → statement M
 line_errors_spec =
     tie.close
     (tie.spec
-    invariant-loop
-    decreases-loop
+    invariant-loop-at
+    decreases-loop-at
     (λ c. passing_start _ line_errors _ _ (search rules))
     (λ c κs. search laws)
     (λ c κs. search laws)

@@ -13,9 +13,9 @@ final_at_spec =
     (tie.spec
     (λ c κs. search laws)
     (λ c κs. search laws)
-    (λ c κs. (c.before.before.before.before.before.before.before.before.before.requires.0, c.before.before.before.before.before.before.before.before.before.requires.1, c.before.before.before.before.before.before.before.before.before.requires.2, is_word_lem _ _ _ _ _ c.before.before.before.before.before.before.before.before.before.requires.0 c.before.before.before.before.before.before.before.before.before.requires.1 _ c.before.before.before.before.before.before.before.before.before.requires.2 _ c.before.before.before.before.token_at.ensures _ c.before.before.before.is_state.ensures c.before.before.if1.true, c.before.before.before.before.before.before.before.before.before.requires.3))
+    (λ c κs. (c.requires.0, c.requires.1, c.requires.2, is_word_lem _ _ _ _ _ c.requires.0 c.requires.1 _ c.requires.2 _ c.token_at.ensures _ c.is_state.ensures c.if-is_state.true, c.requires.3))
     (λ c. search laws)
     (λ c. search laws)
-    (λ c. (c.before.before.before.before.final_name.ensures.0, final-step _ _ _ _ _ c.before.before.before.before.before.before.before.before.before.before.before.before.before.before.requires.0 c.before.before.before.before.before.before.before.before.before.before.before.before.before.before.requires.1 _ c.before.before.before.before.before.before.before.before.before.before.before.before.before.before.requires.2 _ c.before.before.before.before.before.before.before.before.before.token_at.ensures _ c.before.before.before.before.before.before.before.before.is_state.ensures _ _ _ _ c.before.before.before.before.before.before.before.if1.true c.before.before.before.before.final_name.ensures.1))
+    (λ c. (c.final_name.ensures.0, final-step _ _ _ _ _ c.requires.0 c.requires.1 _ c.requires.2 _ c.token_at.ensures _ c.is_state.ensures _ _ _ _ c.if-is_state.true c.final_name.ensures.1))
     (λ c. search laws)
-    (λ c. (kept_refl _ _, final_skip _ _ _ _ _ c.before.before.before.before.before.before.before.requires.0 c.before.before.before.before.before.before.before.requires.1 _ c.before.before.before.before.before.before.before.requires.2 _ c.before.before.token_at.ensures _ c.before.is_state.ensures _ _ c.if1.false)))
+    (λ c. (kept_refl _ _, final_skip _ _ _ _ _ c.requires.0 c.requires.1 _ c.requires.2 _ c.token_at.ensures _ c.is_state.ensures _ _ c.if-is_state.false)))

@@ -13,8 +13,8 @@ mark_state_spec =
     (tie.spec
     (λ c κs. search laws)
     (λ c κs. search laws)
-    (λ c κs. (word-within _ _ _ _ _ c.before.before.before.before.before.before.before.requires.0 c.before.before.before.before.before.before.before.requires.1 _ c.before.before.before.before.before.before.before.requires.2 _ c.before.before.before.token_at.ensures _ c.before.before.is_state.ensures, mark-within _ _ _ _ _ c.before.before.before.before.before.before.before.requires.0 c.before.before.before.before.before.before.before.requires.1 _ c.before.before.before.before.before.before.before.requires.2 _ c.before.before.before.token_at.ensures _ c.before.before.is_state.ensures c.before.if1.true))
+    (λ c κs. (word-within _ _ _ _ _ c.requires.0 c.requires.1 _ c.requires.2 _ c.token_at.ensures _ c.is_state.ensures, mark-within _ _ _ _ _ c.requires.0 c.requires.1 _ c.requires.2 _ c.token_at.ensures _ c.is_state.ensures c.if-is_state.true))
     (λ c. search laws)
-    (λ c. (kept_set _ _ _ _ _ c.before.before.mark.ensures, state-step _ _ _ _ _ c.before.before.before.before.before.before.before.before.before.before.requires.0 c.before.before.before.before.before.before.before.before.before.before.requires.1 _ c.before.before.before.before.before.before.before.before.before.before.requires.2 _ c.before.before.before.before.before.before.token_at.ensures _ c.before.before.before.before.before.is_state.ensures _ c.before.before.before.before.if1.true c.before.before.mark.ensures))
+    (λ c. (kept_set _ _ _ _ _ c.mark.ensures, state-step _ _ _ _ _ c.requires.0 c.requires.1 _ c.requires.2 _ c.token_at.ensures _ c.is_state.ensures _ c.if-is_state.true c.mark.ensures))
     (λ c. search laws)
-    (λ c. (kept_refl _ _, state_skip _ _ _ _ _ c.before.before.before.before.before.before.requires.0 c.before.before.before.before.before.before.requires.1 _ c.before.before.before.before.before.before.requires.2 _ c.before.before.token_at.ensures _ c.before.is_state.ensures c.if1.false)))
+    (λ c. (kept_refl _ _, state_skip _ _ _ _ _ c.requires.0 c.requires.1 _ c.requires.2 _ c.token_at.ensures _ c.is_state.ensures c.if-is_state.false)))

@@ -7,11 +7,11 @@ use Rattle.assembler.proofs.FinalLaws.{Marking, marking_start, marking_laid, mar
 use Rattle.assembler.proofs.finals.mark_states.Statement.{statement}
 use Rattle.assembler.proofs.finals.mark_states.Tie as tie
 
-abbrev invariant-loop : tie.invariant-loop
-invariant-loop text work₀ count a b q i₀ work i = Marking text count a b (names_of (rows count work₀) q) work₀ work i
+abbrev invariant-loop-i : tie.invariant-loop-i
+invariant-loop-i text work₀ count a b q i₀ work i = Marking text count a b (names_of (rows count work₀) q) work₀ work i
 
-abbrev decreases-loop : tie.decreases-loop
-decreases-loop text work₀ count a b q i₀ work i = count - i
+abbrev decreases-loop-i : tie.decreases-loop-i
+decreases-loop-i text work₀ count a b q i₀ work i = count - i
 
 ruleset laws = (rules, marking_start, marking_laid, marking_room, marking_interned, marking_kept, marking_stop, marking_end)
 
@@ -19,8 +19,8 @@ pub mark_states_spec : {M : Type 1} → statement M
 mark_states_spec =
     tie.close
     (tie.spec
-    invariant-loop
-    decreases-loop
+    invariant-loop-i
+    decreases-loop-i
     (λ c. search laws)
     (λ c. search laws)
     (λ c κs. search laws)
@@ -29,6 +29,6 @@ mark_states_spec =
     (λ c κs. search laws)
     (λ c. search laws)
     (λ c. search laws)
-    (λ c. marking_on _ _ _ _ _ _ _ _ c.before.before.before.before.before.before.before.before.before.loop.invariant c.before.before.before.before.before.before.before.before.before.before.before.before.requires.0 _ _ c.before.before.before.before.before.before.before.before.loop-test.true c.before.before.before.before.before.before.token_at.ensures c.before.before.before.before.if1.false c.before.before.mark_state.ensures.0 c.before.before.mark_state.ensures.1)
+    (λ c. marking_on _ _ _ _ _ _ _ _ c.loop-i.invariant c.requires.0 _ _ c.loop-i-test.true c.token_at-t.ensures c.if-t-eq-NEWLINE.false c.mark_state.ensures.0 c.mark_state.ensures.1)
     (λ c. search laws)
     (λ c. search laws))

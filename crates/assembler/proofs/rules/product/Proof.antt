@@ -6,11 +6,11 @@ use Rattle.assembler.proofs.RuleLaws.{combinations-none, Counting, counting_star
 use Rattle.assembler.proofs.rules.product.Statement.{statement}
 use Rattle.assembler.proofs.rules.product.Tie as tie
 
-abbrev invariant-loop : tie.invariant-loop
-invariant-loop work count from to s₀ i₀ s i = Counting count work from to s i
+abbrev invariant-loop-i : tie.invariant-loop-i
+invariant-loop-i work count from to s₀ i₀ s i = Counting count work from to s i
 
-abbrev decreases-loop : tie.decreases-loop
-decreases-loop work count from to s₀ i₀ s i = to - i
+abbrev decreases-loop-i : tie.decreases-loop-i
+decreases-loop-i work count from to s₀ i₀ s i = to - i
 
 ruleset none = (rules, not-true, combinations-none)
 
@@ -20,8 +20,8 @@ pub product_spec : {M : Type 1} → statement M
 product_spec =
     tie.close
     (tie.spec
-    invariant-loop
-    decreases-loop
+    invariant-loop-i
+    decreases-loop-i
     (λ c κs. search laws)
     (λ c. search none)
     (λ c. search laws)
@@ -31,8 +31,8 @@ product_spec =
     (λ c. search laws)
     (λ c. search laws)
     (λ c.
-    let a = c.before.before in
-    let l = a.before.before in
-    let z = l.before.before.before.before in
-    counting_on _ _ _ _ _ _ l.loop.invariant z.requires.0 _ _ a.before.loop-test.true a.if2.false c.before.token_at.ensures c.counted.ensures)
+    let a = c in
+    let l = a in
+    let z = l in
+    counting_on _ _ _ _ _ _ l.loop-i.invariant z.requires.0 _ _ a.loop-i-test.true a.if-count-i.false c.token_at.ensures c.counted-s.ensures)
     (λ c. search laws))

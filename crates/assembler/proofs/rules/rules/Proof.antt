@@ -9,12 +9,12 @@ use Rattle.assembler.proofs.RuleLaws.{Tallying, tallying_start, tallying_fed, ta
 use Rattle.assembler.proofs.rules.rules.Statement.{statement}
 use Rattle.assembler.proofs.rules.rules.Tie as tie
 
-abbrev invariant-loop : tie.invariant-loop
-invariant-loop work count log₀ errors s₀ n₀ at₀ log s n at =
+abbrev invariant-loop-at : tie.invariant-loop-at
+invariant-loop-at work count log₀ errors s₀ n₀ at₀ log s n at =
     Tallying count work (append_all (logged log₀ errors) (rule_errors no_rules (entries (rows count work)))) errors log₀ s log n at
 
-abbrev decreases-loop : tie.decreases-loop
-decreases-loop work count log₀ errors s₀ n₀ at₀ log s n at = count - at
+abbrev decreases-loop-at : tie.decreases-loop-at
+decreases-loop-at work count log₀ errors s₀ n₀ at₀ log s n at = count - at
 
 ruleset laws = (rules, tallying_fed, tallying_on, tallying_end)
 
@@ -22,8 +22,8 @@ pub rules_spec : {M : Type 1} → statement M
 rules_spec =
     tie.close
     (tie.spec
-    invariant-loop
-    decreases-loop
+    invariant-loop-at
+    decreases-loop-at
     (λ c. tallying_start _ _ _ _ (search rules))
     (λ c κs. search laws)
     (λ c κs. search laws)

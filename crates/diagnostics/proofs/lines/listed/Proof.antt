@@ -16,4 +16,4 @@ listed_spec =
     (λ c κs. search rules)
     (λ c κs. search rules)
     (λ c. search rules)
-    (λ c. (search rules, search laws, took_listed _ _ _ _ c.stepped.ensures _ _ _ _ _ _ _ _ c.before.before.before.before.before.before.before.final_at.ensures.1)))
+    (λ c. (search rules, search laws, took_listed _ _ _ _ c.stepped.ensures _ _ _ _ _ _ _ _ c.final_at-n.ensures.1)))

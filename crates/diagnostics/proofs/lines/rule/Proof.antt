@@ -21,4 +21,4 @@ rule_spec =
     (λ c κs. search rules)
     (λ c κs. search rules)
     (λ c κs. search rules)
-    (λ c. let start = c.before.before.before.before.before.before.before.before.before.before.before.before.before in let s = start.args.s in let ts = rows s.count start.args.work.now in (took_rule _ _ _ _ c.stepped.ensures ts s _ _ c.before.before.before.before.before.before.before.before.before.before.before.token_at.ensures c.before.before.before.before.before.before.before.before.before.before.verdict_at.ensures _ c.before.before.before.before.before.before.before.before.before.place_of.ensures c.before.before.before.before.before.before.before.rule_error_lem.ensures, search_rule _ _ (ap (λ (x : Step). x.search) c.stepped.ensures) ts s _ _ c.before.before.before.before.before.before.before.before.before.before.before.token_at.ensures c.before.before.before.before.before.before.before.before.before.before.verdict_at.ensures _ _ _ c.before.before.before.before.before.after.ensures c.before.before.before.before.next_line_lem.ensures c.before.before.before.moved.ensures c.before.before.tallied.ensures)))
+    (λ c. let start = c in let s = start.args.s in let ts = rows s.count start.args.work.now in (took_rule _ _ _ _ c.stepped.ensures ts s _ _ c.token_at-t.ensures c.verdict_at-v.ensures _ c.place_of.ensures c.rule_error_lem.ensures, search_rule _ _ (ap (λ (x : Step). x.search) c.stepped.ensures) ts s _ _ c.token_at-t.ensures c.verdict_at-v.ensures _ _ _ c.after-c.ensures c.next_line_lem.ensures c.moved-next.ensures c.tallied.ensures)))

@@ -8,7 +8,7 @@ pub at_failures_spec : {M : Type 1} → statement M
 at_failures_spec =
     tie.close
     (tie.spec
-    (λ c κs. let x = c.before.before.before.before in let s = x.args.s in let text = x.args.text.now in let w = x.args.work.now in let p = x.requires in (stands_room text w s p.0, stands_low text w s p.0 c.if1.true))
-    (λ c. let x = c.before.before.before.before.before in let s = x.args.s in let text = x.args.text.now in let w = x.args.work.now in let p = x.requires in failure-stepped text w s p.0 p.1 _ c.before.if1.true c.failure.ensures.0 c.failure.ensures.1)
+    (λ c κs. let x = c in let s = x.args.s in let text = x.args.text.now in let w = x.args.work.now in let p = x.requires in (stands_room text w s p.0, stands_low text w s p.0 c.if-s.true))
+    (λ c. let x = c in let s = x.args.s in let text = x.args.text.now in let w = x.args.work.now in let p = x.requires in failure-stepped text w s p.0 p.1 _ c.if-s.true c.failure.ensures.0 c.failure.ensures.1)
     (λ c κs. search rules)
-    (λ c. let x = c.before.before.before.before.before in let s = x.args.s in let text = x.args.text.now in let w = x.args.work.now in let p = x.requires in failures_stepped text w s p.0 p.1 _ c.before.if1.false c.onward.ensures))
+    (λ c. let x = c in let s = x.args.s in let text = x.args.text.now in let w = x.args.work.now in let p = x.requires in failures_stepped text w s p.0 p.1 _ c.if-s.false c.onward.ensures))

@@ -9,11 +9,11 @@ use Rattle.infer.proofs.SectionLaws.{Placing, placing_start, placing_stop, placi
 use Rattle.infer.proofs.finals.section.Statement.{statement}
 use Rattle.infer.proofs.finals.section.Tie as tie
 
-abbrev invariant-loop : tie.invariant-loop
-invariant-loop work count f out₀ at n₀ i₀ out n i = Placing (rows count work) f out₀ at out n i
+abbrev invariant-loop-i : tie.invariant-loop-i
+invariant-loop-i work count f out₀ at n₀ i₀ out n i = Placing (rows count work) f out₀ at out n i
 
-abbrev decreases-loop : tie.decreases-loop
-decreases-loop work count f out₀ at n₀ i₀ out n i = count - i
+abbrev decreases-loop-i : tie.decreases-loop-i
+decreases-loop-i work count f out₀ at n₀ i₀ out n i = count - i
 
 ruleset laws = (rules, writing-same, placing_start)
 
@@ -21,16 +21,16 @@ pub section_spec : {M : Type 1} → statement M
 section_spec =
     tie.close
     (tie.spec
-    invariant-loop
-    decreases-loop
+    invariant-loop-i
+    decreases-loop-i
     (λ c. search laws)
     (λ c. search laws)
     (λ c κs. search laws)
     (λ c. search laws)
-    (λ c. placing_stop _ _ _ _ _ _ _ c.before.before.before.before.loop.invariant _ (length-rows _ _ c.before.before.before.before.before.before.before.requires.0) _ c.before.before.before.loop-test.true c.before.before.token_at.ensures c.if1.true)
-    (λ c κs. omega (arith, c.before.before.before.before.before.loop.invariant.near, c.before.before.before.before.before.before.before.before.requires.2, c.before.before.before.before.loop-test.true))
+    (λ c. placing_stop _ _ _ _ _ _ _ c.loop-i.invariant _ (length-rows _ _ c.requires.0) _ c.loop-i-test.true c.token_at-t.ensures c.if-t-eq-NEWLINE.true)
+    (λ c κs. omega (arith, c.loop-i.invariant.near, c.requires.2, c.loop-i-test.true))
     (λ c. search laws)
     (λ c. search laws)
-    (λ c. placing_on _ _ _ _ _ _ _ c.before.before.before.before.before.before.before.before.loop.invariant _ (length-rows _ _ c.before.before.before.before.before.before.before.before.before.before.before.requires.0) _ c.before.before.before.before.before.before.before.loop-test.true c.before.before.before.before.before.before.token_at.ensures _ _ c.before.before.before.before.if1.false c.before.before.put_name.ensures)
+    (λ c. placing_on _ _ _ _ _ _ _ c.loop-i.invariant _ (length-rows _ _ c.requires.0) _ c.loop-i-test.true c.token_at-t.ensures _ _ c.if-t-eq-NEWLINE.false c.put_name-n.ensures)
     (λ c. search laws)
-    (λ c. placing_end _ _ _ _ _ _ _ c.before.loop.invariant _ (length-rows _ _ c.before.before.before.before.requires.0) c.loop-test.false))
+    (λ c. placing_end _ _ _ _ _ _ _ c.loop-i.invariant _ (length-rows _ _ c.requires.0) c.loop-i-test.false))

@@ -20,6 +20,6 @@ finals_spec =
     (λ c κs. search laws)
     (λ c. search laws)
     (λ c κs. search laws)
-    (λ c κs. (finals_scratch _ _ _ c.before.before.before.before.before.before.before.before.requires _ c.before.before.before.before.before.clear.ensures, c.index.ensures.1))
+    (λ c κs. (finals_scratch _ _ _ c.requires _ c.clear.ensures, c.index.ensures.1))
     (λ c. search laws)
-    (λ c. finals-all _ _ _ c.before.before.before.before.before.before.before.before.before.before.before.requires _ c.before.before.before.before.before.before.before.before.clear.ensures _ _ _ c.before.before.before.index.ensures.0 c.before.before.list_finals.ensures))
+    (λ c. finals-all _ _ _ c.requires _ c.clear.ensures _ _ _ c.index.ensures.0 c.list_finals.ensures))

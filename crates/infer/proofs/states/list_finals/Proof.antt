@@ -8,12 +8,12 @@ use Rattle.infer.proofs.NameLaws.{Listing, listing_start, listing_scratch, listi
 use Rattle.infer.proofs.states.list_finals.Statement.{statement}
 use Rattle.infer.proofs.states.list_finals.Tie as tie
 
-abbrev invariant-loop : tie.invariant-loop
-invariant-loop work₀ count size f i₀ work i =
+abbrev invariant-loop-i : tie.invariant-loop-i
+invariant-loop-i work₀ count size f i₀ work i =
     Listing size count (list_finals size (rows count work₀) work₀ (indices_in (rows count work₀) f)) work₀ work i
 
-abbrev decreases-loop : tie.decreases-loop
-decreases-loop work₀ count size f i₀ work i = count - i
+abbrev decreases-loop-i : tie.decreases-loop-i
+decreases-loop-i work₀ count size f i₀ work i = count - i
 
 ruleset laws = (rules, listing_start, listing_scratch, listing_stop, listing-on, listing-end)
 
@@ -21,8 +21,8 @@ pub list_finals_spec : {M : Type 1} → statement M
 list_finals_spec =
     tie.close
     (tie.spec
-    invariant-loop
-    decreases-loop
+    invariant-loop-i
+    decreases-loop-i
     (λ c. search laws)
     (λ c. search laws)
     (λ c κs. search laws)
@@ -31,6 +31,6 @@ list_finals_spec =
     (λ c κs. search laws)
     (λ c. search laws)
     (λ c. search laws)
-    (λ c. listing-on _ _ _ _ _ _ c.before.before.before.before.before.before.before.before.before.loop.invariant c.before.before.before.before.before.before.before.before.before.before.before.requires.0 _ c.before.before.before.before.before.before.before.before.loop-test.true c.before.before.before.before.before.before.token_at.ensures _ c.before.before.before.before.if1.false c.before.before.list_final.ensures)
+    (λ c. listing-on _ _ _ _ _ _ c.loop-i.invariant c.requires.0 _ c.loop-i-test.true c.token_at-t.ensures _ c.if-t-eq-NEWLINE.false c.list_final.ensures)
     (λ c. search laws)
     (λ c. search laws))

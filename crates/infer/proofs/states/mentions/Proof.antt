@@ -10,12 +10,12 @@ use Rattle.infer.proofs.NameLaws.{Mentioning, mentioning_start, mentioning_scrat
 use Rattle.infer.proofs.states.mentions.Statement.{statement}
 use Rattle.infer.proofs.states.mentions.Tie as tie
 
-abbrev invariant-loop : tie.invariant-loop
-invariant-loop work₀ count size out₀ at n₀ e₀ work out n e =
+abbrev invariant-loop-e : tie.invariant-loop-e
+invariant-loop-e work₀ count size out₀ at n₀ e₀ work out n e =
     Mentioning size count (named_all size (rows count work₀) false (page work₀ out₀ at) (mentions (rows count work₀) (entries (rows count work₀)))) work₀ out₀ at work out n e
 
-abbrev decreases-loop : tie.decreases-loop
-decreases-loop work₀ count size out₀ at n₀ e₀ work out n e = count - e
+abbrev decreases-loop-e : tie.decreases-loop-e
+decreases-loop-e work₀ count size out₀ at n₀ e₀ work out n e = count - e
 
 ruleset laws = (rules, mentioning_start, mentioning_scratch, mentioning_fed)
 
@@ -23,14 +23,14 @@ pub mentions_spec : {M : Type 1} → statement M
 mentions_spec =
     tie.close
     (tie.spec
-    invariant-loop
-    decreases-loop
+    invariant-loop-e
+    decreases-loop-e
     (λ c. search laws)
     (λ c κs. search laws)
     (λ c κs. search laws)
     (λ c κs. search laws)
     (λ c. search laws)
-    (λ c. mentioning_on _ _ _ _ _ _ _ _ _ _ c.before.before.before.before.before.before.before.before.before.before.before.before.loop.invariant c.before.before.before.before.before.before.before.before.before.before.before.before.before.before.before.requires.0 _ _ _ _ _ c.before.before.before.before.before.before.before.before.before.before.before.loop-test.true c.before.before.before.before.before.before.before.before.before.token_at.ensures c.before.before.before.before.mention.ensures c.before.before.before.before.before.before.before.behind_line.ensures)
+    (λ c. mentioning_on _ _ _ _ _ _ _ _ _ _ c.loop-e.invariant c.requires.0 _ _ _ _ _ c.loop-e-test.true c.token_at-t.ensures c.mention-n.ensures c.behind_line-next.ensures)
     (λ c. search laws)
     (λ c. search laws)
-    (λ c. mentioning_end _ _ _ _ _ _ _ _ _ _ c.before.loop.invariant c.before.before.before.before.requires.0 c.loop-test.false))
+    (λ c. mentioning_end _ _ _ _ _ _ _ _ _ _ c.loop-e.invariant c.requires.0 c.loop-e-test.false))

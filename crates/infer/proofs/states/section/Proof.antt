@@ -9,7 +9,7 @@ section_spec =
     tie.close
     (tie.spec
     (λ c κs. search rules)
-    (λ c κs. (section_scratch _ _ _ _ c.before.before.before.before.before.before.before.before.requires.0 _ c.before.before.before.before.finals.ensures, c.before.before.before.before.before.before.before.before.requires.1))
+    (λ c κs. (section_scratch _ _ _ _ c.requires.0 _ c.finals.ensures, c.requires.1))
     (λ c. search rules)
     (λ c. search rules)
-    (λ c. (section-kept _ _ _ _ c.before.before.before.before.before.before.before.before.before.before.before.before.before.requires.0 _ c.before.before.before.before.before.before.before.before.before.finals.ensures _ _ _ _ _ c.before.before.before.before.states.ensures, section_stored _ _ _ _ c.before.before.before.before.before.before.before.before.before.before.before.before.before.requires.0 _ c.before.before.before.before.before.before.before.before.before.finals.ensures _ _ _ _ _ c.before.before.before.before.states.ensures)))
+    (λ c. (section-kept _ _ _ _ c.requires.0 _ c.finals.ensures _ _ _ _ _ c.states.ensures, section_stored _ _ _ _ c.requires.0 _ c.finals.ensures _ _ _ _ _ c.states.ensures)))

@@ -14,5 +14,5 @@ start_name_spec =
     (λ c κs. search laws)
     (λ c. search laws)
     (λ c. search laws)
-    (λ c. start-named _ _ _ _ _ _ _ (scratch_length _ _ _ c.before.before.before.before.before.before.before.before.before.before.requires.0) _ _ _ c.before.before.before.before.before.before.before.if1.true c.before.before.before.before.name.ensures)
-    (λ c. start_none _ _ _ _ _ _ _ (scratch_length _ _ _ c.before.before.before.requires.0) c.if1.false))
+    (λ c. start-named _ _ _ _ _ _ _ (scratch_length _ _ _ c.requires.0) _ _ _ c.if-s-count.true c.name.ensures)
+    (λ c. start_none _ _ _ _ _ _ _ (scratch_length _ _ _ c.requires.0) c.if-s-count.false))

@@ -24,6 +24,6 @@ state_spec =
     (λ c κs. search laws)
     (λ c. search laws)
     (λ c. search laws)
-    (λ c. state_again _ _ _ _ _ _ _ _ _ c.before.before.before.before.before.before.before.mark_index.ensures refl _ _ c.before.before.before.before.before.if1.false c.before.before.before.before.if2.true c.before.before.three2.ensures.0 c.before.before.three2.ensures.1)
+    (λ c. state_again _ _ _ _ _ _ _ _ _ c.mark_index-k.ensures refl _ _ c.if-m-lt2.false c.if-repeats.true c.three-then-repeats.ensures.0 c.three-then-repeats.ensures.1)
     (λ c. search laws)
     (λ c. search laws))

@@ -8,11 +8,11 @@ use borrow.Author.Rules.{rules}
 use Rattle.lexer.proofs.block.line_part.Statement.{statement}
 use Rattle.lexer.proofs.block.line_part.Tie as tie
 
-abbrev invariant-loop : tie.invariant-loop
-invariant-loop text at i₀ trimmed₀ i trimmed = (i ≤ length text) × Lined text at i trimmed
+abbrev invariant-loop-i : tie.invariant-loop-i
+invariant-loop-i text at i₀ trimmed₀ i trimmed = (i ≤ length text) × Lined text at i trimmed
 
-abbrev decreases-loop : tie.decreases-loop
-decreases-loop text at i₀ trimmed₀ i trimmed = length text - i
+abbrev decreases-loop-i : tie.decreases-loop-i
+decreases-loop-i text at i₀ trimmed₀ i trimmed = length text - i
 
 ruleset laws = (rules, not-true, not-false, lined_start, trimmed_same, line-eight, line_seven)
 
@@ -20,8 +20,8 @@ pub line_part_spec : {M : Type 1} → statement M
 line_part_spec =
     tie.close
     (tie.spec
-    invariant-loop
-    decreases-loop
+    invariant-loop-i
+    decreases-loop-i
     (λ c. search laws)
     (λ c. search laws)
     (λ c. search laws)
@@ -37,6 +37,6 @@ line_part_spec =
     (λ c. search laws)
     (λ c. search laws)
     (λ c. search laws)
-    (λ c. (search laws, line_seven _ _ _ _ _ c.before.before.before.before.before.before.loop-test.true c.before.before.before.before.before.before.before.loop.invariant.1 c.before.before.before.before.before.plain_eight.ensures (not-false _ c.before.before.before.before.if2.false) c.before.before.if3.false c.if4.true))
+    (λ c. (search laws, line_seven _ _ _ _ _ c.loop-i-test.true c.loop-i.invariant.1 c.plain_eight.ensures (not-false _ c.if-not-plain_eight.false) c.if-text-i-ne32.false c.if-text-i-ne32-2.true))
     (λ c. search laws)
     (λ c. search laws))

@@ -11,11 +11,11 @@ use borrow.Author.Rules.{rules}
 use Rattle.lexer.proofs.block.string_part.Statement.{statement}
 use Rattle.lexer.proofs.block.string_part.Tie as tie
 
-abbrev invariant-loop : tie.invariant-loop
-invariant-loop text at i₀ i = (i ≤ length text) × (string_end false i (decode (drop i text)) ≡ string_end false at (decode (drop at text)))
+abbrev invariant-loop-i : tie.invariant-loop-i
+invariant-loop-i text at i₀ i = (i ≤ length text) × (string_end false i (decode (drop i text)) ≡ string_end false at (decode (drop at text)))
 
-abbrev decreases-loop : tie.decreases-loop
-decreases-loop text at i₀ i = length text - i
+abbrev decreases-loop-i : tie.decreases-loop-i
+decreases-loop-i text at i₀ i = length text - i
 
 ruleset laws = (rules, not-true, not-false, string-eight)
 
@@ -23,8 +23,8 @@ pub string_part_spec : {M : Type 1} → statement M
 string_part_spec =
     tie.close
     (tie.spec
-    invariant-loop
-    decreases-loop
+    invariant-loop-i
+    decreases-loop-i
     (λ c. search laws)
     (λ c. search laws)
     (λ c. search laws)

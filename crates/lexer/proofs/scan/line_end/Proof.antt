@@ -8,11 +8,11 @@ use borrow.Author.Rules.{rules}
 use Rattle.lexer.proofs.scan.line_end.Statement.{statement}
 use Rattle.lexer.proofs.scan.line_end.Tie as tie
 
-abbrev invariant-loop : tie.invariant-loop
-invariant-loop text at i₀ trimmed₀ i trimmed = Lined text at i trimmed
+abbrev invariant-loop-c : tie.invariant-loop-c
+invariant-loop-c text at i₀ trimmed₀ i trimmed = Lined text at i trimmed
 
-abbrev decreases-loop : tie.decreases-loop
-decreases-loop text at i₀ trimmed₀ i trimmed = length text - i
+abbrev decreases-loop-c : tie.decreases-loop-c
+decreases-loop-c text at i₀ trimmed₀ i trimmed = length text - i
 
 ruleset laws = (rules, not-true, not-false, char_falls, lined_white, lined_other, lined_feed, lined_invalid, lined_end)
 
@@ -20,8 +20,8 @@ pub line_end_spec : {M : Type 1} → statement M
 line_end_spec =
     tie.close
     (tie.spec
-    invariant-loop
-    decreases-loop
+    invariant-loop-c
+    decreases-loop-c
     (λ c κs. search laws)
     (λ c. search laws)
     (λ c κs. search laws)

@@ -7,11 +7,11 @@ use borrow.Author.Rules.{rules}
 use Rattle.lexer.proofs.scan.number_value.Statement.{statement}
 use Rattle.lexer.proofs.scan.number_value.Tie as tie
 
-abbrev invariant-loop : tie.invariant-loop
-invariant-loop text at i₀ v₀ i v = Counted text at i v
+abbrev invariant-loop-c : tie.invariant-loop-c
+invariant-loop-c text at i₀ v₀ i v = Counted text at i v
 
-abbrev decreases-loop : tie.decreases-loop
-decreases-loop text at i₀ v₀ i v = length text - i
+abbrev decreases-loop-c : tie.decreases-loop-c
+decreases-loop-c text at i₀ v₀ i v = length text - i
 
 ruleset laws = (rules, char_falls, counted_start, counted-on, counted_off, counted_invalid, counted-end, digit_low, digit_high)
 
@@ -19,8 +19,8 @@ pub number_value_spec : {M : Type 1} → statement M
 number_value_spec =
     tie.close
     (tie.spec
-    invariant-loop
-    decreases-loop
+    invariant-loop-c
+    decreases-loop-c
     (λ c. search laws)
     (λ c κs. search laws)
     (λ c. search laws)

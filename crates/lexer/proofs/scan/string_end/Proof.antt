@@ -11,11 +11,11 @@ use borrow.Author.Rules.{rules}
 use Rattle.lexer.proofs.scan.string_end.Statement.{statement}
 use Rattle.lexer.proofs.scan.string_end.Tie as tie
 
-abbrev invariant-loop : tie.invariant-loop
-invariant-loop text at i₀ escaped₀ i escaped = string_end escaped i (decode (drop i text)) ≡ string_end false at (decode (drop at text))
+abbrev invariant-loop-c : tie.invariant-loop-c
+invariant-loop-c text at i₀ escaped₀ i escaped = string_end escaped i (decode (drop i text)) ≡ string_end false at (decode (drop at text))
 
-abbrev decreases-loop : tie.decreases-loop
-decreases-loop text at i₀ escaped₀ i escaped = length text - i
+abbrev decreases-loop-c : tie.decreases-loop-c
+decreases-loop-c text at i₀ escaped₀ i escaped = length text - i
 
 ruleset laws = (rules, char_falls, string_invalid, string_stop, string_feed, string_closed, string-escaped, string-slash, string_above, above_falls)
 
@@ -23,8 +23,8 @@ pub string_end_spec : {M : Type 1} → statement M
 string_end_spec =
     tie.close
     (tie.spec
-    invariant-loop
-    decreases-loop
+    invariant-loop-c
+    decreases-loop-c
     (λ c κs. search laws)
     (λ c. search laws)
     (λ c κs. search laws)

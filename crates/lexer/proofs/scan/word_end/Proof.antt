@@ -10,11 +10,11 @@ use borrow.Author.Rules.{rules}
 use Rattle.lexer.proofs.scan.word_end.Statement.{statement}
 use Rattle.lexer.proofs.scan.word_end.Tie as tie
 
-abbrev invariant-loop : tie.invariant-loop
-invariant-loop text at i₀ i = i + sizes (run is_word_continue (decode (drop i text))) ≡ at + sizes (run is_word_continue (decode (drop at text)))
+abbrev invariant-loop-c : tie.invariant-loop-c
+invariant-loop-c text at i₀ i = i + sizes (run is_word_continue (decode (drop i text))) ≡ at + sizes (run is_word_continue (decode (drop at text)))
 
-abbrev decreases-loop : tie.decreases-loop
-decreases-loop text at i₀ i = length text - i
+abbrev decreases-loop-c : tie.decreases-loop-c
+decreases-loop-c text at i₀ i = length text - i
 
 ruleset laws = (rules, char_falls, run_on, run_off, run_invalid, run_end)
 
@@ -22,8 +22,8 @@ pub word_end_spec : {M : Type 1} → statement M
 word_end_spec =
     tie.close
     (tie.spec
-    invariant-loop
-    decreases-loop
+    invariant-loop-c
+    decreases-loop-c
     (λ c. search laws)
     (λ c κs. search laws)
     (λ c. search laws)

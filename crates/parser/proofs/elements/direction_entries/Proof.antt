@@ -8,18 +8,18 @@ use Rattle.parser.proofs.Lists.{lists}
 use Rattle.parser.proofs.elements.direction_entries.Statement.{statement}
 use Rattle.parser.proofs.elements.direction_entries.Tie as tie
 
-abbrev invariant-loop : tie.invariant-loop
-invariant-loop work at i₀ n₀ i n = (entries direction 5 (tokens_in work) i n ≡ entries direction 5 (tokens_in work) at 0) × (n ≤ i)
+abbrev invariant-loop-j : tie.invariant-loop-j
+invariant-loop-j work at i₀ n₀ i n = (entries direction 5 (tokens_in work) i n ≡ entries direction 5 (tokens_in work) at 0) × (n ≤ i)
 
-abbrev decreases-loop : tie.decreases-loop
-decreases-loop work at i₀ n₀ i n = length (tokens_in work) - i
+abbrev decreases-loop-j : tie.decreases-loop-j
+decreases-loop-j work at i₀ n₀ i n = length (tokens_in work) - i
 
 pub direction_entries_spec : {M : Type 1} → statement M
 direction_entries_spec =
     tie.close
     (tie.spec
-    invariant-loop
-    decreases-loop
+    invariant-loop-j
+    decreases-loop-j
     (λ c. search lists)
     (λ c κs. search lists)
     (λ c. search lists)

@@ -11,11 +11,11 @@ use Rattle.parser.proofs.Pairs.{pairs_start, pairs-on}
 use Rattle.parser.proofs.elements.pairs.Statement.{statement}
 use Rattle.parser.proofs.elements.pairs.Tie as tie
 
-abbrev invariant-loop : tie.invariant-loop
-invariant-loop work at n i₀ m₀ i m = Pairs (tokens_in work) at m × (i ≡ at + 2 * m) × (i ≤ length work / 4)
+abbrev invariant-loop-i : tie.invariant-loop-i
+invariant-loop-i work at n i₀ m₀ i m = Pairs (tokens_in work) at m × (i ≡ at + 2 * m) × (i ≤ length work / 4)
 
-abbrev decreases-loop : tie.decreases-loop
-decreases-loop work at n i₀ m₀ i m = length work - i
+abbrev decreases-loop-i : tie.decreases-loop-i
+decreases-loop-i work at n i₀ m₀ i m = length work - i
 
 ruleset laws = (rules, pairs_start, pairs-on)
 
@@ -23,8 +23,8 @@ pub pairs_spec : {M : Type 1} → statement M
 pairs_spec =
     tie.close
     (tie.spec
-    invariant-loop
-    decreases-loop
+    invariant-loop-i
+    decreases-loop-i
     (λ c. search laws)
     (λ c. search laws)
     (λ c. search laws)

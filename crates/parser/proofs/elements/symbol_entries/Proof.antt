@@ -11,11 +11,11 @@ use Rattle.parser.proofs.Pairs.{pairs-entries}
 use Rattle.parser.proofs.elements.symbol_entries.Statement.{statement}
 use Rattle.parser.proofs.elements.symbol_entries.Tie as tie
 
-abbrev invariant-loop : tie.invariant-loop
-invariant-loop work at m i₀ n₀ i n = (entries (one is_symbol) 7 (tokens_in work) i n ≡ entries (one is_symbol) 7 (tokens_in work) at 0) × (n ≤ i)
+abbrev invariant-loop-j : tie.invariant-loop-j
+invariant-loop-j work at m i₀ n₀ i n = (entries (one is_symbol) 7 (tokens_in work) i n ≡ entries (one is_symbol) 7 (tokens_in work) at 0) × (n ≤ i)
 
-abbrev decreases-loop : tie.decreases-loop
-decreases-loop work at m i₀ n₀ i n = length (tokens_in work) - i
+abbrev decreases-loop-j : tie.decreases-loop-j
+decreases-loop-j work at m i₀ n₀ i n = length (tokens_in work) - i
 
 ruleset laws = (lists, pairs-entries)
 
@@ -23,8 +23,8 @@ pub symbol_entries_spec : {M : Type 1} → statement M
 symbol_entries_spec =
     tie.close
     (tie.spec
-    invariant-loop
-    decreases-loop
+    invariant-loop-j
+    decreases-loop-j
     (λ c κs. search laws)
     (λ c. search laws)
     (λ c. search laws)

@@ -16,4 +16,4 @@ answer_words_spec =
     (λ c. search rules)
     (λ c. search rules)
     (λ c. search rules)
-    (λ c. words_of (write_reply_in c.before.before.args.a) _ _ c.number.ensures c.before.value.ensures))
+    (λ c. words_of (write_reply_in c.args.a) _ _ c.number.ensures c.value-v.ensures))

@@ -5,11 +5,11 @@ use Rattle.sheet.proofs.CommentLaws.{Gathering, gather_room, gather-on, gathered
 use Rattle.sheet.proofs.comments.comments.Statement.{statement}
 use Rattle.sheet.proofs.comments.comments.Tie as tie
 
-abbrev invariant-loop : tie.invariant-loop
-invariant-loop work count from to out₀ at n₀ i₀ out n i = Gathering count work from to out₀ at out n i
+abbrev invariant-loop-i : tie.invariant-loop-i
+invariant-loop-i work count from to out₀ at n₀ i₀ out n i = Gathering count work from to out₀ at out n i
 
-abbrev decreases-loop : tie.decreases-loop
-decreases-loop work count from to out₀ at n₀ i₀ out n i = to - i
+abbrev decreases-loop-i : tie.decreases-loop-i
+decreases-loop-i work count from to out₀ at n₀ i₀ out n i = to - i
 
 ruleset laws = (rules, writing_start, writing-same, gather_room, gather-on, gathered)
 
@@ -17,8 +17,8 @@ pub comments_spec : {M : Type 1} → statement M
 comments_spec =
     tie.close
     (tie.spec
-    invariant-loop
-    decreases-loop
+    invariant-loop-i
+    decreases-loop-i
     (λ c. search laws)
     (λ c κs. search laws)
     (λ c κs. search laws)

@@ -10,12 +10,12 @@ use Rattle.sheet.proofs.RowLaws.{Adding, adding_start, adding_fits, adding_on, a
 use Rattle.sheet.proofs.comments.header.Statement.{statement}
 use Rattle.sheet.proofs.comments.header.Tie as tie
 
-abbrev invariant-loop : tie.invariant-loop
-invariant-loop work count out₀ at p₀ n₀ m₀ i₀ out p n m i =
+abbrev invariant-loop-i : tie.invariant-loop-i
+invariant-loop-i work count out₀ at p₀ n₀ m₀ i₀ out p n m i =
     Heading count work out₀ at out n p i × (passed_all p (entries_at (rows count work) i) ≡ passed_all nothing (entries (rows count work))) × Adding count work m p i × Feeding count work i
 
-abbrev decreases-loop : tie.decreases-loop
-decreases-loop work count out₀ at p₀ n₀ m₀ i₀ out p n m i = count - i
+abbrev decreases-loop-i : tie.decreases-loop-i
+decreases-loop-i work count out₀ at p₀ n₀ m₀ i₀ out p n m i = count - i
 
 ruleset laws = (rules, feeding_start, feeding_here, feeding_quiet, feeding_on, writing-same, heading_start, heading_room, heading_on, heading_seen, heading_rest, heading_last, heading_length, pending-start, pending-on, pending-end, adding_start, adding_fits, adding_on, added)
 
@@ -23,8 +23,8 @@ pub header_spec : {M : Type 1} → statement M
 header_spec =
     tie.close
     (tie.spec
-    invariant-loop
-    decreases-loop
+    invariant-loop-i
+    decreases-loop-i
     (λ c. search laws)
     (λ c κs. search laws)
     (λ c κs. search laws)

@@ -21,11 +21,11 @@ use Rattle.sheet.proofs.ExpandLaws.{
 use Rattle.sheet.proofs.expand.choices.Statement.{statement}
 use Rattle.sheet.proofs.expand.choices.Tie as tie
 
-abbrev invariant-loop : tie.invariant-loop
-invariant-loop work₀ count a b r blank out at o tape₀ work tape = Turning count a b r.tapes work₀ work tape
+abbrev invariant-loop-tape : tie.invariant-loop-tape
+invariant-loop-tape work₀ count a b r blank out at o tape₀ work tape = Turning count a b r.tapes work₀ work tape
 
-abbrev decreases-loop : tie.decreases-loop
-decreases-loop work₀ count a b r blank out at o tape₀ work tape = tape
+abbrev decreases-loop-tape : tie.decreases-loop-tape
+decreases-loop-tape work₀ count a b r blank out at o tape₀ work tape = tape
 
 abbrev invariant-choices : tie.invariant-choices
 invariant-choices work₀ count a b r blank out₀ at o₀ work out o = Choosing count a b r blank work₀ out₀ at (words_behind count a b r blank work₀) work out o
@@ -39,8 +39,8 @@ pub choices_spec : {M : Type 1} → statement M
 choices_spec =
     tie.close
     (tie.spec
-    invariant-loop
-    decreases-loop
+    invariant-loop-tape
+    decreases-loop-tape
     invariant-choices
     decreases-choices
     (λ c. search laws)
@@ -48,12 +48,12 @@ choices_spec =
     (λ c. search laws)
     (λ c κs. search laws)
     (λ c. search laws)
-    (λ c. turning_back _ _ _ _ _ _ _ c.before.before.before.before.before.before.loop.invariant _ c.before.before.before.before.before.loop-test.false refl c.before.before.before.before.before.before.before.before.before.before.requires.1 c.before.before.before.before.before.before.before.before.before.before.requires.2 (choosing_cells _ _ _ _ _ _ _ _ _ _ _ _ c.before.before.before.before.before.before.before.choices.invariant c.before.before.before.before.before.before.before.before.before.before.requires.0 c.before.before.before.before.before.before.before.before.before.before.requires.2) _ _ c.before.before.before.turn.ensures.0 c.before.before.before.turn.ensures.1 c.if1.false)
+    (λ c. turning_back _ _ _ _ _ _ _ c.loop-tape.invariant _ c.if-tape-eq0.false refl c.requires.1 c.requires.2 (choosing_cells _ _ _ _ _ _ _ _ _ _ _ _ c.choices.invariant c.requires.0 c.requires.2) _ _ c.turn.ensures.0 c.turn.ensures.1 c.if-turn.false)
     (λ c κs.
-    let u = turning_on _ _ _ _ _ _ _ c.before.before.before.before.before.before.before.before.loop.invariant _ c.before.before.before.before.before.before.before.loop-test.false refl c.before.before.before.before.before.before.before.before.before.before.before.before.requires.1 c.before.before.before.before.before.before.before.before.before.before.before.before.requires.2 (choosing_cells _ _ _ _ _ _ _ _ _ _ _ _ c.before.before.before.before.before.before.before.before.before.choices.invariant c.before.before.before.before.before.before.before.before.before.before.before.before.requires.0 c.before.before.before.before.before.before.before.before.before.before.before.before.requires.2) _ _ c.before.before.before.before.before.turn.ensures.0 c.before.before.before.before.before.turn.ensures.1 c.before.before.if1.true in
-    (choosing_placed _ _ _ _ _ _ _ _ _ _ _ _ c.before.before.before.before.before.before.before.before.before.choices.invariant c.before.before.before.before.before.before.before.before.before.before.before.before.requires.0 c.before.before.before.before.before.before.before.before.before.before.before.before.requires.2 _ u, choosing_room _ _ _ _ _ _ _ _ _ _ _ _ c.before.before.before.before.before.before.before.before.before.choices.invariant c.before.before.before.before.before.before.before.before.before.before.before.before.requires.0 c.before.before.before.before.before.before.before.before.before.before.before.before.requires.2 _ u c.before.before.before.before.before.before.before.before.before.before.before.before.requires.3))
-    (λ c. choosing_less _ _ _ _ _ _ _ _ _ _ _ _ c.before.before.before.before.before.before.before.before.before.before.before.before.choices.invariant c.before.before.before.before.before.before.before.before.before.before.before.before.before.before.before.requires.0 c.before.before.before.before.before.before.before.before.before.before.before.before.before.before.before.requires.2 _ (turning_on _ _ _ _ _ _ _ c.before.before.before.before.before.before.before.before.before.before.before.loop.invariant _ c.before.before.before.before.before.before.before.before.before.before.loop-test.false refl c.before.before.before.before.before.before.before.before.before.before.before.before.before.before.before.requires.1 c.before.before.before.before.before.before.before.before.before.before.before.before.before.before.before.requires.2 (choosing_cells _ _ _ _ _ _ _ _ _ _ _ _ c.before.before.before.before.before.before.before.before.before.before.before.before.choices.invariant c.before.before.before.before.before.before.before.before.before.before.before.before.before.before.before.requires.0 c.before.before.before.before.before.before.before.before.before.before.before.before.before.before.before.requires.2) _ _ c.before.before.before.before.before.before.before.before.turn.ensures.0 c.before.before.before.before.before.before.before.before.turn.ensures.1 c.before.before.before.before.before.if1.true) _ _ c.before.before.write_rule.ensures)
-    (λ c. choosing_on _ _ _ _ _ _ _ _ _ _ _ _ c.before.before.before.before.before.before.before.before.before.before.before.before.choices.invariant c.before.before.before.before.before.before.before.before.before.before.before.before.before.before.before.requires.0 c.before.before.before.before.before.before.before.before.before.before.before.before.before.before.before.requires.2 _ (turning_on _ _ _ _ _ _ _ c.before.before.before.before.before.before.before.before.before.before.before.loop.invariant _ c.before.before.before.before.before.before.before.before.before.before.loop-test.false refl c.before.before.before.before.before.before.before.before.before.before.before.before.before.before.before.requires.1 c.before.before.before.before.before.before.before.before.before.before.before.before.before.before.before.requires.2 (choosing_cells _ _ _ _ _ _ _ _ _ _ _ _ c.before.before.before.before.before.before.before.before.before.before.before.before.choices.invariant c.before.before.before.before.before.before.before.before.before.before.before.before.before.before.before.requires.0 c.before.before.before.before.before.before.before.before.before.before.before.before.before.before.before.requires.2) _ _ c.before.before.before.before.before.before.before.before.turn.ensures.0 c.before.before.before.before.before.before.before.before.turn.ensures.1 c.before.before.before.before.before.if1.true) _ _ c.before.before.write_rule.ensures)
-    (λ c. c.before.loop.invariant.size ∙ c.before.before.choices.invariant.size)
-    (λ c. choosing_same _ _ _ _ _ _ _ _ _ _ _ _ c.before.before.choices.invariant c.before.before.before.before.before.requires.0 c.before.before.before.before.before.requires.2)
-    (λ c. (c.before.loop.invariant.tokens ∙ c.before.before.choices.invariant.tokens, chosen _ _ _ _ _ _ _ _ _ _ _ _ c.before.before.choices.invariant c.before.before.before.before.before.requires.0 c.before.before.before.before.before.requires.2 (turning_none _ _ _ _ _ _ _ c.before.loop.invariant c.loop-test.true))))
+    let u = turning_on _ _ _ _ _ _ _ c.loop-tape.invariant _ c.if-tape-eq0.false refl c.requires.1 c.requires.2 (choosing_cells _ _ _ _ _ _ _ _ _ _ _ _ c.choices.invariant c.requires.0 c.requires.2) _ _ c.turn.ensures.0 c.turn.ensures.1 c.if-turn.true in
+    (choosing_placed _ _ _ _ _ _ _ _ _ _ _ _ c.choices.invariant c.requires.0 c.requires.2 _ u, choosing_room _ _ _ _ _ _ _ _ _ _ _ _ c.choices.invariant c.requires.0 c.requires.2 _ u c.requires.3))
+    (λ c. choosing_less _ _ _ _ _ _ _ _ _ _ _ _ c.choices.invariant c.requires.0 c.requires.2 _ (turning_on _ _ _ _ _ _ _ c.loop-tape.invariant _ c.if-tape-eq0.false refl c.requires.1 c.requires.2 (choosing_cells _ _ _ _ _ _ _ _ _ _ _ _ c.choices.invariant c.requires.0 c.requires.2) _ _ c.turn.ensures.0 c.turn.ensures.1 c.if-turn.true) _ _ c.write_rule-o.ensures)
+    (λ c. choosing_on _ _ _ _ _ _ _ _ _ _ _ _ c.choices.invariant c.requires.0 c.requires.2 _ (turning_on _ _ _ _ _ _ _ c.loop-tape.invariant _ c.if-tape-eq0.false refl c.requires.1 c.requires.2 (choosing_cells _ _ _ _ _ _ _ _ _ _ _ _ c.choices.invariant c.requires.0 c.requires.2) _ _ c.turn.ensures.0 c.turn.ensures.1 c.if-turn.true) _ _ c.write_rule-o.ensures)
+    (λ c. c.loop-tape.invariant.size ∙ c.choices.invariant.size)
+    (λ c. choosing_same _ _ _ _ _ _ _ _ _ _ _ _ c.choices.invariant c.requires.0 c.requires.2)
+    (λ c. (c.loop-tape.invariant.tokens ∙ c.choices.invariant.tokens, chosen _ _ _ _ _ _ _ _ _ _ _ _ c.choices.invariant c.requires.0 c.requires.2 (turning_none _ _ _ _ _ _ _ c.loop-tape.invariant c.if-tape-eq0.true))))

@@ -10,15 +10,15 @@ expand_spec =
     (tie.spec
     (λ c κs. search rules)
     (λ c κs. search rules)
-    (λ c κs. (c.before.before.before.before.before.before.ready.ensures.placed, line-first_room _ _ _ _ _ _ _ _ _ _ c.before.before.before.before.before.before.ready.ensures c.before.before.own_place.ensures _ c.before.before.before.before.before.before.before.before.before.before.requires.5))
+    (λ c κs. (c.ready-r.ensures.placed, line-first_room _ _ _ _ _ _ _ _ _ _ c.ready-r.ensures c.own_place-c.ensures _ c.requires.5))
     (λ c κs.
-    let d = c.before.before.before.before.before.before.before.before.before.before.before.ready.ensures in
-    let own = c.before.before.before.before.before.before.before.own_place.ensures in
-    (d.placed, c.before.before.before.before.before.before.before.before.before.before.before.before.before.before.before.requires.0, line_beside _ _ _ _ _ _ _ d c.before.before.before.before.before.before.before.before.before.before.before.before.before.before.before.requires.1, line-rest_room _ _ _ _ _ _ _ _ _ _ d own _ c.before.before.before.before.before.before.before.before.before.before.before.before.before.before.before.requires.5 _ _ _ c.before.before.before.before.write_rule.ensures))
+    let d = c.ready-r.ensures in
+    let own = c.own_place-c.ensures in
+    (d.placed, c.requires.0, line_beside _ _ _ _ _ _ _ d c.requires.1, line-rest_room _ _ _ _ _ _ _ _ _ _ d own _ c.requires.5 _ _ _ c.write_rule-o.ensures))
     (λ c. search rules)
     (λ c. search rules)
     (λ c.
-    let d = c.before.before.before.before.before.before.before.before.before.before.before.before.before.before.before.before.ready.ensures in
-    let own = c.before.before.before.before.before.before.before.before.before.before.before.before.own_place.ensures in
-    let rest = c.before.before.before.before.choices.ensures in
-    (rest.0 ∙ d.wheels.tokens, line_stored _ _ _ _ _ _ _ _ _ _ d own _ c.before.before.before.before.before.before.before.before.before.before.before.before.before.before.before.before.before.before.before.before.requires.5 _ _ _ c.before.before.before.before.before.before.before.before.before.write_rule.ensures _ _ rest.1)))
+    let d = c.ready-r.ensures in
+    let own = c.own_place-c.ensures in
+    let rest = c.choices.ensures in
+    (rest.0 ∙ d.wheels.tokens, line_stored _ _ _ _ _ _ _ _ _ _ d own _ c.requires.5 _ _ _ c.write_rule-o.ensures _ _ rest.1)))

@@ -17,6 +17,6 @@ ready_spec =
     (λ c κs. search rules)
     (λ c. search rules)
     (λ c.
-    is_ready _ _ _ _ _ _ _ _ _ _ _ c.before.before.before.before.before.before.before.before.before.token_at.ensures c.before.before.before.before.before.wide.ensures.0 c.before.before.before.before.before.before.before.first_entry.ensures c.before.before.before.before.wheels.ensures.0
-    c.before.before.before.before.wheels.ensures.1 c.before.before.before.before.wheels.ensures.2 c.rule_at_lem.ensures.0 c.rule_at_lem.ensures.1 c.rule_at_lem.ensures.2
-    c.before.before.before.before.before.before.before.before.before.before.before.before.requires.0 c.before.before.before.before.before.before.before.before.before.before.before.before.requires.1 c.before.before.before.before.before.before.before.before.before.before.before.before.requires.2 (search rules) c.before.before.before.before.before.before.before.before.before.before.before.before.requires.3 c.before.before.before.before.before.before.before.before.before.before.before.before.requires.4))
+    is_ready _ _ _ _ _ _ _ _ _ _ _ c.token_at-p.ensures c.wide.ensures.0 c.first_entry-i.ensures c.wheels-n.ensures.0
+    c.wheels-n.ensures.1 c.wheels-n.ensures.2 c.rule_at_lem.ensures.0 c.rule_at_lem.ensures.1 c.rule_at_lem.ensures.2
+    c.requires.0 c.requires.1 c.requires.2 (search rules) c.requires.3 c.requires.4))

@@ -4,11 +4,11 @@ use Rattle.sheet.proofs.RowLaws.{Ruling, ruling_start, ruling_room, ruling_on, r
 use Rattle.sheet.proofs.expand.rules.Statement.{statement}
 use Rattle.sheet.proofs.expand.rules.Tie as tie
 
-abbrev invariant-loop : tie.invariant-loop
-invariant-loop work₀ count a b blank out₀ at p₀ o₀ i₀ work out p o i = Ruling count blank work₀ out₀ at work out o p i
+abbrev invariant-loop-i : tie.invariant-loop-i
+invariant-loop-i work₀ count a b blank out₀ at p₀ o₀ i₀ work out p o i = Ruling count blank work₀ out₀ at work out o p i
 
-abbrev decreases-loop : tie.decreases-loop
-decreases-loop work₀ count a b blank out₀ at p₀ o₀ i₀ work out p o i = count - i
+abbrev decreases-loop-i : tie.decreases-loop-i
+decreases-loop-i work₀ count a b blank out₀ at p₀ o₀ i₀ work out p o i = count - i
 
 ruleset laws = (rules, ruling_start, ruling_room, ruling_on, ruled, ruling_same)
 
@@ -16,8 +16,8 @@ pub rules_spec : {M : Type 1} → statement M
 rules_spec =
     tie.close
     (tie.spec
-    invariant-loop
-    decreases-loop
+    invariant-loop-i
+    decreases-loop-i
     (λ c. search laws)
     (λ c κs. search laws)
     (λ c κs. search laws)

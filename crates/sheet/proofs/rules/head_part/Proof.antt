@@ -26,5 +26,5 @@ head_part_spec =
     (λ c. search laws)
     (λ c. search laws)
     (λ c.
-    head_stored _ _ _ _ _ _ _ _ _ _ _ _ c.before.before.before.before.before.before.before.before.before.before.before.before.before.before.before.word.ensures c.before.before.before.before.before.before.before.before.before.before.before.places.ensures c.before.before.before.before.before.before.word2.ensures
-    c.before.before.word3.ensures))
+    head_stored _ _ _ _ _ _ _ _ _ _ _ _ c.word.ensures c.places-i.ensures c.word-2.ensures
+    c.word-3.ensures))

@@ -17,4 +17,4 @@ rule_at_spec =
     (λ c κs. search laws)
     (λ c κs. search laws)
     (λ c κs. search laws)
-    (λ c. (search laws, entry_small _ _ _ c.before.before.first_entry.ensures (omega arith), entry_small _ _ _ c.first_entry2.ensures (omega arith))))
+    (λ c. (search laws, entry_small _ _ _ c.first_entry.ensures (omega arith), entry_small _ _ _ c.first_entry-2.ensures (omega arith))))

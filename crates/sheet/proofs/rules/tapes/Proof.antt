@@ -6,11 +6,11 @@ use Rattle.sheet.proofs.RuleLaws.{Taping, taping_start, taping_room, taping_on, 
 use Rattle.sheet.proofs.rules.tapes.Statement.{statement}
 use Rattle.sheet.proofs.rules.tapes.Tie as tie
 
-abbrev invariant-loop : tie.invariant-loop
-invariant-loop work count b r blank out₀ at i₀ t₀ out i t = Taping count work b r blank out₀ at out i t
+abbrev invariant-loop-t : tie.invariant-loop-t
+invariant-loop-t work count b r blank out₀ at i₀ t₀ out i t = Taping count work b r blank out₀ at out i t
 
-abbrev decreases-loop : tie.decreases-loop
-decreases-loop work count b r blank out₀ at i₀ t₀ out i t = r.tapes - t
+abbrev decreases-loop-t : tie.decreases-loop-t
+decreases-loop-t work count b r blank out₀ at i₀ t₀ out i t = r.tapes - t
 
 ruleset laws = (rules, writing-same, taping_start, taping_room, taping_on, taped)
 
@@ -18,8 +18,8 @@ pub tapes_spec : {M : Type 1} → statement M
 tapes_spec =
     tie.close
     (tie.spec
-    invariant-loop
-    decreases-loop
+    invariant-loop-t
+    decreases-loop-t
     (λ c. search laws)
     (λ c κs. search laws)
     (λ c. search laws)

@@ -14,8 +14,8 @@ write_rule_spec =
     (λ c κs. search laws)
     (λ c κs. search laws)
     (λ c κs.
-    (search laws, leading_room _ _ _ _ _ _ _ c.before.before.before.before.before.before.before.before.before.before.before.before.requires.0 _ c.before.before.before.before.before.before.before.before.before.before.before.before.requires.1 _ _ _ _ c.before.before.before.before.before.before.before.head.ensures _ _ c.before.before.before.tapes.ensures))
+    (search laws, leading_room _ _ _ _ _ _ _ c.requires.0 _ c.requires.1 _ _ _ _ c.head-i.ensures _ _ c.tapes-j.ensures))
     (λ c. search laws)
     (λ c.
-    rule_stored _ _ _ _ _ _ _ c.before.before.before.before.before.before.before.before.before.before.before.before.before.before.before.requires.0 _ c.before.before.before.before.before.before.before.before.before.before.before.before.before.before.before.requires.1 _ _ _ _ c.before.before.before.before.before.before.before.before.before.before.head.ensures _ _ c.before.before.before.before.before.before.tapes.ensures _ _
-    c.before.before.before.before.before.before.before.before.before.before.before.before.count_between.ensures c.before.before.comments.ensures))
+    rule_stored _ _ _ _ _ _ _ c.requires.0 _ c.requires.1 _ _ _ _ c.head-i.ensures _ _ c.tapes-j.ensures _ _
+    c.count_between-k.ensures c.comments.ensures))

@@ -5,11 +5,11 @@ use Rattle.sheet.proofs.WheelLaws.{Ending, next-symbol, ending_start, ending_on,
 use Rattle.sheet.proofs.wheels.next_entry.Statement.{statement}
 use Rattle.sheet.proofs.wheels.next_entry.Tie as tie
 
-abbrev invariant-loop : tie.invariant-loop
-invariant-loop work count e i₀ i = Ending (rows count work) count e i
+abbrev invariant-loop-i : tie.invariant-loop-i
+invariant-loop-i work count e i₀ i = Ending (rows count work) count e i
 
-abbrev decreases-loop : tie.decreases-loop
-decreases-loop work count e i₀ i = count - i
+abbrev decreases-loop-i : tie.decreases-loop-i
+decreases-loop-i work count e i₀ i = count - i
 
 ruleset laws = (rules, next-symbol, ending_start, ending_on, ending_stop, ending_past)
 
@@ -17,8 +17,8 @@ pub next_entry_spec : {M : Type 1} → statement M
 next_entry_spec =
     tie.close
     (tie.spec
-    invariant-loop
-    decreases-loop
+    invariant-loop-i
+    decreases-loop-i
     (λ c κs. search laws)
     (λ c. search laws)
     (λ c. search laws)

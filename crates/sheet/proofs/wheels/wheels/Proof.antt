@@ -4,11 +4,11 @@ use Rattle.sheet.proofs.WheelLaws.{Filling, filling_start, filling_on, filled_st
 use Rattle.sheet.proofs.wheels.wheels.Statement.{statement}
 use Rattle.sheet.proofs.wheels.wheels.Tie as tie
 
-abbrev invariant-loop : tie.invariant-loop
-invariant-loop work₀ count at n a b i₀ t₀ work i t = Filling count at n a b work₀ work i t
+abbrev invariant-loop-t : tie.invariant-loop-t
+invariant-loop-t work₀ count at n a b i₀ t₀ work i t = Filling count at n a b work₀ work i t
 
-abbrev decreases-loop : tie.decreases-loop
-decreases-loop work₀ count at n a b i₀ t₀ work i t = n - t
+abbrev decreases-loop-t : tie.decreases-loop-t
+decreases-loop-t work₀ count at n a b i₀ t₀ work i t = n - t
 
 ruleset laws = (rules, filling_start, filled_stop, members_stop, filled-end, members-end)
 
@@ -16,8 +16,8 @@ pub wheels_spec : {M : Type 1} → statement M
 wheels_spec =
     tie.close
     (tie.spec
-    invariant-loop
-    decreases-loop
+    invariant-loop-t
+    decreases-loop-t
     (λ c. search laws)
     (λ c. search laws)
     (λ c. search laws)
@@ -33,7 +33,7 @@ wheels_spec =
     (λ c. search laws)
     (λ c. search laws)
     (λ c.
-    filling_on _ _ _ _ _ _ _ _ _ c.before.before.before.before.before.before.loop.invariant c.before.before.before.before.before.before.before.before.requires.0 c.before.before.before.before.before.before.before.before.requires.1 c.before.before.before.before.before.before.before.before.requires.2 c.before.before.before.before.before.loop-test.true _ _ _ _ _ c.before.before.before.before.if1.false refl
-    c.before.before.first_member.ensures refl refl c.next_entry.ensures)
+    filling_on _ _ _ _ _ _ _ _ _ c.loop-t.invariant c.requires.0 c.requires.1 c.requires.2 c.loop-t-test.true _ _ _ _ _ c.if-count-i.false refl
+    c.first_member-c.ensures refl refl c.next_entry-next.ensures)
     (λ c. search laws)
     (λ c. search laws))
