@@ -33,7 +33,7 @@ plain_up_to_spec =
     (λ c. search laws)
     (λ c. search laws)
     (λ c κs. search laws)
-    (λ c. search laws)
+    (λ c. step_stop _ _ _ c.plain_step-next.ensures c.loop-at.invariant.1 c.loop-at.invariant.2 c.if-next-at.true)
     (λ c κs. search laws)
     (λ c. search laws)
     (λ c. search laws))

@@ -11,9 +11,7 @@ bit_order_spec =
     tie.close
     (tie.spec
     (λ c. search rules)
-    (λ c. search rules)
     (λ c κs. search rules)
-    (λ c. search rules)
     (λ c. search rules)
     (λ c κs. search rules)
     (λ c. search rules)

@@ -11,15 +11,11 @@ kind_spec =
     tie.close
     (tie.spec
     (λ c. search rules)
+    (λ c κs. search rules)
     (λ c. search rules)
     (λ c κs. search rules)
     (λ c. search rules)
-    (λ c. search rules)
     (λ c κs. search rules)
-    (λ c. search rules)
-    (λ c. search rules)
-    (λ c κs. search rules)
-    (λ c. search rules)
     (λ c. search rules)
     (λ c κs. search rules)
     (λ c. search rules)

@@ -9,13 +9,11 @@ symbols_line_spec =
     tie.close
     (tie.spec
     (λ c κs. search rules)
-    (λ c. search rules)
     (λ c κs. search rules)
     (λ c κs.
     let at-if1 = c.before.before.before.before.before.before.before.before.before.before in
     let start = at-if1.before.before.before in
     (search rules, search rules, start.requires.1 at-if1.if-declared.true))
-    (λ c. search rules)
     (λ c κs. search rules)
     (λ c. search rules)
     (λ c.

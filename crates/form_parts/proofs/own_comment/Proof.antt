@@ -12,7 +12,6 @@ own_comment_spec =
     (tie.spec
     (λ c κs. search rules)
     (λ c. search laws)
-    (λ c. search rules)
     (λ c κs. search rules)
     (λ c κs. search rules)
     (λ c. search rules)

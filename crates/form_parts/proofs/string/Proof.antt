@@ -10,11 +10,9 @@ pub string_spec : {M : Type 1} → statement M
 string_spec =
     tie.close
     (tie.spec
-    (λ c. search rules)
     (λ c κs. search rules)
     (λ c κs. search rules)
     (λ c κs. search laws)
-    (λ c. search rules)
     (λ c κs. search rules)
     (λ c. search rules)
     (λ c. search laws))

@@ -10,10 +10,8 @@ pub bytes_line_spec : {M : Type 1} → statement M
 bytes_line_spec =
     tie.close
     (tie.spec
-    (λ c. search rules)
     (λ c κs. search rules)
     (λ c κs. search rules)
-    (λ c. search rules)
     (λ c κs. search rules)
     (λ c. search rules)
     (λ c. search laws))

@@ -10,10 +10,8 @@ pub transition_lines_spec : {M : Type 1} → statement M
 transition_lines_spec =
     tie.close
     (tie.spec
-    (λ c. search rules)
     (λ c κs. search rules)
     (λ c κs. search rules)
-    (λ c. search rules)
     (λ c κs. search rules)
     (λ c κs. search rules)
     (λ c. search rules)

@@ -10,13 +10,11 @@ pub behind_slash_spec : {M : Type 1} → statement M
 behind_slash_spec =
     tie.close
     (tie.spec
-    (λ c. search rules)
     (λ c κs. search rules)
     (λ c κs. search rules)
     (λ c κs. search rules)
     (λ c. search rules)
     (λ c. search laws)
-    (λ c. search rules)
     (λ c κs. search rules)
     (λ c κs. search rules)
     (λ c. search rules)

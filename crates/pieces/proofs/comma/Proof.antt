@@ -10,7 +10,6 @@ pub comma_spec : {M : Type 1} → statement M
 comma_spec =
     tie.close
     (tie.spec
-    (λ c. search rules)
     (λ c κs. search rules)
     (λ c. search rules)
     (λ c. search laws)

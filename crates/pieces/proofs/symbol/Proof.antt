@@ -10,10 +10,8 @@ pub symbol_spec : {M : Type 1} → statement M
 symbol_spec =
     tie.close
     (tie.spec
-    (λ c. search rules)
     (λ c κs. search rules)
     (λ c κs. search rules)
-    (λ c. search rules)
     (λ c κs. search rules)
     (λ c. search rules)
     (λ c. search laws))

@@ -8,20 +8,17 @@ pub rule_left_spec : {M : Type 1} → statement M
 rule_left_spec =
     tie.close
     (tie.spec
-    (λ c. search rules)
     (λ c κs. search rules)
     (λ c κs. search rules)
     (λ c κs.
     let start = c in
     placed _ start.args.words.now 1 _ c.place_at.ensures start.requires.from)
-    (λ c. search rules)
     (λ c κs. search rules)
     (λ c κs. search rules)
     (λ c κs. search rules)
     (λ c κs.
     let start = c in
     (search rules, search rules, search (coded start.args.words.now _ _ c.word.ensures c.after.ensures 0 start.requires.reads, coded start.args.words.now _ _ c.word.ensures c.after.ensures 3 start.requires.writes)))
-    (λ c. search rules)
     (λ c κs. search rules)
     (λ c. search rules)
     (λ c.

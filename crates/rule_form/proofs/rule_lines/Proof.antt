@@ -24,7 +24,6 @@ rule_lines_spec =
     (λ c κs.
     let start = c in
     placed _ start.args.words.now 7 _ c.place_at.ensures start.requires.comment)
-    (λ c. search rules)
     (λ c κs. search rules)
     (λ c. search rules)
     (λ c.

@@ -11,23 +11,19 @@ rule_right_spec =
     (tie.spec
     (λ c κs. search rules)
     (λ c κs. search rules)
-    (λ c. search rules)
     (λ c κs. search rules)
     (λ c κs. search rules)
     (λ c κs.
     let start = c in
     placed _ start.args.words.now 3 _ c.place_at.ensures start.requires.to)
-    (λ c. search rules)
     (λ c κs. search rules)
     (λ c κs.
     let at-word = c.before.before.before.before.before.before.before.before.before.before.before.before.before.before.before.before in
     let at_after = at-word.before in
     let start = at_after in
     (search rules, search rules, coded start.args.words.now _ _ at-word.word-n.ensures at_after.after-actions.ensures _ start.requires.writes))
-    (λ c. search rules)
     (λ c κs. search rules)
     (λ c κs. search rules)
-    (λ c. search rules)
     (λ c κs. search rules)
     (λ c.
     let at-say4 = c.before.before in

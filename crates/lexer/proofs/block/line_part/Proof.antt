@@ -37,6 +37,6 @@ line_part_spec =
     (λ c. search laws)
     (λ c. search laws)
     (λ c. search laws)
-    (λ c. (search laws, line_seven _ _ _ _ _ c.loop-i-test.true c.loop-i.invariant.1 c.plain_eight.ensures (not-false _ c.if-not-plain_eight.false) c.if-text-i-ne32.false c.if-text-i-ne32-2.true))
+    (λ c. (search laws, line_seven _ _ _ _ _ c.loop-i-test.true c.loop-i.invariant.1 c.plain_eight.ensures c.if-not-plain_eight.false c.if-text-i-ne32.false c.if-text-i-ne32-2.true))
     (λ c. search laws)
     (λ c. search laws))

@@ -12,7 +12,6 @@ unfolding keywords_of
 of_seven_spec =
     tie.close
     (tie.spec
-    (λ c. search laws)
     (λ c κs. search laws)
     (λ c. search laws)
     (λ c. search laws))

@@ -12,12 +12,9 @@ unfolding keywords_of
 of_six_spec =
     tie.close
     (tie.spec
-    (λ c. search laws)
     (λ c κs. search laws)
     (λ c. search laws)
-    (λ c. search laws)
     (λ c κs. search laws)
-    (λ c. search laws)
     (λ c. search laws)
     (λ c κs. search laws)
     (λ c. search laws)

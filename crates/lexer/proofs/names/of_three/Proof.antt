@@ -12,9 +12,7 @@ unfolding keywords_of
 of_three_spec =
     tie.close
     (tie.spec
-    (λ c. search laws)
     (λ c κs. search laws)
-    (λ c. search laws)
     (λ c. search laws)
     (λ c κs. search laws)
     (λ c. search laws)
