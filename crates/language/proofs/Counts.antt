@@ -68,6 +68,7 @@ choices-filled ((a ∷ s) ∷ ss) h = front-filled a (choices ss) (each_front s 
   where
     front-filled : {A : Type 0} (a : A) (ls more : List (List A)) → Filled ls → Filled (map (λ l. a ∷ l) ls ++ more)
     front-filled a (l ∷ ls) more h = tt
+    front-filled a [] more h = elim h [ ]
 choices-filled ([] ∷ ss) h = absurd h.0
 
 -- ---- lines that fit

@@ -383,12 +383,12 @@ unfolding plain_rows plain_lines
 plain_parses m g =
     let end = comments_parses last m.trailing in
     let rules = rules_parses end m.rules g.rules_parsed in
-    let finals = finals_parses rules (final_names m.states) (finals_every NotBlank m.states g.state_names) in
+    let finals = finals_parses rules (final_names m.states) (finals_every NotBlank m.states g.state-names) in
     let start = only_parses finals m.declared.start _ _ (λ e. start_parses finals m.start (g.start_name_lem e)) in
     let blank = only_parses start m.declared.blank _ _ (λ e. blank_parses start m.blank) in
     let gamma = only_parses blank m.declared.tape_alphabet _ _ (λ e. gamma_parses blank m.gamma) in
     let sigma = only_parses gamma m.declared.input_alphabet _ _ (λ e. sigma_parses gamma m.sigma) in
-    let states = only_parses sigma m.declared.states _ _ (λ e. states_parses sigma (map (λ s. s.name) m.states) (names_every NotBlank m.states g.state_names)) in
+    let states = only_parses sigma m.declared.states _ _ (λ e. states_parses sigma (map (λ s. s.name) m.states) (names_every NotBlank m.states g.state-names)) in
     comments_parses (machine_parses (kind_parses (input_parses (output_parses (tapes_parses states m.tapes g.tapes_small) m.output) m.input) m.kind) m.name) m.header
 
 -- reading a plain form gives its lines

@@ -288,7 +288,7 @@ module _ (ts : List Token) (i : ℕ) (t : Token) (e : t ≡ peek ts i) where
     unfolding line
     line-item v h z = let q : eqb (peek ts i).kind 13 ≡ false = rw (← e) (ne_eqb t.kind 13 f) in rw (← g, h, q) z
 
-pub ruleset rules = (chain, on-failed, on_done, value-failed, value_done, plain_done, plain-failed, plain_of, parts_done, side_fits, next_fits, value_by, lead_by, spanning_of)
+pub ruleset rule_laws = (chain, on-failed, on_done, value-failed, value_done, plain_done, plain-failed, plain_of, parts_done, side_fits, next_fits, value_by, lead_by, spanning_of)
 
 pub ruleset items =
     (chain, next_fits, finish-error, finish-item, item-lead, item-value, item_ends, item_done, item-other, item-starts, item-inside, comment_no, comment-next, line_blank, line-comment, line-item)

@@ -1,6 +1,6 @@
 -- Each call gives its part of the definition, whose tests are those of the code. Assumes nothing.
 use borrow.Author.Rules.{rules}
-use Rattle.parser.proofs.Rules.{rules}
+use Rattle.parser.proofs.Rules.{rule_laws}
 use Rattle.parser.specs.Lines.{left}
 use Rattle.parser.proofs.items.left.Statement.{statement}
 use Rattle.parser.proofs.items.left.Tie as tie
@@ -14,22 +14,22 @@ left_spec =
     (λ c. search rules)
     (λ c. search rules)
     (λ c κs. search rules)
-    (λ c. search rules)
+    (λ c. search rule_laws)
     (λ c κs. search rules)
     (λ c. search rules)
     (λ c. search rules)
     (λ c κs. search rules)
-    (λ c. search rules)
+    (λ c. search rule_laws)
     (λ c κs. search rules)
     (λ c. search rules)
     (λ c. search rules)
     (λ c κs. search rules)
-    (λ c. search rules)
+    (λ c. search rule_laws)
     (λ c κs. search rules)
     (λ c. search rules)
     (λ c. search rules)
     (λ c κs. search rules)
-    (λ c. search rules)
-    (λ c. search rules)
+    (λ c. search rule_laws)
+    (λ c. search rule_laws)
     (λ c κs. search rules)
-    (λ c. search rules))
+    (λ c. search rule_laws))

@@ -1,6 +1,6 @@
 -- By the first and the last token. Assumes nothing.
 use borrow.Author.Rules.{rules}
-use Rattle.parser.proofs.Rules.{rules}
+use Rattle.parser.proofs.Rules.{rule_laws}
 use Rattle.parser.proofs.items.spanning.Statement.{statement}
 use Rattle.parser.proofs.items.spanning.Tie as tie
 
@@ -11,4 +11,4 @@ spanning_spec =
     (λ c κs. search rules)
     (λ c. search rules)
     (λ c κs. search rules)
-    (λ c. search rules))
+    (λ c. search rule_laws))

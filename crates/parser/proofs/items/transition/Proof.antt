@@ -1,6 +1,6 @@
 -- Each call gives its part of the definition, whose tests are those of the code. Assumes nothing.
 use borrow.Author.Rules.{rules}
-use Rattle.parser.proofs.Rules.{rules}
+use Rattle.parser.proofs.Rules.{rule_laws}
 use Rattle.parser.specs.Lines.{transition}
 use Rattle.parser.proofs.items.transition.Statement.{statement}
 use Rattle.parser.proofs.items.transition.Tie as tie
@@ -13,6 +13,6 @@ transition_spec =
     (λ c κs. search rules)
     (λ c. search rules)
     (λ c. search rules)
-    (λ c. search rules)
+    (λ c. search rule_laws)
     (λ c κs. search rules)
-    (λ c. search rules))
+    (λ c. search rule_laws))

@@ -1,6 +1,6 @@
 -- By the kind: each arm's parser is the definition's. Assumes nothing.
 use borrow.Author.Rules.{rules}
-use Rattle.parser.proofs.Rules.{rules}
+use Rattle.parser.proofs.Rules.{rule_laws}
 use Rattle.parser.specs.Lines.{value}
 use Rattle.parser.proofs.items.value.Statement.{statement}
 use Rattle.parser.proofs.items.value.Tie as tie
@@ -45,15 +45,15 @@ value_spec =
     (λ c κs. search rules)
     (λ c. search rules)
     (λ c κs. search rules)
-    (λ c. search rules)
-    (λ c. search rules)
-    (λ c. search rules)
-    (λ c. search rules)
-    (λ c. search rules)
-    (λ c. search rules)
-    (λ c. search rules)
-    (λ c. search rules)
-    (λ c. search rules)
-    (λ c. search rules)
-    (λ c. search rules)
-    (λ c. search rules))
+    (λ c. search rule_laws)
+    (λ c. search rule_laws)
+    (λ c. search rule_laws)
+    (λ c. search rule_laws)
+    (λ c. search rule_laws)
+    (λ c. search rule_laws)
+    (λ c. search rule_laws)
+    (λ c. search rule_laws)
+    (λ c. search rule_laws)
+    (λ c. search rule_laws)
+    (λ c. search rule_laws)
+    (λ c. search rule_laws))
