@@ -72,6 +72,8 @@ pub data AllNames (text : List ℕ) (ts : List Token) : List ℕ → List (Locat
 module _ (text : List ℕ) (ts : List Token) where
   names_snoc : (js : List ℕ) (ls : List (Located Place (List ℕ))) (j : ℕ) (l : Located Place (List ℕ)) → AllNames text ts js ls → NameIs text (peek ts j) l → AllNames text ts (js ++ j ∷ []) (ls ++ l ∷ [])
   names_snoc [] [] j l no_names n = one_name n no_names
+  names_snoc [] (x ∷ ls) j l m n = elim m [ ]
+  names_snoc (k ∷ js) [] j l m n = elim m [ ]
   names_snoc (k ∷ js) (x ∷ ls) j l (one_name m r) n = one_name m (names_snoc js ls j l r n)
 
   -- where a name is listed first
@@ -93,6 +95,8 @@ module _ (text : List ℕ) (ts : List Token) where
     listed_mean : (js : List ℕ) (ls : List (Located Place (List ℕ))) → AllNames text ts js ls → ListedMeans (listed text ts x js) (A.listed_at f.value ls)
     unfolding listed A.listed_at
     listed_mean [] [] no_names = tt
+    listed_mean [] (l ∷ ls) m = elim m [ ]
+    listed_mean (j ∷ js) [] m = elim m [ ]
     listed_mean (j ∷ js) (l ∷ ls) (one_name m r) =
         let s : same_name text (peek ts j) (peek ts x) ≡ same l.value f.value = names_same text (peek ts j) (peek ts x) l f m name in
         by_test_lem (same l.value f.value)
@@ -169,6 +173,8 @@ module _ (text : List ℕ) (ts : List Token) where
     names_mean : (before fs : List ℕ) (bs ls : List (Located Place (List ℕ))) → AllNames text ts before bs → AllNames text ts fs ls → final_errors text ts d qs before fs ≡ records_of (A.final_errors q bs ls)
     unfolding final_errors A.final_errors records_of
     names_mean before [] bs [] b no_names = refl
+    names_mean before [] bs (f ∷ ls) b m = elim m [ ]
+    names_mean before (x ∷ fs) bs [] b m = elim m [ ]
     names_mean before (x ∷ fs) bs (f ∷ ls) b (one_name n r) =
         ap (λ (l : List Diagnostic). l ++ final_errors text ts d qs (before ++ x ∷ []) fs) (name_mean x f n before bs b)
         ∙ ap (λ (l : List Diagnostic). records_of (A.final_error q bs f) ++ l) (names_mean (before ++ x ∷ []) fs (bs ++ f ∷ []) ls (names_snoc before bs x f b n) r)
@@ -397,6 +403,8 @@ module _ (text : List ℕ) (ts : List Token) where
         → Looked (get_or first k 0) (get_or (declarations (length ts) first es) k 0) (A.first part (A.items ls))
     unfolding declarations A.items A.first
     lookup first [] [] no_lines s f = absent refl
+    lookup first [] (l ∷ ls) m s f = elim m [ ]
+    lookup first (e ∷ es) [] m s f = elim m [ ]
     lookup first (e ∷ es) (blank_line ∷ ls) (one_line h q m r) s f =
         let p : get_or (declare (length ts) first e) k 0 ≡ get_or first k 0 = passes (length ts) k low first e (λ d z. omega (arith, declares-within e d)) in
         looked_from _ _ _ _ p (lookup (declare (length ts) first e) es ls r (declare-length (length ts) first e ∙ s) (ap (λ (m : ℕ). ltb m (length ts)) p ∙ f))
@@ -441,7 +449,7 @@ module _ (text : List ℕ) (ts : List Token) where
   finals_looked final none h (absent e) = subst (λ (l : List ℕ). AllNames text ts l []) (sym (no_such final (omega arith))) no_names
   finals_looked final (some l) h (present g all) = all
 
-  pub finals_mean : (X : Entry → ItemMut Place → Type 0) → ((e : Entry) (i : ItemMut Place) → X e i → NamesIn e i) → length ts ≤ 0xffffffff → (es : List Entry) (ls : List (Line Place)) → AllMean X ts es ls
+  pub finals_mean : (X : Entry → Item Place → Type 0) → ((e : Entry) (i : Item Place) → X e i → NamesIn e i) → length ts ≤ 0xffffffff → (es : List Entry) (ls : List (Line Place)) → AllMean X ts es ls
       → finals_errors text ts (declarations (length ts) undeclared es) ≡ records_of (A.final_errors (A.states_in (A.items ls)) [] (A.finals_in (A.items ls)))
   unfolding finals_errors A.states_in A.finals_in
   finals_mean X asks h es ls all =

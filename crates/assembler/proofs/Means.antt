@@ -120,6 +120,8 @@ module _ (X : Entry → Item Place → Type 0) (ts : List Token) where
   pub line_errors_mean : (es : List Entry) (ls : List (Line Place)) → AllMean X ts es ls → line_errors es ≡ records_of (A.line_errors ls)
   unfolding line_errors A.line_errors records_of
   line_errors_mean [] [] no_lines = refl
+  line_errors_mean [] (l ∷ ls) m = elim m [ ]
+  line_errors_mean (e ∷ es) [] m = elim m [ ]
   line_errors_mean (e ∷ es) (blank_line ∷ ls) (one_line h q m r) = no_error e es (omega arith) ∙ line_errors_mean es ls r
   line_errors_mean (e ∷ es) (comment_line c ∷ ls) (one_line h q m r) = no_error e es (omega arith) ∙ line_errors_mean es ls r
   line_errors_mean (e ∷ es) (item_line i p c ∷ ls) (one_line h q m r) = no_error e es (omega (arith, m.kind, number_low i)) ∙ line_errors_mean es ls r
@@ -390,6 +392,8 @@ module _ (X : Entry → Item Place → Type 0) (ts : List Token) where
       → declaration_errors ts first es ≡ records_of (A.declaration_errors before (A.items ls))
   unfolding declaration_errors A.declaration_errors A.items records_of
   declarations_mean first before [] [] no_lines t = refl
+  declarations_mean first before [] (l ∷ ls) m t = elim m [ ]
+  declarations_mean first before (e ∷ es) [] m t = elim m [ ]
   declarations_mean first before (e ∷ es) (blank_line ∷ ls) (one_line h q m r) t = passed first e es (declares_low e m) ∙ declarations_mean first before es ls r t
   declarations_mean first before (e ∷ es) (comment_line c ∷ ls) (one_line h q m r) t = passed first e es (declares_low e m) ∙ declarations_mean first before es ls r t
   declarations_mean first before (e ∷ es) (error_line n p ∷ ls) (one_line h q m r) t = passed first e es (declares_high e n m.0) ∙ declarations_mean first before es ls r t

@@ -216,6 +216,8 @@ module _ (X : Entry → Item Place → Type 0) (asks : (e : Entry) (i : Item Pla
   unfolding A.attach A.at_end rule_errors rule_count A.rule_errors A.kept L.rule_count records_of
   attached s [] [] no_lines true old block = record { errors = refl; count = omega arith }
   attached s [] [] no_lines false old block = record { errors = refl; count = omega arith }
+  attached s [] (l ∷ ls) m seen old block = elim m [ ]
+  attached s (e ∷ es) [] m seen old block = elim m [ ]
   attached s (e ∷ es) (blank_line ∷ ls) (one_line h q m r) seen old block = other-same s e es (A.attach seen (old ++ block) [] ls).rules (λ z. omega arith) (attached s es ls r seen (old ++ block) [])
   attached s (e ∷ es) (comment_line c ∷ ls) (one_line h q m r) seen old block =
       other-same s e es (A.attach seen old (block ++ c ∷ []) ls).rules (λ z. omega arith) (attached s es ls r seen old (block ++ c ∷ []))

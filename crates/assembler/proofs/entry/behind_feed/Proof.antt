@@ -22,7 +22,7 @@ behind_feed_spec =
     (λ c. search laws)
     (λ c κs. search laws)
     (λ c. search laws)
-    (λ c. search laws)
+    (λ c. seeking_here _ _ _ _ c.loop-i.invariant c.requires.0 _ c.loop-i-test.true c.token_at-t.ensures c.if-t-eq-NEWLINE.true)
     (λ c. search laws)
     (λ c. search laws)
     (λ c. search laws)

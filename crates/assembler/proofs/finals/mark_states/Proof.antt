@@ -25,7 +25,7 @@ mark_states_spec =
     (λ c. search laws)
     (λ c κs. search laws)
     (λ c. search laws)
-    (λ c. search laws)
+    (λ c. (marking_kept _ _ _ _ _ _ _ _ c.loop-i.invariant c.requires.0, marking_stop _ _ _ _ _ _ _ _ c.loop-i.invariant c.requires.0 _ c.loop-i-test.true c.token_at-t.ensures c.if-t-eq-NEWLINE.true))
     (λ c κs. search laws)
     (λ c. search laws)
     (λ c. search laws)
