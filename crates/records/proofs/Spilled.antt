@@ -55,3 +55,8 @@ spilled_all ys w (suc n) p r =
     let more : flat (take (suc n) ys) ≡ front ++ words d = ap flat (take-suc ys n unused p) ∙ flat_append (take n ys) (d ∷ []) in
     stored s n d fits ∙ sets-eq (words d) s (5 * n) fits
     ∙ ap (λ (l : List ℕ). (l ++ words d) ++ drop (5 * n + 5) s) before ∙ ap (λ (l : List ℕ). (front ++ words d) ++ l) behind ∙ ap (λ (l : List ℕ). l ++ drop (5 * suc n) w) (sym more)
+
+-- one record more
+pub spilled_more : (ys : List Diagnostic) (w v zs : List ℕ) (i r : ℕ) → v ≡ spilled ys w i → logged zs r ≡ appended (logged v i) (get_or ys i unused) → zs ≡ spilled ys w r
+spilled_more ys w v zs i r is e =
+    ap (λ (l : Log). l.row) e ∙ ap (λ (u : List ℕ). (appended (logged u i) (get_or ys i unused)).row) is ∙ ap (spilled ys w) (sym (counted v zs i r (get_or ys i unused) e))

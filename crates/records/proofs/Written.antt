@@ -1,18 +1,13 @@
 -- A list whose first elements are overwritten in turn: what a loop over the log has made of it after i turns.
-use mathlib.Core.Path.{◌≡◌, refl, sym, subst, ap, ◌∙◌}
-use Prim.Native.Nat.{ℕ, zero, suc, ◌+◌, ◌-◌, ◌*◌, ◌<◌, ◌≤◌}
+use mathlib.Core.Path.{◌≡◌, refl, sym, ap, ◌∙◌}
+use Prim.Native.Nat.{ℕ, zero, suc, ◌+◌, ◌*◌, ◌≤◌}
 use native.Mathlib.Omega.{arith}
-use native.Mathlib.Nat.{add-zero, add-suc, add_assoc, le_of_suc-le-suc, not-suc-le-zero}
+use native.Mathlib.Nat.{add_assoc, le_of_suc-le-suc, not-suc-le-zero}
 use mathlib.Core.List.{List, [], ◌∷◌, ◌++◌}
-use mathlib.Core.WellFounded.InvImage
-use mathlib.Core.WellFounded.{WellFounded}
 use lib.ListN.{length, set, drop, replicate, length-set}
 use lib.Seq.{get_or-drop}
-use lib.Dec.{T, ltb, ltb→lt, nltb→le}
-use mathlib.Core.Bool.{Bool, true, false, not}
 use Rattle.diag.specs.Log.{record_from, records}
 use Rattle.diag.specs.declared.Diagnostic.{Diagnostic}
-use lib.WfN.{lt-wf_rel}
 
 module _ {X : Type 0} where
   -- the first i elements of a list are f's
@@ -52,26 +47,3 @@ written-records w (suc n) [] p = absurd (not-suc-le-zero p)
 written-records w (suc n) (y ∷ ys) p =
     written-front (λ j. record_from w (5 * j)) n y ys
     ∙ ap (λ (l : List Diagnostic). record_from w 0 ∷ l) (written_same (from_next w) n ys ∙ written-records (drop 5 w) n ys (le_of_suc-le-suc p))
-
--- numbers ordered by how far they are from n
-abbrev pub Up : ℕ → ℕ → ℕ → Type 0
-Up n j i = n - j < n - i
-
-pub up_ends : (n : ℕ) → WellFounded (Up n)
-up_ends n = record { apply = λ i. InvImage.accessible (λ (j : ℕ). n - j) (lt-wf_rel.wf.apply (n - i)) }
-
-pub up_next : (n i : ℕ) → i < n → Up n (suc i) i
-up_next n i p = omega (arith, p)
-
-pub one_more : (i : ℕ) → i + 1 ≡ suc i
-one_more i = add-suc i zero ∙ ap suc (add-zero i)
-
--- what the test of a loop says
-pub true_lt : (i n : ℕ) → ltb i n ≡ true → i < n
-true_lt i n e = ltb→lt i n (subst T (sym e) tt)
-
-pub false_le : (i n : ℕ) → ltb i n ≡ false → n ≤ i
-false_le i n e = nltb→le i n (subst (λ (t : Bool). T (not t)) (sym e) tt)
-
-pub at_end_lem : (i n : ℕ) → i ≤ n → ltb i n ≡ false → i ≡ n
-at_end_lem i n p e = let r : n ≤ i = false_le i n e in omega (arith, p, r)

@@ -1,0 +1,10 @@
+-- When as many are stored as there were, all are.
+use Rattle.std.proofs.Common.{arith}
+use Rattle.diagnostics.specs.Pending.{pending}
+use Rattle.gather.proofs.Gathered.{at_last_all}
+use Rattle.gather.proofs.gather.Goals as goal
+
+pub returns : goal.returns
+returns c =
+    at_last_all c.args.text.now c.args.work.now (pending c.args.text.now c.args.work.now c.args.search) c.args.log.now c.args.errors
+    (record { i = c.loop-i.i; words = c.loop-i.work; search = c.loop-i.s; log = c.loop-i.log }) c.loop-i.invariant c.loop-i-test.false (omega arith) (omega arith)
