@@ -1,4 +1,6 @@
 // What a text and a length of work are refused for before anything is read.
+#![tactic(auto)]
+
 ghost use Rattle.std.specs.Prelude.{◌≡◌};
 ghost use Rattle.language.specs.Outcome.{refusal_of};
 ghost use Rattle.admission.specs.Admission.{admission_in};

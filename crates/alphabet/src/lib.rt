@@ -1,4 +1,6 @@
 // Inference of symbols (the source's spec.rs, `infer`): the blank, Σ and Γ, from the tokens in a row of words whose lines have entries.
+#![tactic(auto)]
+
 ghost use Rattle.std.specs.Prelude.{◌≡◌, ◌<◌, ◌^◌};
 
 pub mod codes;

@@ -1,4 +1,6 @@
 // What a reading call answers.
+#![tactic(auto)]
+
 use machine::Head;
 
 pub mod words;

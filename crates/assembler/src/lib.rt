@@ -1,5 +1,7 @@
 // Assembly of a description from the tokens in a row of words (the source's dsl/parser.rs, Assembler): lines are parsed once, one walk over
 // the lines finds the declarations and the number of rules, and passes over them append the diagnostics.
+#![tactic(auto)]
+
 ghost use Rattle.std.specs.Prelude.{◌≡◌, ◌+◌, ◌*◌, ◌≤◌, ◌<◌, ◌^◌, length};
 ghost use Rattle.diag.specs.Log.{logged};
 ghost use Rattle.assembler.specs.Rows.{rows};

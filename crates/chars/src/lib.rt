@@ -1,4 +1,6 @@
 // Characters of a text: UTF-8 (RFC 3629), the set that a description may use, and the classes of code points.
+#![tactic(auto)]
+
 ghost use Rattle.std.specs.Prelude.{◌≡◌, true, ◌+◌, ◌*◌, ◌<◌, ◌≤◌, length, get_or, drop};
 ghost use Rattle.chars.specs.Utf8.{scalar, size, sizes, tail_of, form, front, decode, decoded_at, valid_up_to};
 ghost use Rattle.chars.specs.Ranges.{within};

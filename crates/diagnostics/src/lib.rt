@@ -1,4 +1,6 @@
 // The diagnostics of an assembled text one at a time, in the order in which the passes of assembly find them.
+#![tactic(auto)]
+
 ghost use Rattle.std.specs.Prelude.{◌≡◌, ◌∷◌, ◌≤◌, length};
 ghost use Rattle.assembler.specs.Assembled.{Tokenized};
 ghost use Rattle.diagnostics.specs.Cursor.{moved, tallied};

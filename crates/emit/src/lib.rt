@@ -1,5 +1,7 @@
 // Bytes appended to a lent row: each is stored where there is room and counted in any case, so that one body counts and writes.
 // `at` is how many were appended before, and what a function answers is how many were appended then; with an empty row, `&mut out[..0]`, a body only counts.
+#![tactic(auto)]
+
 ghost use Rattle.std.specs.Prelude.{◌≡◌, [], ◌∷◌, ◌+◌, ◌%◌, ◌<◌, min};
 ghost use Rattle.chars.specs.Utf8.{encode_one};
 ghost use Rattle.emit.specs.Output.{output, counted, appended};

@@ -1,4 +1,6 @@
 // The parts of a reading call that hold no record of its log: a text is entered, and its machine written or its diagnostics counted.
+#![tactic(auto)]
+
 ghost use Rattle.std.specs.Prelude.{ℕ, ◌≡◌, length};
 ghost use Rattle.std.proofs.Math.Option.{none};
 ghost use Rattle.language.specs.Outcome.{refusal_of, zeros, read_machine, diagnosed, refused, logTooShort};

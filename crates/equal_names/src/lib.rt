@@ -1,4 +1,6 @@
 // Equal names: for each word the first that equals it, found by an index of the names.
+#![tactic(auto)]
+
 ghost use Rattle.std.specs.Prelude.{◌≡◌, true, ◌+◌, ◌*◌, ◌-◌, ◌/◌, ◌%◌, ◌<◌, ◌≤◌, ◌^◌, length, get_or, set, drop};
 ghost use Rattle.parser.specs.Row.{peek};
 ghost use Rattle.equal_names.specs.Rows.{rows, Kept};

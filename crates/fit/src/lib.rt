@@ -1,4 +1,6 @@
 // The form of a machine that was read, at the front of an output where it fits.
+#![tactic(auto)]
+
 ghost use Rattle.std.specs.Prelude.{true, ◌≡◌, List, ℕ};
 ghost use Rattle.language.specs.Outcome.{ReadOutcome, form_of, write_form, write_with};
 ghost use Rattle.machine.specs.Head.{head_in};

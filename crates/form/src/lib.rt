@@ -1,5 +1,7 @@
 // The plain form of a machine (paper 01), from the head, the sheet and the text that a reading call answered with.
 // Each function appends one piece of the form to a lent output, as crate `emit` does: stored where there is room, counted in any case.
+#![tactic(auto)]
+
 ghost use Rattle.std.specs.Prelude.{true, ◌≡◌, map};
 ghost use Rattle.chars.specs.Utf8.{scalar, scalars, encode};
 ghost use Rattle.language.specs.Machine.{as_binary};

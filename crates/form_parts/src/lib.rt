@@ -1,5 +1,7 @@
 // What stands at the places and in the lists of an answer: names, strings, comments, symbols and moves (paper 01, "Plain form").
 // Each function appends a piece of the form to a lent output, as crate `emit` does: stored where there is room, counted in any case.
+#![tactic(auto)]
+
 ghost use Rattle.std.specs.Prelude.{true, ◌&&◌, ◌≡◌, map, ◌+◌, ◌<◌, ◌≤◌, eqb, get_or};
 ghost use Rattle.chars.specs.Utf8.{scalars};
 ghost use Rattle.language.specs.Plain.{each, commas, verbatim, symbol, direction, string, comment_line, comment, own_comment, final_names};

@@ -1,4 +1,6 @@
 // The diagnostics of an assembled text in the log, in the order in which they are found.
+#![tactic(auto)]
+
 ghost use Rattle.std.specs.Prelude.{◌≡◌, ◌++◌, ◌+◌, ◌≤◌, length, drop};
 ghost use Rattle.diagnostics.specs.Pending.{pending};
 ghost use Rattle.diagnostics.specs.Stands.{Stands};

@@ -1,4 +1,6 @@
 // The head of a machine from the first declarations and the tokens in a row of words whose lines have entries.
+#![tactic(auto)]
+
 ghost use Rattle.std.specs.Prelude.{◌≡◌, ◌-◌, ◌*◌, ◌≤◌, length};
 ghost use Rattle.assembler.specs.Rows.{rows};
 ghost use Rattle.head.specs.Heads.{place_at, text_of, text_at, kind_of, kind_at, order_of, decoder_of, decoder_at, tapes_at, blank_at, start_at, declared_in, map_in, head_at};

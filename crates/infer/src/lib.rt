@@ -1,4 +1,6 @@
 // Inference of states (the source's spec.rs, `infer`) from the tokens in a row of words whose lines have entries.
+#![tactic(auto)]
+
 ghost use Rattle.std.specs.Prelude.{◌≡◌, ◌<◌, ◌^◌};
 
 pub mod finals;

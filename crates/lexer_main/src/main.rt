@@ -1,4 +1,6 @@
 // Tokens of texts at which a lexer may go wrong, word by word: kind, start, end and value of each.
+#![tactic(auto)]
+
 ghost use Rattle.std.specs.Prelude.{◌≡◌, ◌≤◌, length};
 ghost use Rattle.chars.specs.Utf8.{decode};
 ghost use Rattle.lexer.specs.Text.{same};

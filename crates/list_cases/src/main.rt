@@ -1,5 +1,6 @@
 // The list program on the cases that are stored in data/: the samples P1 to P11 of paper 01, every refusal that it can give, two tapes, and the longest text.
 // Its log and its work are long enough for every text of 2,048 bytes, so it never refuses with 2 or 5.
+#![tactic(auto)]
 
 // The name of a case and its listing.
 fn show(name: &[u8]) {

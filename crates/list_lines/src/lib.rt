@@ -1,5 +1,7 @@
 // The lines that the list program prints (paper 01), from what a reading call answered with, its log and sheet, and the text.
 // Each function appends a piece to a lent output, as crate `emit` does: stored where there is room, counted in any case.
+#![tactic(auto)]
+
 ghost use Rattle.std.specs.Prelude.{◌&&◌, ◌||◌, ◌≡◌, ◌∷◌, ◌+◌, ◌/◌, ◌<◌, ◌≤◌, eqb, ltb, length, get_or};
 ghost use Rattle.lexer.specs.Tokens.{span};
 ghost use Rattle.language.specs.Plain.{◌⨾◌, only, each, verbatim, direction};

@@ -1,4 +1,6 @@
 // What the list program prints: a text is read, and the answer listed.
+#![tactic(auto)]
+
 ghost use Rattle.std.specs.Prelude.{◌≡◌, length};
 ghost use Rattle.answer.specs.Answer.{read_in};
 ghost use Rattle.emit.specs.Output.{output, appended};

@@ -1,4 +1,5 @@
 // The head of a machine that was read (the source's machine.rs and spec.rs), by value.
+#![tactic(auto)]
 
 // A half-open range of byte offsets (paper 01: place).
 #[derive(Clone, Copy)]

@@ -1,5 +1,7 @@
 // A text that is opened: it is refused, or entered and its machine written or its diagnostics counted. So all of the answer is known, and only the log
 // is still to be written.
+#![tactic(auto)]
+
 ghost use Rattle.std.specs.Prelude.{◌≡◌, length};
 ghost use Rattle.std.proofs.Math.Option.{none};
 ghost use Rattle.language.specs.Outcome.{refusal_of};

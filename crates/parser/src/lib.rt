@@ -1,4 +1,6 @@
 // Lines of a description, read from the tokens in a row of words (the source's dsl/parser.rs, Parser).
+#![tactic(auto)]
+
 mod elements;
 pub mod items;
 mod row;

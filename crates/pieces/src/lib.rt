@@ -1,5 +1,7 @@
 // The smallest pieces of the plain form: bytes, characters, symbols, what parts the members of a list, and the text of a string.
 // Each is appended to a lent output as crate `emit` does: stored where there is room, counted in any case.
+#![tactic(auto)]
+
 ghost use Rattle.std.specs.Prelude.{true, not, ◌&&◌, ◌≡◌, ◌∷◌, eqb, ltb};
 ghost use Rattle.chars.specs.Utf8.{scalar, decode};
 ghost use Rattle.lexer.specs.Tokens.{unescape};

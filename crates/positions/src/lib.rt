@@ -1,4 +1,6 @@
 // Line and column of an offset of a text.
+#![tactic(auto)]
+
 ghost use Rattle.std.specs.Prelude.{◌≡◌, ◌<◌};
 ghost use Rattle.positions.specs.Positions.{next, line_column};
 

@@ -1,4 +1,6 @@
 // Reading a description: what a call answers.
+#![tactic(auto)]
+
 ghost use Rattle.std.specs.Prelude.{◌≡◌, true, false, length};
 ghost use Rattle.std.proofs.Math.Option.{none};
 ghost use Rattle.language.specs.Outcome.{refusal_of, read_outcome};

@@ -1,4 +1,6 @@
 // Reading a description with a log of diagnostic records.
+#![tactic(auto)]
+
 ghost use Rattle.std.specs.Prelude.{◌≡◌, true, ◌≤◌, length};
 ghost use Rattle.answer.specs.Answer.{leaves_work};
 ghost use Rattle.reader.specs.Reading.{leaves_work_number};

@@ -1,4 +1,6 @@
 // The log as a slice of diagnostic records.
+#![tactic(auto)]
+
 ghost use Rattle.std.specs.Prelude.{◌≡◌, ◌++◌, ◌+◌, ◌*◌, ◌<◌, ◌≤◌, ◌^◌, length, set, replicate, get_or, take, drop};
 ghost use Rattle.diag.specs.Log.{records, flat, sort};
 ghost use Rattle.records.specs.Unused.{unused};

@@ -1,6 +1,8 @@
 // Replays the oracle's stored answers. Cases come from standard input (oracle/src/store.rs says how they are laid out); each is read and
 // written with dirty buffers of the lengths that it says, and every word of the answers and of what the calls leave behind is compared. Written are a line
 // for each case that differs, and how many of each kind of answer agreed.
+#![tactic(auto)]
+
 ghost use Rattle.std.specs.Prelude.{◌≡◌, ◌+◌, ◌<◌, ◌≤◌, true, length, take, replicate};
 ghost use Rattle.language.specs.Outcome.{read_outcome, write_outcome};
 ghost use Rattle.replay.specs.Case.{word_at, marked, wanted, left, rows_left, work_left, agrees, byte_wanted, output_left, output_at, form_agrees, Rooms, Within, lengths_fit, reading_agrees, writing_agrees};

@@ -1,4 +1,6 @@
 // What a writing call answers.
+#![tactic(auto)]
+
 use answer::Refusal;
 
 pub mod words;

@@ -1,4 +1,6 @@
 // The diagnostics of a text in the log: sorted, or refused where it has too few records.
+#![tactic(auto)]
+
 ghost use Rattle.std.specs.Prelude.{◌≡◌, List, ℕ, ◌*◌, ◌≤◌, length};
 ghost use Rattle.diag.specs.Log.{sort, log_after, logged, append_all};
 ghost use Rattle.diag.specs.declared.Diagnostic.{Diagnostic};

@@ -1,4 +1,6 @@
 // The rules of a plain form, from the words of the sheet and the text. Each function appends one piece to a lent output, as crate `emit` does.
+#![tactic(auto)]
+
 ghost use Rattle.std.specs.Prelude.{map};
 ghost use Rattle.language.specs.Plain.{each, rule_lines};
 ghost use Rattle.language.specs.Agreement.{records, rule_in};

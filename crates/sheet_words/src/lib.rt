@@ -1,4 +1,6 @@
 // Words of the sheet as a caller has them: a word, the words behind some, a record; what lies past the end is 0 or empty.
+#![tactic(auto)]
+
 ghost use Rattle.std.specs.Prelude.{◌≡◌, ◌+◌, ◌<◌, get_or, take, drop};
 
 // The word at an index, 0 past the end.

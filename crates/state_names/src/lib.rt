@@ -1,4 +1,6 @@
 // The name of a state, from a sheet and the text that it is of.
+#![tactic(auto)]
+
 ghost use Rattle.std.specs.Prelude.{◌≡◌, ◌+◌};
 ghost use Rattle.language.specs.Outcome.{part, state_name};
 ghost use Rattle.state_names.specs.Starts.{part_start, state_start};

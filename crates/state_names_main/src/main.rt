@@ -1,5 +1,7 @@
 // Prints names of states at which `state_names::state_name` may go wrong, one to a line: places at, before and behind the text's ends, and
 // words outside the sheet.
+#![tactic(auto)]
+
 use state_names::state_name;
 
 // The name of state i of a sheet, between brackets.

@@ -1,4 +1,6 @@
 // What the layers above ask of a token.
+#![tactic(auto)]
+
 ghost use Rattle.std.specs.Prelude.{◌≡◌, ◌+◌, ◌*◌, ◌≤◌, length};
 ghost use Rattle.lexer.specs.Tokens.{span};
 ghost use Rattle.tokens.specs.View.{token_in};

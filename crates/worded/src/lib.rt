@@ -1,4 +1,6 @@
 // Reading a description with a log of 1,024 records, which are handed on as words.
+#![tactic(auto)]
+
 ghost use Rattle.std.specs.Prelude.{◌≡◌, length, replicate};
 ghost use Rattle.language.specs.Outcome.{read_outcome};
 ghost use Rattle.records.specs.Unused.{unused};

@@ -1,4 +1,6 @@
 // Writing the plain form of a description: a text is read, and the form of its machine is put at the front of a lent output.
+#![tactic(auto)]
+
 ghost use Rattle.std.specs.Prelude.{true, ◌≡◌, length};
 ghost use Rattle.language.specs.Outcome.{write_outcome};
 ghost use Rattle.reader.specs.Reading.{leaves_work_number};

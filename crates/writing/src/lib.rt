@@ -1,4 +1,6 @@
 // Writing the plain form of a description, with a log of records.
+#![tactic(auto)]
+
 ghost use Rattle.std.specs.Prelude.{◌≡◌, true, length};
 ghost use Rattle.reply.specs.Answer.{write_reply_in, leaves_work};
 ghost use Rattle.reader.specs.Reading.{leaves_work_number};

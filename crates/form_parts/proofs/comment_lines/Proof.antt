@@ -15,10 +15,10 @@ use Rattle.form_parts.proofs.comment_lines.Tie as tie
 ruleset laws = (rules, names-all, names-next, names_here, lines_start, lines-on, lines_end)
 
 abbrev invariant-loop-i : tie.invariant-loop-i
-invariant-loop-i out₀ at text words n end₀ i₀ j₀ t10 out end i j = (i ≤ n) × (j ≤ 2 * i) × (length out ≡ length out₀) × Names text 2 n i j words × Goes (each comment_line (texts text 2 n i j words)) (output out end) (each comment_line (map (text_in text) (groups 2 n words))) (output out₀ at)
+invariant-loop-i out₀ at text words n end₀ i₀ j₀ out end i j = (i ≤ n) × (j ≤ 2 * i) × (length out ≡ length out₀) × Names text 2 n i j words × Goes (each comment_line (texts text 2 n i j words)) (output out end) (each comment_line (map (text_in text) (groups 2 n words))) (output out₀ at)
 
 abbrev decreases-loop-i : tie.decreases-loop-i
-decreases-loop-i out₀ at text words n end₀ i₀ j₀ t10 out end i j = n - i
+decreases-loop-i out₀ at text words n end₀ i₀ j₀ out end i j = n - i
 
 pub comment_lines_spec : {M : Type 1} → statement M
 comment_lines_spec =
