@@ -55,6 +55,7 @@ module _ (b : ℕ) where
   listed_mean : (ts : List Token) (ss : Set) → SymbolsShow ts ss → L.flat (listed_words b) (symbols ts) ≡ L.flat L.symbol_words (map (I.listed b) ss)
   unfolding symbols L.flat L.symbol_words I.listed
   listed_mean [] [] no_symbols = refl
+  listed_mean [] (s ∷ ss) m = elim m [ ]
   listed_mean (t ∷ ts) ss (no_symbol e r) = ap (L.flat (listed_words b)) (symbols_no t ts e) ∙ listed_mean ts ss r
   listed_mean (t ∷ ts) (s ∷ ss) (one_symbol e c r) =
       ap (L.flat (listed_words b)) (symbols_yes t ts e)
@@ -63,6 +64,7 @@ module _ (b : ℕ) where
   codes_are : (ts : List Token) (ss : Set) → SymbolsShow ts ss → codes_of b (symbols ts) ≡ map (λ x. A.resolve b x.value) ss
   unfolding symbols
   codes_are [] [] no_symbols = refl
+  codes_are [] (s ∷ ss) m = elim m [ ]
   codes_are (t ∷ ts) ss (no_symbol e r) = ap (codes_of b) (symbols_no t ts e) ∙ codes_are ts ss r
   codes_are (t ∷ ts) (s ∷ ss) (one_symbol e c r) = ap (codes_of b) (symbols_yes t ts e) ∙ ap₂ (λ (n : ℕ) (l : List ℕ). n ∷ l) (c.code b) (codes_are ts ss r)
 
@@ -91,6 +93,7 @@ module _ (b : ℕ) where
   has_mean : (ts : List Token) (ss : Set) → SymbolsShow ts ss → has_blank b ts ≡ I.member eqb (map (λ x. A.resolve b x.value) ss) b
   unfolding has_blank I.member
   has_mean [] [] no_symbols = refl
+  has_mean [] (s ∷ ss) m = elim m [ ]
   has_mean (t ∷ ts) ss (no_symbol e r) = blank_by t ts false (blank_no t e) ∙ has_mean ts ss r
   has_mean (t ∷ ts) (s ∷ ss) (one_symbol e c r) = blank_by t ts (eqb (A.resolve b s.value) b) (blank_yes t e ∙ ap (λ (n : ℕ). eqb n b) (c.code b)) ∙ ap (λ (x : Bool). eqb (A.resolve b s.value) b || x) (has_mean ts ss r)
 

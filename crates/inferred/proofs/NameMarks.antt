@@ -194,6 +194,8 @@ module _ (text : List ℕ) (ts : List Token) where
   among_mean : (js : List ℕ) (ls : List (Located Place (List ℕ))) (x : ℕ) (l : Located Place (List ℕ)) → AllNames text ts js ls → NameIs text (peek ts x) l → among js x ≡ I.member I.same_name ls l
   unfolding I.member
   among_mean [] [] x l no_names n = refl
+  among_mean [] (m ∷ ls) x l a n = elim a [ ]
+  among_mean (j ∷ js) [] x l a n = elim a [ ]
   among_mean (j ∷ js) (m ∷ ls) x l (one_name a r) n = ap₂ (λ (b c : Bool). b || c) (names_same text (peek ts j) (peek ts x) m l a n) (among_mean js ls x l r n)
 
   -- the mark of a name: 1 if it is one of fs, and 2 more if it is one of those seen
@@ -350,6 +352,8 @@ module _ (text : List ℕ) (ts : List Token) (size count : ℕ) (fs : List ℕ) 
       → names_add size ts false w xs ≡ L.flat L.state_words (I.marked is_final (seen_in S) (I.fresh I.same_name (seen_in S) ls))
   unfolding names_add I.fresh I.marked L.flat
   once_mean [] seen [] S w a no_names b m = refl
+  once_mean [] seen (l ∷ ls) S w a n b m = elim n [ ]
+  once_mean (x ∷ xs) seen [] S w a n b m = elim n [ ]
   once_mean (x ∷ xs) seen (l ∷ ls) S w (one_state s a) (one_name n r) b m = by_test_lem (seen_in S l)
       (λ y.
       ap₂ (λ (l v : List ℕ). l ++ names_add size ts false v xs) (adds_again size ts w x false s (high_mark w seen S m b x l s n y)) (old_marks w seen S m b x l s n y)
@@ -363,6 +367,8 @@ module _ (text : List ℕ) (ts : List Token) (size count : ℕ) (fs : List ℕ) 
       → names_add size ts true w xs ≡ L.flat L.state_words (I.marked is_final (seen_in S) ls)
   unfolding names_add I.marked L.flat
   each_mean [] seen [] S w a no_names b m = refl
+  each_mean [] seen (l ∷ ls) S w a n b m = elim n [ ]
+  each_mean (x ∷ xs) seen [] S w a n b m = elim n [ ]
   each_mean (x ∷ xs) seen (l ∷ ls) S w (one_state s a) (one_name n r) b m = by_test_lem (seen_in S l)
       (λ y.
       ap₂ (λ (p v : List ℕ). p ++ names_add size ts true v xs) (adds_again size ts w x true s (high_mark w seen S m b x l s n y) ∙ state_words_lem text (peek ts x) l false n) (old_marks w seen S m b x l s n y)

@@ -48,6 +48,8 @@ module _ (text : List ℕ) (X : Entry → Item Place → Type 0) (ts : List Toke
   unfolding A.attach A.at_end
   attached [] [] no_lines true old block = no_rules_lem
   attached [] [] no_lines false old block = no_rules_lem
+  attached [] (l ∷ ls) m seen old block = elim m [ ]
+  attached (e ∷ es) [] m seen old block = elim m [ ]
   attached (e ∷ es) (blank_line ∷ ls) (one_line h q m r) seen old block = no_rule (ne_eqb e.first.kind 27 (λ z. omega (arith, m))) (attached es ls r seen (old ++ block) [])
   attached (e ∷ es) (comment_line c ∷ ls) (one_line h q m r) seen old block = no_rule (ne_eqb e.first.kind 27 (λ z. omega (arith, m))) (attached es ls r seen old (block ++ c ∷ []))
   attached (e ∷ es) (error_line n p ∷ ls) (one_line h q m r) seen old block = no_rule (ne_eqb e.first.kind 27 (λ z. omega (arith, m.0))) (attached es ls r true [] [])

@@ -92,6 +92,8 @@ module _ (b : ℕ) where
   unfolding firsts
   firsts_mean false true [] [] no_reads h = refl
   firsts_mean false false [] [] no_reads h = refl
+  firsts_mean i k [] (s ∷ ss) m h = elim m [ ]
+  firsts_mean true k [] [] m h = elim m [ ]
   firsts_mean i k (t ∷ ts) ss (no_read e f g r) h = firsts_by (walk i k) t ts false (walk i k) (takes_no i k t g) (walked-other i k t e f g) ∙ firsts_mean i k ts ss r h
   firsts_mean false true (t ∷ ts) ss (opens e r) h = absurd (false≢true (h refl))
   firsts_mean false false (t ∷ ts) ss (opens e r) h = firsts_by (walk false false) t ts false (walk true false) (takes_no false false t (open_no t e)) (walked-open false false t e) ∙ firsts_mean true false ts ss r (λ z. absurd (false≢true z))
@@ -136,6 +138,7 @@ module _ (b : ℕ) where
   others_mean : (seen : Bool) (ts : List Token) (ss : List (List (Located Place RawSymbol))) → ReadsShow true ts ss → codes_of b (others seen ts) ≡ cond seen (head_set (sets ss)) (drop 1 (head_set (sets ss)))
   others_mean true (t ∷ ts) ss (no_read e f g r) = others-on true t ts f false g ∙ others_mean true ts ss r
   others_mean false (t ∷ ts) ss (no_read e f g r) = others-on false t ts f false g ∙ others_mean false ts ss r
+  others_mean seen [] ss m = elim m [ ]
   others_mean true (t ∷ ts) ([] ∷ ss) (closes e f r) = others_stop true t ts f
   others_mean false (t ∷ ts) ([] ∷ ss) (closes e f r) = others_stop false t ts f
   others_mean true (t ∷ ts) ((s ∷ l) ∷ ss) (member e f g c r) = others-on true t ts f true g ∙ ap₂ (λ (x : ℕ) (l : List ℕ). x ∷ l) (c.code b) (others_mean true ts (l ∷ ss) r)
@@ -148,6 +151,8 @@ module _ (b : ℕ) where
   further_mean : (i : Bool) (ts : List Token) (ss : List (List (Located Place RawSymbol))) → ReadsShow i ts ss → codes_of b (further ts) ≡ U.furthers (cond i (drop 1 (sets ss)) (sets ss))
   unfolding further
   further_mean false [] [] no_reads = refl
+  further_mean i [] (s ∷ ss) m = elim m [ ]
+  further_mean true [] [] m = elim m [ ]
   further_mean i (t ∷ ts) ss (no_read e f g r) = further_by t ts false e ∙ append-nil (codes_of b (further ts)) ∙ further_mean i ts ss r
   further_mean false (t ∷ ts) ss (opens e r) = further_by t ts true e ∙ ap₂ (λ (l m : List ℕ). l ++ m) (further_mean true ts ss r) (others_mean false ts ss r) ∙ sym (furthers_split (sets ss))
   further_mean true (t ∷ ts) ([] ∷ ss) (closes e f r) = further_by t ts false e ∙ append-nil (codes_of b (further ts)) ∙ further_mean false ts ss r
@@ -174,6 +179,7 @@ module _ (b : ℕ) where
   writes_mean : (ts : List Token) (ws : List (Located Place (Option RawSymbol))) → WritesShow ts ws → codes_of b (symbols ts) ≡ written (codes ws)
   unfolding symbols
   writes_mean [] [] no_writes = refl
+  writes_mean [] (w ∷ ws) m = elim m [ ]
   writes_mean (t ∷ ts) ws (no_write e r) = symbols_by t ts false e ∙ writes_mean ts ws r
   writes_mean (t ∷ ts) ws (write_back {ws = more} e r) = symbols_by t ts false e ∙ writes_mean ts more r
   writes_mean (t ∷ ts) ws (one-write {ws = more} e c r) = symbols_by t ts true e ∙ ap₂ (λ (x : ℕ) (l : List ℕ). x ∷ l) (c.code b) (writes_mean ts more r)
@@ -259,6 +265,7 @@ module _ (b : ℕ) where
       → I.fresh eqb known (codes_of b (rules_symbols ts es) ++ r) ≡ I.fresh eqb known (lines_use b rs ++ r)
   unfolding rules_symbols
   rules-fresh text ts [] [] no_rules_lem f h known r = refl
+  rules-fresh text ts [] (x ∷ rs) m f h known r = elim m [ ]
   rules-fresh text ts (e ∷ es) rs (no_rule k q) f h known r =
       ap (λ (l : List ℕ). I.fresh eqb known (l ++ r)) (map-append (resolve b) (rule_symbols ts e) (rules_symbols ts es) ∙ ap (λ (l : List ℕ). l ++ codes_of b (rules_symbols ts es)) (rule-none ts e k))
       ∙ rules-fresh text ts es rs q f h known r

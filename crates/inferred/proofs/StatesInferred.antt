@@ -120,12 +120,14 @@ module _ (text : List ℕ) (ts : List Token) where
   mentions-named : (es : List Entry) (rs : List (A.RuleLine Place)) → RulesAt text ts es rs → AllNames text ts (mentions ts es) (line_mentions rs)
   unfolding mentions
   mentions-named [] [] no_rules_lem = no_names
+  mentions-named [] (x ∷ rs) m = elim m [ ]
   mentions-named (e ∷ es) rs (no_rule h r) = subst (λ (l : List ℕ). AllNames text ts (l ++ mentions ts es) (line_mentions rs)) (sym (mention_no e h)) (mentions-named es rs r)
   mentions-named (e ∷ es) (x ∷ rs) (one-rule h m r) = subst (λ (l : List ℕ). AllNames text ts (l ++ mentions ts es) (line_mentions (x ∷ rs))) (sym (mention_yes e h)) (one_name m.from.name (one_name m.to.name (mentions-named es rs r)))
 
   mentions-states : (es : List Entry) (rs : List (A.RuleLine Place)) → RulesAt text ts es rs → AllStates ts (mentions ts es)
   unfolding mentions
   mentions-states [] [] no_rules_lem = no_states
+  mentions-states [] (x ∷ rs) m = elim m [ ]
   mentions-states (e ∷ es) rs (no_rule h r) = subst (λ (l : List ℕ). AllStates ts (l ++ mentions ts es)) (sym (mention_no e h)) (mentions-states es rs r)
   mentions-states (e ∷ es) (x ∷ rs) (one-rule h m r) = subst (λ (l : List ℕ). AllStates ts (l ++ mentions ts es)) (sym (mention_yes e h)) (one_state m.from.state (one_state m.to.state (mentions-states es rs r)))
 
@@ -192,6 +194,7 @@ at_none ts f P (some l) (there h p) e = absurd (false≢true (sym e ∙ h))
 
 names-nil : (text : List ℕ) (ts : List Token) (js : List ℕ) → AllNames text ts js [] → js ≡ []
 names-nil text ts [] no_names = refl
+names-nil text ts (j ∷ js) m = elim m [ ]
 
 -- ---- the section of finals
 module _ (text : List ℕ) (ts : List Token) where
@@ -211,6 +214,8 @@ module _ (text : List ℕ) (ts : List Token) where
   places_mean : (xs : List ℕ) (ls : Names) → AllStates ts xs → AllNames text ts xs ls → L.flat (place_at ts) xs ≡ L.flat L.place_words (map (λ f. f.place) ls)
   unfolding L.flat place_at
   places_mean [] [] no_states no_names = refl
+  places_mean [] (l ∷ ls) a m = elim m [ ]
+  places_mean (x ∷ xs) [] a m = elim m [ ]
   places_mean (x ∷ xs) (l ∷ ls) (one_state s a) (one_name n r) = rw s (ap₂ (λ (p q : List ℕ). p ++ q) (place_words_lem (peek ts x) l n) (places_mean xs ls a r))
 
 -- ---- the sections

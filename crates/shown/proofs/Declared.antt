@@ -134,6 +134,8 @@ module _ {B : Type 0} (X : Entry → Item Place → Type 0) (ts : List Token) (p
       → Declared X ts part (get_or (declarations (length ts) f es) k 0) (A.items ls)
   unfolding declarations A.items A.first
   declared-first f [] [] no_lines s h = absent h refl
+  declared-first f [] (l ∷ ls) m s h = elim m [ ]
+  declared-first f (e ∷ es) [] m s h = elim m [ ]
   declared-first f (e ∷ es) (blank_line ∷ ls) (one_line l q m r) s h = passed f e es (A.items ls) (declares_low e m) (declared-first f es ls r s h)
   declared-first f (e ∷ es) (comment_line c ∷ ls) (one_line l q m r) s h = passed f e es (A.items ls) (declares_low e m) (declared-first f es ls r s h)
   declared-first f (e ∷ es) (error_line n p ∷ ls) (one_line l q m r) s h = passed f e es (A.items ls) (declares_high e (omega (arith, m.0))) (declared-first f es ls r s h)

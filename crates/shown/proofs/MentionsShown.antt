@@ -43,6 +43,7 @@ write_by k a c p q =
 -- an open set has a rest
 no_rest : {X : Type 0} (ts : List Token) → ReadsShow true ts [] → X
 no_rest (t ∷ ts) (no_read a b c r) = no_rest ts r
+no_rest {X = X} [] r = elim r [ ]
 
 module _ (text : List ℕ) where
   -- ---- symbols

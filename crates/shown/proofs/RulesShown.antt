@@ -70,6 +70,8 @@ pub tapes_shown : (b : ℕ) (ts : List Token) (w d : ℕ) (rs : List Token) (ss 
     → tapes_words b ts w d rs ≡ L.flat L.action_words (A.actions b ss xs ys)
 unfolding tapes_words every_second L.flat A.actions
 tapes_shown b ts w d [] [] [] [] no_members p q h g = refl
+tapes_shown b ts w d [] (s ∷ ss) xs ys m p q h g = elim m [ ]
+tapes_shown b ts w d (r ∷ rs) [] xs ys m p q h g = elim m [ ]
 tapes_shown b ts w d [] [] (x ∷ xs) ys no_members p q h g = absurd (omega arith)
 tapes_shown b ts w d [] [] [] (y ∷ ys) no_members p q h g = absurd (omega arith)
 tapes_shown b ts w d (r ∷ rs) (s ∷ ss) [] ys (members e es) p q h g = absurd (omega arith)
@@ -142,6 +144,8 @@ module _ (b : ℕ) (ts : List Token) (i : ℕ) (r : RawTransition Place) (m : Ru
       → L.flat (rule_words b ts (rule_at ts i n) no_span []) rss ≡ L.flat L.rule_words (map (A.rule_of b rule_line none []) sss)
   unfolding L.flat L.place_or_none
   more_shown [] [] no_members = refl
+  more_shown [] (ss ∷ sss) m = elim m [ ]
+  more_shown (rs ∷ rss) [] m = elim m [ ]
   more_shown (rs ∷ rss) (ss ∷ sss) (members e es) =
       ap (λ (l : List ℕ). l ++ L.flat (rule_words b ts (rule_at ts i n) no_span []) rss) (rule_shown none no_span [] [] rs ss refl refl e.0 e.1)
       ∙ ap (λ (l : List ℕ). L.rule_words (A.rule_of b rule_line none [] ss) ++ l) (more_shown rss sss es)
@@ -150,6 +154,8 @@ module _ (b : ℕ) (ts : List Token) (i : ℕ) (r : RawTransition Place) (m : Ru
       → L.flat text_words ls ≡ L.flat L.located_words cs → Both (Long SymbolShows (length r.read)) rss sss → dressed b ts (rule_at ts i n) o ls rss ≡ L.flat L.rule_words (A.dressed b rule_line sss)
   unfolding dressed A.dressed L.flat
   dressed_shown o ls [] [] p q no_members = refl
+  dressed_shown o ls [] (ss ∷ sss) p q m = elim m [ ]
+  dressed_shown o ls (rs ∷ rss) [] p q m = elim m [ ]
   dressed_shown o ls (rs ∷ rss) (ss ∷ sss) p q (members e es) =
       ap (λ (l : List ℕ). l ++ L.flat (rule_words b ts (rule_at ts i n) no_span []) rss) (rule_shown c o cs ls rs ss p q e.0 e.1)
       ∙ ap (λ (l : List ℕ). L.rule_words (A.rule_of b rule_line c cs ss) ++ l) (more_shown rss sss es)

@@ -24,6 +24,6 @@ lines_spec =
     (λ c κs. search laws)
     (λ c κs. search laws)
     (λ c. search laws)
-    (λ c. entering_on _ _ _ _ c.loop-at.invariant c.requires.0 _ _ _ c.loop-at-test.true c.enter.ensures c.token_at.ensures c.next_line_lem.ensures)
+    (λ c. entering_on _ _ _ _ c.loop-at.invariant c.requires.0 _ _ _ c.loop-at-test.true c.enter.ensures c.token_at.ensures c.next_line-at.ensures)
     (λ c. search laws)
     (λ c. search laws))

@@ -18,5 +18,5 @@ ready_spec =
     (λ c. search rules)
     (λ c.
     is_ready _ _ _ _ _ _ _ _ _ _ _ c.token_at-p.ensures c.wide.ensures.0 c.first_entry-i.ensures c.wheels-n.ensures.0
-    c.wheels-n.ensures.1 c.wheels-n.ensures.2 c.rule_at_lem.ensures.0 c.rule_at_lem.ensures.1 c.rule_at_lem.ensures.2
+    c.wheels-n.ensures.1 c.wheels-n.ensures.2 c.rule_at.ensures.0 c.rule_at.ensures.1 c.rule_at.ensures.2
     c.requires.0 c.requires.1 c.requires.2 (search rules) c.requires.3 c.requires.4))

@@ -27,7 +27,7 @@ next_entry_spec =
     (λ c. search laws)
     (λ c κs. search laws)
     (λ c. search laws)
-    (λ c. search laws)
+    (λ c. ending_stop _ _ _ _ c.loop-i.invariant _ c.token_at-s.ensures c.if-s-ne-COMMA.true)
     (λ c. search laws)
     (λ c. search laws)
     (λ c. search laws)
