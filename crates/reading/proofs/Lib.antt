@@ -1,4 +1,2 @@
-pub mod Values
 pub mod Lists
 pub mod Exported
-pub mod HandedOn
