@@ -1,8 +1,10 @@
 // The list program (paper 01): lists the description on standard input. A longer one than fits here is refused like every one above 2,048 bytes.
 #![tactic(auto)]
 
-fn main() {
-    let mut text = io::buffer();
-    let n = io::read_full(0, &mut text);
-    listing::print(&text[..n]);
+use std::io;
+
+fn main(rt: HostRuntime) -> io::Result<()> {
+    let mut text = [0; 4096];
+    let n = input::fill(&mut rt.stdin(), &mut text)?;
+    listing::print(&rt, &text[..n])
 }

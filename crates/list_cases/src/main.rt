@@ -2,47 +2,47 @@
 // Its log and its work are long enough for every text of 2,048 bytes, so it never refuses with 2 or 5.
 #![tactic(auto)]
 
+use std::rt::Files;
+use std::{fs, io};
+
 // The name of a case and its listing.
-fn show(name: &[u8]) {
-    io::write_all(1, name);
-    io::write_all(1, b"\n");
-    let fd = os::open_read(name);
-    let mut text = io::buffer();
-    let n = io::read_full(fd, &mut text);
-    libc::close(fd);
-    listing::print(&text[..n]);
+fn show(rt: &(impl Files + Print), name: &str) -> io::Result<()> {
+    println!(rt; "{name}")?;
+    let mut text = [0; 4096];
+    let n = input::fill(&mut fs::open(rt, name)?, &mut text)?;
+    listing::print(rt, &text[..n])
 }
 
 // Paper 01, P1 to P11.
-fn samples() {
-    show(b"p01-two-rules.tm");
-    show(b"p01-fault.tm");
-    show(b"p02-empty-set.tm");
-    show(b"p03-tapes-255.tm");
-    show(b"p03-tapes-0.tm");
-    show(b"p03-tapes-256.tm");
-    show(b"p04-tapes-65-bits.tm");
-    show(b"p05-quoted-quote.tm");
-    show(b"p06-lone-quote.tm");
-    show(b"p07-open-string.tm");
-    show(b"p08-direction.tm");
-    show(b"p09-arity.tm");
-    show(b"p10-twice.tm");
-    show(b"p11-empty.tm");
+fn samples(rt: &(impl Files + Print)) -> io::Result<()> {
+    show(rt, "p01-two-rules.tm")?;
+    show(rt, "p01-fault.tm")?;
+    show(rt, "p02-empty-set.tm")?;
+    show(rt, "p03-tapes-255.tm")?;
+    show(rt, "p03-tapes-0.tm")?;
+    show(rt, "p03-tapes-256.tm")?;
+    show(rt, "p04-tapes-65-bits.tm")?;
+    show(rt, "p05-quoted-quote.tm")?;
+    show(rt, "p06-lone-quote.tm")?;
+    show(rt, "p07-open-string.tm")?;
+    show(rt, "p08-direction.tm")?;
+    show(rt, "p09-arity.tm")?;
+    show(rt, "p10-twice.tm")?;
+    show(rt, "p11-empty.tm")
 }
 
 // Two tapes, final states, refusals, and the limits.
-fn others() {
-    show(b"two-tapes.tm");
-    show(b"final-states.tm");
-    show(b"refused-3.tm");
-    show(b"refused-4.tm");
-    show(b"refused-6.tm");
-    show(b"bytes-2048.tm");
-    show(b"bytes-2049.tm");
+fn others(rt: &(impl Files + Print)) -> io::Result<()> {
+    show(rt, "two-tapes.tm")?;
+    show(rt, "final-states.tm")?;
+    show(rt, "refused-3.tm")?;
+    show(rt, "refused-4.tm")?;
+    show(rt, "refused-6.tm")?;
+    show(rt, "bytes-2048.tm")?;
+    show(rt, "bytes-2049.tm")
 }
 
-fn main() {
-    samples();
-    others();
+fn main(rt: HostRuntime) -> io::Result<()> {
+    samples(&rt)?;
+    others(&rt)
 }

@@ -8,6 +8,7 @@ ghost use Rattle.list_lines.specs.Listing.{listing, listed};
 
 use answer::Answer;
 use answer::words::{answer_number, answer_value};
+use std::io;
 
 // The longest text that is taken.
 pub const MAX_INPUT: usize = 2048;
@@ -67,22 +68,22 @@ fn sheet() -> [u32; 16384]
 }
 
 // Prints the listing of a text through an output.
-fn print_through(text: &[u8], out: &mut [u8]) {
+fn print_through(rt: &impl Print, text: &[u8], out: &mut [u8]) -> io::Result<()> {
     let mut work = work();
     let mut log = log();
     let mut sheet = sheet();
     let n = list_text(text, &mut work, &mut log, &mut sheet, out);
     let m = emit::least(n, out.len());
-    io::write_all(1, &out[..m]);
+    rt.write_all(&out[..m])
 }
 
 // The same through an output that is longer than every listing (docs/DECISIONS.md, "The list program").
-fn print_whole(text: &[u8], out: &mut [u8; 2097152]) {
-    print_through(text, out);
+fn print_whole(rt: &impl Print, text: &[u8], out: &mut [u8; 2097152]) -> io::Result<()> {
+    print_through(rt, text, out)
 }
 
 // Prints the listing of a text.
-pub fn print(text: &[u8]) {
+pub fn print(rt: &impl Print, text: &[u8]) -> io::Result<()> {
     let mut out = [0u8; 2097152];
-    print_whole(text, &mut out);
+    print_whole(rt, text, &mut out)
 }

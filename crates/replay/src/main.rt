@@ -3,9 +3,11 @@
 // for each case that differs, and how many of each kind of answer agreed.
 #![tactic(auto)]
 
-ghost use Rattle.std.specs.Prelude.{◌≡◌, ◌+◌, ◌<◌, ◌≤◌, true, length, take, replicate};
+ghost use Rattle.std.specs.Prelude.{◌≡◌, ◌+◌, ◌<◌, ◌≤◌, true, length, take, replicate, IfOk};
 ghost use Rattle.language.specs.Outcome.{read_outcome, write_outcome};
 ghost use Rattle.replay.specs.Case.{word_at, marked, wanted, left, rows_left, work_left, agrees, byte_wanted, output_left, output_at, form_agrees, Rooms, Within, lengths_fit, reading_agrees, writing_agrees};
+
+use std::io::{self, Read};
 
 // The mark that says that a row is left untouched.
 const UNTOUCHED: u32 = 0xffff_ffff;
@@ -375,57 +377,63 @@ fn kind(number: u32) -> usize
 }
 
 // Reads the next case and answers its length, or 0 where it is not whole.
-fn load(case: &mut [u8]) -> usize
+fn load(input: &mut impl Read, case: &mut [u8]) -> io::Result<usize>
     requires { 32768 ≤ length case.old }
-    ensures { result ≤ 32768 }
+    ensures { IfOk result (λ n. n ≤ 32768) }
 {
-    if io::read_full(0, &mut case[..HEAD]) < HEAD {
-        return 0;
+    if input::fill(input, &mut case[..HEAD])? < HEAD {
+        return Ok(0);
     }
     let n = size_at(case, 0);
     if CASE - HEAD < n {
-        return 0;
+        return Ok(0);
     }
     let e = HEAD + n;
-    if io::read_full(0, &mut case[HEAD..e]) < n {
-        return 0;
+    if input::fill(input, &mut case[HEAD..e])? < n {
+        return Ok(0);
     }
-    e
+    Ok(e)
 }
 
 // Writes a number behind a word, as a line.
-fn say(what: &[u8], n: u32) {
-    io::write_all(1, what);
-    io::print_decimal(1, n as u64);
-    io::write_all(1, b"\n");
+fn say(rt: &impl Print, what: &str, n: u32) -> io::Result<()> {
+    println!(rt; "{what}{n}")
 }
 
 // Writes how many cases of a kind agreed.
-fn say_kind(k: usize, n: u32) {
+fn say_kind(rt: &impl Print, k: usize, n: u32) -> io::Result<()> {
     if k == 0 {
-        say(b"machine: ", n);
+        say(rt, "machine: ", n)
     } else if k == 8 {
-        say(b"diagnostics: ", n);
+        say(rt, "diagnostics: ", n)
     } else {
-        io::write_all(1, b"refused ");
-        io::print_decimal(1, k as u64);
-        say(b": ", n);
+        print!(rt; "refused {k}")?;
+        say(rt, ": ", n)
     }
 }
 
 // Counts a case that agrees, and says which does not.
-fn count(agrees: bool, k: usize, tally: &mut [u32; 18], what: &[u8], i: u32)
+fn count(
+    rt: &impl Print,
+    agrees: bool,
+    k: usize,
+    tally: &mut [u32; 18],
+    what: &str,
+    i: u32,
+) -> io::Result<()>
     requires { k < 18 }
 {
     if agrees {
         tally[k] = std::num::wrapping_add_u32(tally[k], 1);
+        Ok(())
     } else {
-        say(what, i);
+        say(rt, what, i)
     }
 }
 
 // Replays a case, the i-th.
 fn replay_case(
+    rt: &impl Print,
     i: u32,
     before: &[u32],
     case: &[u8],
@@ -434,19 +442,21 @@ fn replay_case(
     sheet: &mut [u32],
     output: &mut [u8],
     tally: &mut [u32; 18],
-)
+) -> io::Result<()>
     requires { Rooms before.now work.old log.old sheet.old × (65536 ≤ length output.old) }
 {
     let r = reading_agrees(before, case, work, log, sheet);
     let k = kind(word_at(case, 9));
-    count(r, k, tally, b"reading differs: case ", i);
+    count(rt, r, k, tally, "reading differs: case ", i)?;
     let w = writing_agrees(before, case, work, log, sheet, output);
     let l = 9 + kind(word_at(case, 45));
-    count(w, l, tally, b"writing differs: case ", i);
+    count(rt, w, l, tally, "writing differs: case ", i)
 }
 
 // Replays n cases.
 fn replay(
+    rt: &impl Print,
+    input: &mut impl Read,
     n: u32,
     before: &[u32],
     case: &mut [u8],
@@ -455,29 +465,31 @@ fn replay(
     sheet: &mut [u32],
     output: &mut [u8],
     tally: &mut [u32; 18],
-)
+) -> io::Result<()>
     requires { (32768 ≤ length case.old) × Rooms before.now work.old log.old sheet.old × (65536 ≤ length output.old) }
 {
     let mut i = 0;
     while i < n {
-        let e = load(case);
-        replay_case(i, before, &case[..e], work, log, sheet, output, tally);
+        let e = load(input, case)?;
+        replay_case(rt, i, before, &case[..e], work, log, sheet, output, tally)?;
         i += 1;
     }
+    Ok(())
 }
 
 // Says how many cases of each kind agreed, of those from a place of the tally on.
-fn say_kinds(tally: &[u32; 18], from: usize)
+fn say_kinds(rt: &impl Print, tally: &[u32; 18], from: usize) -> io::Result<()>
     requires { from ≤ 9 }
 {
     let mut k = 0;
     while k < 9 {
-        say_kind(k, tally[from + k]);
+        say_kind(rt, k, tally[from + k])?;
         k += 1;
     }
+    Ok(())
 }
 
-fn main() {
+fn main(rt: HostRuntime) -> io::Result<()> {
     let mut before = [0u32; 40_960];
     let mut case = [0u8; 32_768];
     let mut work = [0u32; 40_960];
@@ -487,9 +499,12 @@ fn main() {
     let mut tally = [0u32; 18];
     let mut first = [0u8; 4];
     scatter(&mut before);
-    io::read_full(0, &mut first);
+    let mut stdin = rt.stdin();
+    input::fill(&mut stdin, &mut first)?;
     let n = word_at(&first, 0);
     replay(
+        &rt,
+        &mut stdin,
         n,
         &before,
         &mut case,
@@ -498,9 +513,9 @@ fn main() {
         &mut sheet,
         &mut output,
         &mut tally,
-    );
-    io::write_all(1, b"reading\n");
-    say_kinds(&tally, 0);
-    io::write_all(1, b"writing\n");
-    say_kinds(&tally, 9);
+    )?;
+    println!(&rt; "reading")?;
+    say_kinds(&rt, &tally, 0)?;
+    println!(&rt; "writing")?;
+    say_kinds(&rt, &tally, 9)
 }

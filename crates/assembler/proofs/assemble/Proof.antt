@@ -11,7 +11,7 @@ assemble_spec =
     tie.close
     (tie.spec
     (λ c κs. search laws)
-    (λ c κs. let l = c in let z = l in let e = entered-lines z.args.text.now _ _ z.requires _ l.lines.ensures in (passes_laid z.args.text.now _ _ _ z.requires e, passes_room z.args.text.now _ _ _ z.requires e, passes_fed z.args.text.now _ _ _ z.requires e))
+    (λ c κs. let e = entered-lines c.args.text.now _ _ c.requires _ c.lines.ensures in (passes_laid c.args.text.now _ _ _ c.requires e, passes_room c.args.text.now _ _ _ c.requires e, passes_fed c.args.text.now _ _ _ c.requires e))
     (λ c. search rules)
     (λ c. search rules)
-    (λ c. let d = c in let l = d in let z = l in outcome z.args.text.now _ _ _ z.requires (entered-lines z.args.text.now _ _ z.requires _ l.lines.ensures) _ _ _ _ d.diagnose.ensures))
+    (λ c. outcome c.args.text.now _ _ _ c.requires (entered-lines c.args.text.now _ _ c.requires _ c.lines.ensures) _ _ _ _ c.diagnose.ensures))

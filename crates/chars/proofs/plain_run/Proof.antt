@@ -33,10 +33,8 @@ plain_run_spec =
     (λ c. search rules)
     (λ c. search rules)
     (λ c.
-    let k = c in
-    let l = k in
-    let s = two_step _ _ _ (omega (arith, l.loop-i-test.true)) k.wide-a.ensures.0 _ c.wide.ensures.0 _ c.plain_two.ensures c.if-plain_two.true in
-    let i = l.loop-i.invariant in
+    let s = two_step _ _ _ (omega (arith, c.loop-i-test.true)) c.wide-a.ensures.0 _ c.wide.ensures.0 _ c.plain_two.ensures c.if-plain_two.true in
+    let i = c.loop-i.invariant in
     (search rules, search rules, step_valid _ _ _ s (λ e. omega arith) _ i.2, step-outside _ _ _ s (λ e. omega arith) _ i.3))
     (λ c. search rules)
     (λ c. search rules)
@@ -50,11 +48,8 @@ plain_run_spec =
     (λ c. search rules)
     (λ c. search rules)
     (λ c.
-    let j = c in
-    let k = j in
-    let l = k in
-    let s = three-step _ _ _ (omega (arith, l.loop-i-test.true)) k.wide-a.ensures.0 _ _ c.wide-else-plain_two.ensures.0 j.joined-d.ensures.0 _ _ _ c.is_three.ensures c.if-is_three.true refl refl in
-    let i = l.loop-i.invariant in
+    let s = three-step _ _ _ (omega (arith, c.loop-i-test.true)) c.wide-a.ensures.0 _ _ c.wide-else-plain_two.ensures.0 c.joined-d.ensures.0 _ _ _ c.is_three.ensures c.if-is_three.true refl refl in
+    let i = c.loop-i.invariant in
     (search rules, search rules, step_valid _ _ _ s (λ e. omega arith) _ i.2, step-outside _ _ _ s (λ e. omega arith) _ i.3))
     (λ c. search rules)
     (λ c. search rules))

@@ -31,5 +31,5 @@ next_word_spec =
     (λ c. search laws)
     (λ c. search laws)
     (λ c. search laws)
-    (λ c. let b = c in let i = b in let a = i in let l = a in (none_two _ _ _ l.loop-i.invariant.0 _ _ a.token_at.ensures i.if-token_at-eq-WORD.false b.token_at-in-loop-i.ensures c.if-token_at-eq-WORD-2.false, search rules))
+    (λ c. (none_two _ _ _ c.loop-i.invariant.0 _ _ c.token_at.ensures c.if-token_at-eq-WORD.false c.token_at-in-loop-i.ensures c.if-token_at-eq-WORD-2.false, search rules))
     (λ c. search laws))

@@ -14,7 +14,7 @@ place_spec =
     (tie.spec
     (λ c. search laws)
     (λ c. search laws)
-    (λ c. let z = c in omega (arith, slot-product z.args.h (z.args.span - z.args.letters - 32) z.requires.2 (omega (arith, z.requires.1))))
-    (λ c. let z = c in omega (arith, slot_low z.args.h z.args.letters z.args.span z.args.last z.requires.2 z.requires.0, z.requires.1))
-    (λ c. let z = c in omega (arith, slot_low z.args.h z.args.letters z.args.span z.args.last z.requires.2 z.requires.0, z.requires.1))
+    (λ c. omega (arith, slot-product c.args.h (c.args.span - c.args.letters - 32) c.requires.2 (omega (arith, c.requires.1))))
+    (λ c. omega (arith, slot_low c.args.h c.args.letters c.args.span c.args.last c.requires.2 c.requires.0, c.requires.1))
+    (λ c. omega (arith, slot_low c.args.h c.args.letters c.args.span c.args.last c.requires.2 c.requires.0, c.requires.1))
     (λ c. search laws))

@@ -11,17 +11,14 @@ write_answer_spec =
     (tie.spec
     (λ c. search rules)
     (λ c κs.
-    let chosen = c in
-    let began = chosen in
-    began.requires _ chosen.a-1.given.1)
+    c.requires _ c.a-1.given.1)
     (λ other. search rules)
     (λ c. search rules)
     (λ c. search rules)
     (λ c.
-    let formed = c in
-    let chosen = formed in (
-      machine-written _ _ _ _ _ chosen.a-1.given.1 formed.write_form.result _ formed.write_form.ensures,
-      form_frees _ _ _ formed.write_form.result _ _ chosen.a-1.given.1 formed.write_form.ensures,
+    (
+      machine-written _ _ _ _ _ c.a-1.given.1 c.write_form.result _ c.write_form.ensures,
+      form_frees _ _ _ c.write_form.result _ _ c.a-1.given.1 c.write_form.ensures,
     ))
     (λ c. (diagnostics_handed _ _ _ _ _ c.a-in-Diagnostics-1.given.1, λ e. absurd (false≢true e)))
     (λ c. (refusal_handed _ _ _ _ _ c.a-in-Refused-1.given.1, refusal_leaves _ _ c.a-in-Refused-1.given.1)))

@@ -31,23 +31,17 @@ write_form_spec =
     (λ c. search rules)
     (λ c. search rules)
     (λ c κs.
-    let s = c in
-    read-formed s.args.text.now s.args.head s.args.sheet.now s.requires)
+    read-formed c.args.text.now c.args.head c.args.sheet.now c.requires)
     (λ c κs. search rules)
     (λ c. search rules)
     (λ c.
-    let called = c in
-    let s = called.before.before.before.before.before in
-    too_short s.args.text.now s.args.head s.args.sheet.now s.requires (fits s) _ _ called.Plain-Form.ensures s.args.output-1.now _ c.least-room.ensures c.if-room-n.true)
+    let s = c.before in
+    too_short s.args.text.now s.args.head s.args.sheet.now s.requires (fits s) _ _ c.Plain-Form.ensures s.args.output-1.now _ c.least-room.ensures c.if-room-n.true)
     (λ c. search rules)
     (λ c. search (rules, front-count))
     (λ c κs.
-    let s = c in
-    read-formed s.args.text.now s.args.head s.args.sheet.now s.requires)
+    read-formed c.args.text.now c.args.head c.args.sheet.now c.requires)
     (λ c. search rules)
     (λ c.
-    let again = c in
-    let fitting = again in
-    let called = fitting in
-    let s = called.before.before.before.before.before in
-    form_stands s.args.text.now s.args.head s.args.sheet.now s.requires (fits s) _ _ called.Plain-Form.ensures s.args.output-1.now _ fitting.least-room.ensures fitting.if-room-n.false _ _ again.plain_form-m.ensures s.well-formed.1.1.1.0.0))
+    let s = c.before in
+    form_stands s.args.text.now s.args.head s.args.sheet.now s.requires (fits s) _ _ c.Plain-Form.ensures s.args.output-1.now _ c.least-room.ensures c.if-room-n.false _ _ c.plain_form-m.ensures s.well-formed.1.1.1.0.0))

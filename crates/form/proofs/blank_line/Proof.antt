@@ -13,9 +13,5 @@ blank_line_spec =
     (λ c κs. search rules)
     (λ c. search rules)
     (λ c.
-    let at-say2 = c.before.before in
-    let at_symbol = at-say2.before.before.before.before.before in
-    let at-say = at_symbol.before.before.before.before in
-    let at-if1 = at-say.before.before.before in
-    blank_written _ _ _ _ _ _ at-if1.if-declared.true at-say.say-a.ensures at_symbol.symbol-b.ensures at-say2.say.ensures)
+    blank_written _ _ _ _ _ _ c.if-declared.true c.say-a.ensures c.symbol-b.ensures c.say.ensures)
     (λ c. blank_none _ _ _ c.if-declared.false))

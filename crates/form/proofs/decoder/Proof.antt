@@ -13,21 +13,14 @@ decoder_spec =
     (λ c. search rules)
     (λ c κs. search rules)
     (λ c κs.
-    let at-d = c.before.before.before.before.before.before.before in
-    let start = at-d.before.before.before in
-    decoder-scalar _ _ at-d.d-1.given.1 start.requires)
+    decoder-scalar _ _ c.d-1.given.1 c.requires)
     (λ c. search rules)
     (λ c κs. search rules)
     (λ c. search rules)
     (λ c. search (rules, decoder-word))
     (λ c. search rules)
     (λ c.
-    let at_symbol = c in
-    let at-say2 = at_symbol.before.before.before.before in
-    let at-d = at-say2.before.before.before.before in
-    decoder_unary _ _ _ _ _ at-d.d-1.given.1 at-say2.say-a.ensures at_symbol.symbol.ensures)
+    decoder_unary _ _ _ _ _ c.d-1.given.1 c.say-a.ensures c.symbol.ensures)
     (λ c. search rules)
     (λ c.
-    let at-bit-order = c.before.before in
-    let at-d2 = at-bit-order.before.before.before in
-    decoder_binary _ _ _ _ at-d2.d-in-Binary-1.given.1 at-bit-order.bit_order.ensures))
+    decoder_binary _ _ _ _ c.d-in-Binary-1.given.1 c.bit_order.ensures))

@@ -13,7 +13,4 @@ finals_line_spec =
     (λ c κs. search rules)
     (λ c. search rules)
     (λ c.
-    let at-say2 = c.before.before in
-    let at-final-names = at-say2.before.before.before.before.before in
-    let at-say = at-final-names.before.before.before.before in
-    finals-written _ _ _ _ _ _ _ at-say.say-a.ensures at-final-names.final_names-b.ensures at-say2.say.ensures))
+    finals-written _ _ _ _ _ _ _ c.say-a.ensures c.final_names-b.ensures c.say.ensures))

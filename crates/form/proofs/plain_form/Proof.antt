@@ -28,50 +28,15 @@ plain_form_spec =
     (λ c. search rules)
     (λ c κs. search rules)
     (λ c κs.
-    let at-after4 = c.before.before.before in
-    let at-after3 = at-after4.before.before in
-    let at-after2 = at-after3.before.before.before in
-    let at_after = at-after2.before.before in
-    let start = at_after in
-    header-formed (answer start.args.head start.args.sheet.now start.args.text.now) _ _ _ _ _ at_after.after-sigma.ensures at-after2.after-gamma.ensures at-after3.after-header.ensures at-after4.after-trailing.ensures c.after-records.ensures start.requires)
+    header-formed (answer c.args.head c.args.sheet.now c.args.text.now) _ _ _ _ _ c.after-sigma.ensures c.after-gamma.ensures c.after-header.ensures c.after-trailing.ensures c.after-records.ensures c.requires)
     (λ c κs.
-    let start = c in
-    start.requires.head_part)
+    c.requires.head_part)
     (λ c κs.
-    let at-after5 = c.before.before.before.before.before.before.before.before.before in
-    let at-after4 = at-after5.before.before in
-    let at-after3 = at-after4.before.before in
-    let at-after2 = at-after3.before.before.before in
-    let at_after = at-after2.before.before in
-    let start = at_after in
-    declared-formed (answer start.args.head start.args.sheet.now start.args.text.now) _ _ _ _ _ at_after.after-sigma.ensures at-after2.after-gamma.ensures at-after3.after-header.ensures at-after4.after-trailing.ensures at-after5.after-records.ensures start.requires)
+    declared-formed (answer c.args.head c.args.sheet.now c.args.text.now) _ _ _ _ _ c.after-sigma.ensures c.after-gamma.ensures c.after-header.ensures c.after-trailing.ensures c.after-records.ensures c.requires)
     (λ c κs.
-    let at-after5 = c.before.before.before.before.before.before.before.before.before.before.before.before.before in
-    let at-after4 = at-after5.before.before in
-    let at-after3 = at-after4.before.before in
-    let at-after2 = at-after3.before.before.before in
-    let at_after = at-after2.before.before in
-    let start = at_after in
-    rules-formed (answer start.args.head start.args.sheet.now start.args.text.now) _ _ _ _ _ at_after.after-sigma.ensures at-after2.after-gamma.ensures at-after3.after-header.ensures at-after4.after-trailing.ensures at-after5.after-records.ensures start.requires)
+    rules-formed (answer c.args.head c.args.sheet.now c.args.text.now) _ _ _ _ _ c.after-sigma.ensures c.after-gamma.ensures c.after-header.ensures c.after-trailing.ensures c.after-records.ensures c.requires)
     (λ c κs.
-    let at-after5 = c.before.before.before.before.before.before.before.before.before.before.before.before.before.before.before.before.before in
-    let at-after4 = at-after5.before.before in
-    let at-after3 = at-after4.before.before in
-    let at-after2 = at-after3.before.before.before in
-    let at_after = at-after2.before.before in
-    let start = at_after in
-    trailing-formed (answer start.args.head start.args.sheet.now start.args.text.now) _ _ _ _ _ at_after.after-sigma.ensures at-after2.after-gamma.ensures at-after3.after-header.ensures at-after4.after-trailing.ensures at-after5.after-records.ensures start.requires)
+    trailing-formed (answer c.args.head c.args.sheet.now c.args.text.now) _ _ _ _ _ c.after-sigma.ensures c.after-gamma.ensures c.after-header.ensures c.after-trailing.ensures c.after-records.ensures c.requires)
     (λ c. search rules)
     (λ c.
-    let at-comment-lines2 = c.before.before in
-    let at-rules = at-comment-lines2.before.before.before.before in
-    let at-declared-lines = at-rules.before.before.before.before in
-    let at-head-lines = at-declared-lines.before.before.before.before in
-    let at-comment-lines = at-head-lines.before.before.before.before in
-    let at-after5 = at-comment-lines.before.before in
-    let at-after4 = at-after5.before.before in
-    let at-after3 = at-after4.before.before in
-    let at-after2 = at-after3.before.before.before in
-    let at_after = at-after2.before.before in
-    let start = at_after in
-    form-written (answer start.args.head start.args.sheet.now start.args.text.now) _ _ _ _ _ at_after.after-sigma.ensures at-after2.after-gamma.ensures at-after3.after-header.ensures at-after4.after-trailing.ensures at-after5.after-records.ensures _ _ _ _ _ _ (search rules) at-comment-lines.comment_lines-a.ensures at-head-lines.head_lines-b.ensures at-declared-lines.declared_lines-c.ensures at-rules.rules-d.ensures at-comment-lines2.comment_lines.ensures))
+    form-written (answer c.args.head c.args.sheet.now c.args.text.now) _ _ _ _ _ c.after-sigma.ensures c.after-gamma.ensures c.after-header.ensures c.after-trailing.ensures c.after-records.ensures _ _ _ _ _ _ (search rules) c.comment_lines-a.ensures c.head_lines-b.ensures c.declared_lines-c.ensures c.rules-d.ensures c.comment_lines.ensures))

@@ -13,9 +13,5 @@ start_line_spec =
     (λ c κs. search rules)
     (λ c. search rules)
     (λ c.
-    let at-say2 = c.before.before in
-    let at-verbatim = at-say2.before.before.before.before.before in
-    let at-say = at-verbatim.before.before.before.before in
-    let at-if1 = at-say.before.before.before in
-    start-written _ _ _ _ _ _ _ at-if1.if-declared.true at-say.say-a.ensures at-verbatim.verbatim-b.ensures at-say2.say.ensures)
+    start-written _ _ _ _ _ _ _ c.if-declared.true c.say-a.ensures c.verbatim-b.ensures c.say.ensures)
     (λ c. start_none _ _ _ _ c.if-declared.false))

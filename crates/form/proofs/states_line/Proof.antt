@@ -13,9 +13,5 @@ states_line_spec =
     (λ c κs. search rules)
     (λ c. search rules)
     (λ c.
-    let at-say2 = c.before.before in
-    let at_Names = at-say2.before.before.before.before.before in
-    let at-say = at_Names.before.before.before.before in
-    let at-if1 = at-say.before.before.before in
-    states-written _ _ _ _ _ _ _ _ at-if1.if-declared.true at-say.say-a.ensures at_Names.names-b.ensures at-say2.say.ensures)
+    states-written _ _ _ _ _ _ _ _ c.if-declared.true c.say-a.ensures c.names-b.ensures c.say.ensures)
     (λ c. states-none _ _ _ _ _ c.if-declared.false))

@@ -11,16 +11,9 @@ symbols_line_spec =
     (λ c κs. search rules)
     (λ c κs. search rules)
     (λ c κs.
-    let at-if1 = c.before.before.before.before.before.before.before.before.before.before in
-    let start = at-if1.before.before.before in
-    (search rules, search rules, start.requires.1 at-if1.if-declared.true))
+    (search rules, search rules, c.requires.1 c.if-declared.true))
     (λ c κs. search rules)
     (λ c. search rules)
     (λ c.
-    let at-say2 = c.before.before in
-    let at-symbols = at-say2.before.before.before.before.before in
-    let at-say = at-symbols.before.before.before.before in
-    let at-character = at-say.before.before.before.before.before in
-    let at-if1 = at-character.before.before in
-    symbols-written _ _ _ _ _ _ _ _ _ at-if1.if-declared.true at-character.character-a.ensures at-say.say-b.ensures at-symbols.symbols-c.ensures at-say2.say.ensures)
+    symbols-written _ _ _ _ _ _ _ _ _ c.if-declared.true c.character-a.ensures c.say-b.ensures c.symbols-c.ensures c.say.ensures)
     (λ c. symbols-none _ _ _ _ _ c.if-declared.false))

@@ -32,6 +32,6 @@ final_names_spec =
     (λ c. search laws)
     (λ c. search laws)
     (λ c. search laws)
-    (λ c. let f = c in let t = f.loop-i-test.true in let l = f.loop-i.invariant in (search rules, search rules, finals-count _ _ _ _ _ _ _ f.final_name-l.ensures l.2, search rules, names-next _ _ _ _ _ _ t l.4, finals-on _ _ _ _ _ t _ _ _ _ _ _ l.5 f.final_name-l.ensures))
+    (λ c. let t = c.loop-i-test.true in let l = c.loop-i.invariant in (search rules, search rules, finals-count _ _ _ _ _ _ _ c.final_name-l.ensures l.2, search rules, names-next _ _ _ _ _ _ t l.4, finals-on _ _ _ _ _ t _ _ _ _ _ _ l.5 c.final_name-l.ensures))
     (λ c. search laws)
     (λ c. search laws))

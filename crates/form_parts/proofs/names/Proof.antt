@@ -34,12 +34,8 @@ names_spec =
     (λ c. search laws)
     (λ c. search laws)
     (λ c.
-    let at-verbatim = c.before.before in
-    let at-place-at = at-verbatim.before in
-    let at-comma = at-place-at.before.before.before.before in
-    let in-loop = at-comma.before.before in
-    let t = in-loop.loop-i-test.true in
-    let l = in-loop.loop-i.invariant in
-    (search rules, search rules, search rules, names-next _ _ _ _ _ _ t l.3, list_on _ _ _ _ _ _ t (search rules) _ at-place-at.place_at.ensures _ _ _ _ _ l.4 at-comma.comma-a.ensures at-verbatim.verbatim-end.ensures))
+    let t = c.loop-i-test.true in
+    let l = c.loop-i.invariant in
+    (search rules, search rules, search rules, names-next _ _ _ _ _ _ t l.3, list_on _ _ _ _ _ _ t (search rules) _ c.place_at.ensures _ _ _ _ _ l.4 c.comma-a.ensures c.verbatim-end.ensures))
     (λ c. search laws)
     (λ c. search laws))

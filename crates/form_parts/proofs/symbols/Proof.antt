@@ -34,12 +34,8 @@ symbols_spec =
     (λ c. search laws)
     (λ c. search laws)
     (λ c.
-    let at_symbol = c in
-    let at-word = at_symbol.before in
-    let at-comma = at-word.before.before.before.before in
-    let in-loop = at-comma.before.before in
-    let t = in-loop.loop-i-test.true in
-    let l = in-loop.loop-i.invariant in
-    (search rules, search rules, search rules, codes-left _ _ _ _ _ _ t (search rules) _ at-word.word.ensures l.3, symbols-on _ _ _ _ _ _ t (search rules) _ at-word.word.ensures _ _ _ _ _ at-comma.comma-a.ensures l.4 at_symbol.symbol-end.ensures))
+    let t = c.loop-i-test.true in
+    let l = c.loop-i.invariant in
+    (search rules, search rules, search rules, codes-left _ _ _ _ _ _ t (search rules) _ c.word.ensures l.3, symbols-on _ _ _ _ _ _ t (search rules) _ c.word.ensures _ _ _ _ _ c.comma-a.ensures l.4 c.symbol-end.ensures))
     (λ c. search laws)
     (λ c. search laws))

@@ -34,12 +34,8 @@ codes_spec =
     (λ c. search laws)
     (λ c. search laws)
     (λ c.
-    let at_code = c in
-    let at-word = at_code.before in
-    let at-separator = at-word.before.before.before.before in
-    let in-loop = at-separator.before.before in
-    let t = in-loop.loop-i-test.true in
-    let l = in-loop.loop-i.invariant in
-    (search rules, search rules, search rules, codes-on _ _ _ _ _ _ _ t (search rules) _ at-word.word.ensures _ _ _ _ _ at-separator.separator-a.ensures l.3 at_code.code-end.ensures))
+    let t = c.loop-i-test.true in
+    let l = c.loop-i.invariant in
+    (search rules, search rules, search rules, codes-on _ _ _ _ _ _ _ t (search rules) _ c.word.ensures _ _ _ _ _ c.separator-a.ensures l.3 c.code-end.ensures))
     (λ c. search laws)
     (λ c. search laws))

@@ -12,6 +12,4 @@ diagnosed_spec =
     (λ c κs. search rules)
     (λ c. search rules)
     (λ c.
-    let at-diagnostic-lines = c.before.before in
-    let at-bytes-line = at-diagnostic-lines.before.before.before.before in
-    both_put _ _ _ _ _ at-bytes-line.bytes_line-a.ensures at-diagnostic-lines.diagnostic_lines.ensures))
+    both_put _ _ _ _ _ c.bytes_line-a.ensures c.diagnostic_lines.ensures))

@@ -34,12 +34,8 @@ directions_spec =
     (λ c. search laws)
     (λ c. search laws)
     (λ c.
-    let at-direction = c.before.before in
-    let at-word = at-direction.before in
-    let at-separator = at-word.before.before.before.before in
-    let in-loop = at-separator.before.before in
-    let t = in-loop.loop-i-test.true in
-    let l = in-loop.loop-i.invariant in
-    (search rules, search rules, search rules, moves-on _ _ _ _ _ t _ at-word.word.ensures _ _ _ _ _ at-separator.separator-a.ensures l.3 at-direction.direction-end.ensures))
+    let t = c.loop-i-test.true in
+    let l = c.loop-i.invariant in
+    (search rules, search rules, search rules, moves-on _ _ _ _ _ t _ c.word.ensures _ _ _ _ _ c.separator-a.ensures l.3 c.direction-end.ensures))
     (λ c. search laws)
     (λ c. search laws))

@@ -12,6 +12,4 @@ machine_spec =
     (λ c κs. search rules)
     (λ c. search rules)
     (λ c.
-    let at-machine-lines = c.before.before in
-    let at-bytes-line = at-machine-lines.before.before.before.before in
-    both_put _ _ _ _ _ at-bytes-line.bytes_line-a.ensures at-machine-lines.machine_lines.ensures))
+    both_put _ _ _ _ _ c.bytes_line-a.ensures c.machine_lines.ensures))

@@ -32,11 +32,4 @@ machine_lines_spec =
     (λ c κs. search rules)
     (λ c. search rules)
     (λ c.
-    let at-transition-lines = c.before.before in
-    let at-symbol-lines = at-transition-lines.before.before.before.before in
-    let at-state-lines = at-symbol-lines.before.before.before.before in
-    let at-say = at-state-lines.before.before.before.before in
-    let at-after3 = at-say.before.before.before in
-    let at-after2 = at-after3.before.before.before.before.before in
-    let at_after = at-after2.before.before in
-    machine-put _ _ _ _ _ _ _ _ _ _ _ _ at_after.after-sigma.ensures at-after2.after-gamma.ensures at-after3.after-rules.ensures at-say.say-a.ensures at-state-lines.state_lines-b.ensures at-symbol-lines.symbol_lines-c.ensures at-transition-lines.transition_lines.ensures))
+    machine-put _ _ _ _ _ _ _ _ _ _ _ _ c.after-sigma.ensures c.after-gamma.ensures c.after-rules.ensures c.say-a.ensures c.state_lines-b.ensures c.symbol_lines-c.ensures c.transition_lines.ensures))

@@ -31,9 +31,8 @@ names_spec =
     (λ c. search laws)
     (λ c. search laws)
     (λ c.
-    let f = c in
-    let t = f.loop-i-test.true in
-    let l = f.loop-i.invariant in
-    (search rules, search rules, names-count _ _ _ _ _ _ _ f.state_name-l.ensures l.2, search rules, names-on _ _ _ _ _ _ t _ _ _ _ _ _ l.4 f.state_name-l.ensures))
+    let t = c.loop-i-test.true in
+    let l = c.loop-i.invariant in
+    (search rules, search rules, names-count _ _ _ _ _ _ _ c.state_name-l.ensures l.2, search rules, names-on _ _ _ _ _ _ t _ _ _ _ _ _ l.4 c.state_name-l.ensures))
     (λ c. search laws)
     (λ c. search laws))

@@ -17,11 +17,4 @@ state_lines_spec =
     (λ c κs. search rules)
     (λ c. search rules)
     (λ c.
-    let at-say4 = c.before.before in
-    let at_named = at-say4.before.before.before.before.before in
-    let at-say3 = at_named.before.before.before.before in
-    let at-names2 = at-say3.before.before.before.before.before in
-    let at-say2 = at-names2.before.before.before.before in
-    let at_Names = at-say2.before.before.before.before.before in
-    let at-say = at_Names.before.before.before.before in
-    states-put _ _ _ _ _ _ _ _ _ _ _ _ at-say.say-a.ensures at_Names.names-b.ensures at-say2.say-c.ensures at-names2.names-d.ensures at-say3.say-e.ensures at_named.named-f.ensures at-say4.say.ensures))
+    states-put _ _ _ _ _ _ _ _ _ _ _ _ c.say-a.ensures c.names-b.ensures c.say-c.ensures c.names-d.ensures c.say-e.ensures c.named-f.ensures c.say.ensures))

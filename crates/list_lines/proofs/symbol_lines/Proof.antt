@@ -15,9 +15,4 @@ symbol_lines_spec =
     (λ c κs. search rules)
     (λ c. search rules)
     (λ c.
-    let at-say3 = c.before.before in
-    let at-codes2 = at-say3.before.before.before.before.before in
-    let at-say2 = at-codes2.before.before.before.before in
-    let at-codes = at-say2.before.before.before.before.before in
-    let at-say = at-codes.before.before.before.before in
-    symbols-put _ _ _ _ _ _ _ _ _ _ at-say.say-a.ensures at-codes.codes-b.ensures at-say2.say-c.ensures at-codes2.codes-d.ensures at-say3.say.ensures))
+    symbols-put _ _ _ _ _ _ _ _ _ _ c.say-a.ensures c.codes-b.ensures c.say-c.ensures c.codes-d.ensures c.say.ensures))

@@ -36,10 +36,7 @@ transitions_spec =
     (λ c. search laws)
     (λ c. search laws)
     (λ c.
-    let at-transition = c.before.before.before.before in
-    let at-record-at = at-transition.before in
-    let at-loop-test = at-record-at.before.before in
-    let l = at-loop-test.loop-i.invariant in
-    (search rules, search rules, search rules, rules-on _ _ _ _ _ at-loop-test.loop-i-test.true _ at-record-at.record_at.ensures _ _ c.word.ensures c.least-j.ensures _ _ _ _ l.3 at-transition.transition-end.ensures))
+    let l = c.loop-i.invariant in
+    (search rules, search rules, search rules, rules-on _ _ _ _ _ c.loop-i-test.true _ c.record_at.ensures _ _ c.word.ensures c.least-j.ensures _ _ _ _ l.3 c.transition-end.ensures))
     (λ c. search laws)
     (λ c. rules-end _ _ _ _ _ _ _ _ c.loop-i-test.false c.loop-i.invariant.3))

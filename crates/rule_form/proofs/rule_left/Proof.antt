@@ -11,23 +11,13 @@ rule_left_spec =
     (λ c κs. search rules)
     (λ c κs. search rules)
     (λ c κs.
-    let start = c in
-    placed _ start.args.words.now 1 _ c.place_at.ensures start.requires.from)
+    placed _ c.args.words.now 1 _ c.place_at.ensures c.requires.from)
     (λ c κs. search rules)
     (λ c κs. search rules)
     (λ c κs. search rules)
     (λ c κs.
-    let start = c in
-    (search rules, search rules, search (coded start.args.words.now _ _ c.word.ensures c.after.ensures 0 start.requires.reads, coded start.args.words.now _ _ c.word.ensures c.after.ensures 3 start.requires.writes)))
+    (search rules, search rules, search (coded c.args.words.now _ _ c.word.ensures c.after.ensures 0 c.requires.reads, coded c.args.words.now _ _ c.word.ensures c.after.ensures 3 c.requires.writes)))
     (λ c κs. search rules)
     (λ c. search rules)
     (λ c.
-    let at-say3 = c.before.before in
-    let at-symbols = at-say3.before.before.before.before.before in
-    let at-word = at-symbols.before in
-    let at_after = at-word.before in
-    let at-say2 = at_after.before.before.before.before in
-    let at-verbatim = at-say2.before.before.before.before.before in
-    let at-place-at = at-verbatim.before in
-    let at-say = at-place-at.before.before.before.before in
-    left-written _ _ _ _ at-word.word.ensures at_after.after.ensures _ _ _ _ _ _ _ at-place-at.place_at.ensures at-say.say-a.ensures at-verbatim.verbatim-b.ensures at-say2.say-c.ensures at-symbols.symbols-d.ensures at-say3.say.ensures))
+    left-written _ _ _ _ c.word.ensures c.after.ensures _ _ _ _ _ _ _ c.place_at.ensures c.say-a.ensures c.verbatim-b.ensures c.say-c.ensures c.symbols-d.ensures c.say.ensures))

@@ -28,9 +28,7 @@ rules_spec =
     (λ c. (search rules, search rules, search rules, formed-all _ _ _ c.requires, rules-start _ _ _ _))
     (λ c κs. search rules)
     (λ c κs.
-    let at-loop-test = c.before.before in
-    let at-loop = at-loop-test.before in
-    formed_here _ _ _ _ _ at-loop-test.loop-i-test.true _ c.record_at.ensures at-loop.loop-i.invariant.3)
+    formed_here _ _ _ _ _ c.loop-i-test.true _ c.record_at.ensures c.loop-i.invariant.3)
     (λ c κs. search rules)
     (λ c. search rules)
     (λ c. search rules)
@@ -38,13 +36,9 @@ rules_spec =
     (λ c. search rules)
     (λ c. search rules)
     (λ c.
-    let at-rule-lines = c.before.before.before.before in
-    let at-record-at = at-rule-lines.before in
-    let at-loop-test = at-record-at.before.before in
-    let at-loop = at-loop-test.before in
-    let r = at-record-at.record_at.ensures in
-    let t = at-loop-test.loop-i-test.true in
-    let l = at-loop.loop-i.invariant in
-    (search rules, search rules, search rules, formed-next _ _ _ _ _ t _ r _ _ c.word.ensures c.least-j.ensures l.3, rules-on _ _ _ _ _ t _ r _ _ c.word.ensures c.least-j.ensures _ _ _ _ l.4 at-rule-lines.rule_lines-end.ensures))
+    let r = c.record_at.ensures in
+    let t = c.loop-i-test.true in
+    let l = c.loop-i.invariant in
+    (search rules, search rules, search rules, formed-next _ _ _ _ _ t _ r _ _ c.word.ensures c.least-j.ensures l.3, rules-on _ _ _ _ _ t _ r _ _ c.word.ensures c.least-j.ensures _ _ _ _ l.4 c.rule_lines-end.ensures))
     (λ c. search rules)
     (λ c. rules-end _ _ _ _ _ _ _ _ c.loop-i-test.false c.loop-i.invariant.4))

@@ -16,8 +16,7 @@ pevzoncs_write_spec =
     (λ c. search rules)
     (λ c. search rules)
     (λ c.
-    let told = c in
-    let called = told in (
-      given_back _ called.write-a.result _ _ _ _ _ _ called.write-a.ensures.0 told.give.ensures.0 told.give.ensures.1,
-      number_keeps called.write-a.result _ _ _ told.give.ensures.0 called.write-a.ensures.1,
+    (
+      given_back _ c.write-a.result _ _ _ _ _ _ c.write-a.ensures.0 c.give.ensures.0 c.give.ensures.1,
+      number_keeps c.write-a.result _ _ _ c.give.ensures.0 c.write-a.ensures.1,
     )))

@@ -10,15 +10,13 @@ write_spec =
     (tie.spec
     (λ c κs. search rules)
     (λ c κs.
-    let called = c in
-    machine_was_read _ _ _ _ _ _ _ called.read-a.ensures.0)
+    machine_was_read _ _ _ _ _ _ _ c.read-a.ensures.0)
     (λ c. search rules)
     (λ c. search rules)
     (λ c. search rules)
     (λ c. search rules)
     (λ c.
-    let written = c.before.before in
-    let called = written in (
-      answer-written _ _ _ _ called.read-a.result _ _ called.read-a.ensures.0 written.write_answer.result _ _ written.write_answer.ensures.0,
-      λ e. called.read-a.ensures.1 (written.write_answer.ensures.1 e),
+    (
+      answer-written _ _ _ _ c.read-a.result _ _ c.read-a.ensures.0 c.write_answer.result _ _ c.write_answer.ensures.0,
+      λ e. c.read-a.ensures.1 (c.write_answer.ensures.1 e),
     )))

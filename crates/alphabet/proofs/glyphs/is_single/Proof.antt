@@ -22,10 +22,4 @@ is_single_spec =
     (λ c. search rules)
     (λ c κs. search rules)
     (λ c e.
-    let y = c in
-    let x = y in
-    let f = x in
-    let d = f in
-    let t = d in
-    let z = t in
-    single_is _ z.args.from z.args.to z.args.w z.args.d t.if-to-from.false d.if-d-w.false _ _ _ _ f.is_at.ensures x.is_at-2.ensures y.is_at-3.ensures c.is_at-4.ensures e))
+    single_is _ c.args.from c.args.to c.args.w c.args.d c.if-to-from.false c.if-d-w.false _ _ _ _ c.is_at.ensures c.is_at-2.ensures c.is_at-3.ensures c.is_at-4.ensures e))

@@ -10,15 +10,10 @@ note_parts_spec =
     (tie.spec
     (λ c κs. search rules)
     (λ c κs.
-    let i = c in
-    let z = i in
-    (z.requires.0, room_as z.args.base z.args.n z.args.blank z.args.work-1.now _ _ (i.is_single.ensures i.if-is_single.true) z.requires.3))
+    (c.requires.0, room_as c.args.base c.args.n c.args.blank c.args.work-1.now _ _ (c.is_single.ensures c.if-is_single.true) c.requires.3))
     (λ c. search rules)
     (λ c.
-    let s = c in
-    let i = s in
-    let z = i in
-    noted_as z.args.base z.args.n z.args.blank z.args.work-1.now _ _ (i.is_single.ensures i.if-is_single.true) _ _ s.note_single.ensures)
+    noted_as c.args.base c.args.n c.args.blank c.args.work-1.now _ _ (c.is_single.ensures c.if-is_single.true) _ _ c.note_single.ensures)
     (λ c κs. search rules)
     (λ c. search rules)
     (λ c. search rules))

@@ -29,23 +29,16 @@ note_range_spec =
     (λ c κs. search laws)
     (λ c κs. search laws)
     (λ c κs.
-    let t = c in
-    let l = t in
-    let z = l in
-    ranging_room _ _ z.args.blank _ _ _ _ _ _ _ z.requires.0 l.loop-i.invariant _ t.loop-i-test.true t.token_at-t.ensures _ c.is_new.ensures _ c.resolve.ensures c.if-is_new.true)
+    ranging_room _ _ c.args.blank _ _ _ _ _ _ _ c.requires.0 c.loop-i.invariant _ c.loop-i-test.true c.token_at-t.ensures _ c.is_new.ensures _ c.resolve.ensures c.if-is_new.true)
     (λ c. search laws)
     (λ c. search laws)
     (λ c.
-    let s = c in
-    let t = s in
-    let l = t in
-    let z = l in
     ⊎_elim
-    (λ y. ranging_as _ _ z.args.blank _ _ _ _ _ _ _ _ _ _ y.6 y.7 y.8
-    (ranging_noted _ _ z.args.blank _ _ _ _ _ _ _ z.requires.0 l.loop-i.invariant _ t.loop-i-test.true t.token_at-t.ensures _ s.is_new.ensures
+    (λ y. ranging_as _ _ c.args.blank _ _ _ _ _ _ _ _ _ _ y.6 y.7 y.8
+    (ranging_noted _ _ c.args.blank _ _ _ _ _ _ _ c.requires.0 c.loop-i.invariant _ c.loop-i-test.true c.token_at-t.ensures _ c.is_new.ensures
     _ y.2.ensures y.0.taken _ _ y.3.ensures))
-    (λ y. ranging_as _ _ z.args.blank _ _ _ _ _ _ _ _ _ _ y.1 y.2 y.3
-    (ranging_passed _ _ z.args.blank _ _ _ _ _ _ _ z.requires.0 l.loop-i.invariant _ t.loop-i-test.true t.token_at-t.ensures _ s.is_new.ensures y.0.left))
+    (λ y. ranging_as _ _ c.args.blank _ _ _ _ _ _ _ _ _ _ y.1 y.2 y.3
+    (ranging_passed _ _ c.args.blank _ _ _ _ _ _ _ c.requires.0 c.loop-i.invariant _ c.loop-i-test.true c.token_at-t.ensures _ c.is_new.ensures y.0.left))
     c.if-is_new.branch)
     (λ c. search laws)
-    (λ c. let z = c in ranging_end _ _ z.args.blank _ _ _ _ _ _ _ z.requires.0 c.loop-i.invariant c.loop-i-test.false))
+    (λ c. ranging_end _ _ c.args.blank _ _ _ _ _ _ _ c.requires.0 c.loop-i.invariant c.loop-i-test.false))

@@ -11,21 +11,9 @@ note_single_spec =
     (λ c κs. search rules)
     (λ c κs. search rules)
     (λ c κs.
-    let u = c in
-    let t = u in
-    let z = t in
-    single_room z.args.base z.args.count z.args.blank z.args.work-1.now _ z.args.from z.args.w _ _ t.token_at-t.ensures u.token_at-u.ensures z.requires.1)
+    single_room c.args.base c.args.count c.args.blank c.args.work-1.now _ c.args.from c.args.w _ _ c.token_at-t.ensures c.token_at-u.ensures c.requires.1)
     (λ c κs.
-    let s = c in
-    let u = s in
-    let t = u in
-    let z = t in
-    single_room_2 z.args.base z.args.count z.args.blank z.args.work-1.now _ z.args.from z.args.w _ _ t.token_at-t.ensures u.token_at-u.ensures z.requires.1 _ _ s.note_symbol-m.ensures)
+    single_room_2 c.args.base c.args.count c.args.blank c.args.work-1.now _ c.args.from c.args.w _ _ c.token_at-t.ensures c.token_at-u.ensures c.requires.1 _ _ c.note_symbol-m.ensures)
     (λ c. search rules)
     (λ c.
-    let r = c in
-    let s = r in
-    let u = s in
-    let t = u in
-    let z = t in
-    single_all z.args.base z.args.count z.args.blank z.args.work-1.now _ z.args.from z.args.w _ _ t.token_at-t.ensures u.token_at-u.ensures z.requires.1 _ _ s.note_symbol-m.ensures _ _ r.note_symbol.ensures))
+    single_all c.args.base c.args.count c.args.blank c.args.work-1.now _ c.args.from c.args.w _ _ c.token_at-t.ensures c.token_at-u.ensures c.requires.1 _ _ c.note_symbol-m.ensures _ _ c.note_symbol.ensures))

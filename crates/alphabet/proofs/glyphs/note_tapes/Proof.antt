@@ -10,36 +10,18 @@ note_tapes_spec =
     (tie.spec
     (λ c κs. search rules)
     (λ c κs.
-    let z = c in
-    (z.requires.0, part_room _ _ z.args.blank z.args.work-1.now _ z.args.from z.args.to z.args.w z.args.d z.requires.0 z.requires.1))
+    (c.requires.0, part_room _ _ c.args.blank c.args.work-1.now _ c.args.from c.args.to c.args.w c.args.d c.requires.0 c.requires.1))
     (λ c κs.
-    let f = c in
-    let z = f in
-    (z.requires.0, part_room_2 _ _ z.args.blank z.args.work-1.now _ z.args.from z.args.to z.args.w z.args.d z.requires.0 z.requires.1 _ _ f.note_firsts-i.ensures))
+    (c.requires.0, part_room_2 _ _ c.args.blank c.args.work-1.now _ c.args.from c.args.to c.args.w c.args.d c.requires.0 c.requires.1 _ _ c.note_firsts-i.ensures))
     (λ c κs.
-    let g = c in
-    let f = g in
-    let z = f in
-    (z.requires.0, part_room_3 _ _ z.args.blank z.args.work-1.now _ z.args.from z.args.to z.args.w z.args.d z.requires.0 z.requires.1 _ _ f.note_firsts-i.ensures _ _ g.note_range-j.ensures))
+    (c.requires.0, part_room_3 _ _ c.args.blank c.args.work-1.now _ c.args.from c.args.to c.args.w c.args.d c.requires.0 c.requires.1 _ _ c.note_firsts-i.ensures _ _ c.note_range-j.ensures))
     (λ c. search rules)
     (λ c.
-    let h = c in
-    let g = h in
-    let f = g in
-    let z = f in
-    parts_all _ _ z.args.blank z.args.work-1.now _ z.args.from z.args.to z.args.w z.args.d z.requires.0 z.requires.1 _ _ f.note_firsts-i.ensures _ _ g.note_range-j.ensures _ _ h.note_further.ensures)
+    parts_all _ _ c.args.blank c.args.work-1.now _ c.args.from c.args.to c.args.w c.args.d c.requires.0 c.requires.1 _ _ c.note_firsts-i.ensures _ _ c.note_range-j.ensures _ _ c.note_further.ensures)
     (λ c κs.
-    let z = c in
-    (z.requires.0, plain_room _ _ z.args.blank z.args.work-1.now _ z.args.from z.args.to z.args.w z.args.d z.requires.0 z.requires.1 _ c.has_kind.ensures c.if-has_kind.false))
+    (c.requires.0, plain_room _ _ c.args.blank c.args.work-1.now _ c.args.from c.args.to c.args.w c.args.d c.requires.0 c.requires.1 _ c.has_kind.ensures c.if-has_kind.false))
     (λ c κs.
-    let f = c in
-    let i = f in
-    let z = i in
-    (z.requires.0, plain_room_2 _ _ z.args.blank z.args.work-1.now _ z.args.from z.args.to z.args.w z.args.d z.requires.0 z.requires.1 _ i.has_kind.ensures i.if-has_kind.false _ _ f.note_range-i.ensures))
+    (c.requires.0, plain_room_2 _ _ c.args.blank c.args.work-1.now _ c.args.from c.args.to c.args.w c.args.d c.requires.0 c.requires.1 _ c.has_kind.ensures c.if-has_kind.false _ _ c.note_range-i.ensures))
     (λ c. search rules)
     (λ c.
-    let g = c in
-    let f = g in
-    let i = f in
-    let z = i in
-    plain-all _ _ z.args.blank z.args.work-1.now _ z.args.from z.args.to z.args.w z.args.d z.requires.0 z.requires.1 _ i.has_kind.ensures i.if-has_kind.false _ _ f.note_range-i.ensures _ _ g.note_range.ensures))
+    plain-all _ _ c.args.blank c.args.work-1.now _ c.args.from c.args.to c.args.w c.args.d c.requires.0 c.requires.1 _ c.has_kind.ensures c.if-has_kind.false _ _ c.note_range-i.ensures _ _ c.note_range.ensures))

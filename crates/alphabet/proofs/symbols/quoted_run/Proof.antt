@@ -37,13 +37,7 @@ quoted_run_spec =
     (λ c. search laws)
     (λ c. search laws)
     (λ c.
-    let a = c in
-    let t = a in
-    let q = t in
-    let l = q in
-    let b = l in
-    let z = b in
-    running_on _ _ _ _ _ _ _ _ _ _ l.loop-i.invariant (symbol_width z.args.inferred z.args.blank) z.requires.0 _ b.last_below-last.ensures q.loop-i-test.true
-    _ q.quoted_pair.ensures (not-false _ t.if-not-quoted_pair.false) _ _ _ t.token_at.ensures a.put_symbol-n.ensures)
+    running_on _ _ _ _ _ _ _ _ _ _ c.loop-i.invariant (symbol_width c.args.inferred c.args.blank) c.requires.0 _ c.last_below-last.ensures c.loop-i-test.true
+    _ c.quoted_pair.ensures (not-false _ c.if-not-quoted_pair.false) _ _ _ c.token_at.ensures c.put_symbol-n.ensures)
     (λ c. search laws)
     (λ c. search laws))

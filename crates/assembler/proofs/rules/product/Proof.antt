@@ -31,8 +31,5 @@ product_spec =
     (λ c. search laws)
     (λ c. search laws)
     (λ c.
-    let a = c in
-    let l = a in
-    let z = l in
-    counting_on _ _ _ _ _ _ l.loop-i.invariant z.requires.0 _ _ a.loop-i-test.true a.if-count-i.false c.token_at.ensures c.counted-s.ensures)
+    counting_on _ _ _ _ _ _ c.loop-i.invariant c.requires.0 _ _ c.loop-i-test.true c.if-count-i.false c.token_at.ensures c.counted-s.ensures)
     (λ c. search laws))

@@ -18,6 +18,6 @@ declared_spec =
     (λ c. search laws)
     (λ c κs. search laws)
     (λ c. search laws)
-    (λ c κs. let z = c in (search rules, own_room _ _ _ _ c.if-i-from.false c.if-end-i.false z.requires.2 _ _ z.requires.1 _ _ c.comments-n.ensures))
+    (λ c κs. (search rules, own_room _ _ _ _ c.if-i-from.false c.if-end-i.false c.requires.2 _ _ c.requires.1 _ _ c.comments-n.ensures))
     (λ c. search laws)
     (λ c. search laws))

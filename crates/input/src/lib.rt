@@ -1,0 +1,23 @@
+// Bytes from a reader into a lent row.
+#![tactic(auto)]
+
+ghost use Rattle.std.specs.Prelude.{◌≤◌, length, take, IfOk};
+ghost use Rattle.std.specs.Io.KnownBytes.{Consumes};
+
+use std::io::{self, Read};
+
+// Reads until the row is full or the input ends; how many bytes stand at the row's front then.
+pub fn fill<R: Read>(input: &mut R, row: &mut [u8]) -> io::Result<usize>
+    ensures bound { IfOk result (λ n. n ≤ length row.new) }
+    ensures bytes { IfOk result (λ n. Consumes (R.remaining input.old) (R.remaining input.new) (take n row.new)) }
+{
+    let mut done = 0;
+    while done < row.len() {
+        let n = input.read(&mut row[done..])?;
+        if n == 0 {
+            break;
+        }
+        done += n;
+    }
+    Ok(done)
+}
