@@ -1,0 +1,20 @@
+// The reading call for callers in other languages: reader's call, exported from a static library.
+#![tactic(auto)]
+
+ghost use Rattle.std.specs.Prelude.{◌≡◌, true, length};
+ghost use Rattle.language.specs.Outcome.{read_outcome};
+ghost use Rattle.reader.specs.Reading.{given, given_by, leaves_work_number};
+
+// Reads a text: the answer in 36 words, and its number.
+#[unsafe(no_mangle)]
+pub extern "C" fn pevzoncs_read(
+    text: &[u8],
+    work: &mut [u32],
+    log: &mut [u32],
+    sheet: &mut [u32],
+    answer: &mut [u32],
+) -> u32
+    ensures { (given result answer.new log.new sheet.new ≡ given_by (read_outcome text.now (length work.old) log.old sheet.old) answer.old) × (leaves_work_number result ≡ true → work.new ≡ work.old) }
+{
+    reader::pevzoncs_read(text, work, log, sheet, answer)
+}
