@@ -24,4 +24,4 @@ rule_lines_spec =
     (λ c κs. search rules)
     (λ c. search rules)
     (λ c.
-    lines-written _ _ _ _ _ c.word.ensures c.word-2.ensures c.after.ensures _ _ _ _ _ _ _ c.place_at.ensures c.comment_lines-a.ensures c.rule_left-b.ensures c.rule_right-c.ensures c.own_comment_lem.ensures c.say.ensures))
+    lines-written _ _ _ _ _ c.word.ensures c.word-2.ensures c.after.ensures _ _ _ _ _ _ _ c.place_at.ensures c.comment_lines-a.ensures c.rule_left-b.ensures c.rule_right-c.ensures c.own_comment-d.ensures c.say.ensures))

@@ -30,6 +30,6 @@ note_rules_spec =
     (λ c κs. (c.requires.0, c.loop-e-test.true, rules_room _ _ c.args.blank _ _ _ _ _ c.requires.0 c.loop-e.invariant _ c.loop-e-test.true c.token_at-t.ensures))
     (λ c κs. search laws)
     (λ c. search laws)
-    (λ c. rules-next _ _ c.args.blank _ _ _ _ _ c.requires.0 c.loop-e.invariant _ c.loop-e-test.true c.token_at-t.ensures _ _ _ c.note_rule-m.ensures c.next_line_lem.ensures)
+    (λ c. rules-next _ _ c.args.blank _ _ _ _ _ c.requires.0 c.loop-e.invariant _ c.loop-e-test.true c.token_at-t.ensures _ _ _ c.note_rule-m.ensures c.next_line-e.ensures)
     (λ c. search laws)
     (λ c. rules-end _ _ c.args.blank _ _ _ _ _ c.requires.0 c.loop-e.invariant c.loop-e-test.false))

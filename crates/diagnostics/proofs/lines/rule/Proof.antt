@@ -21,4 +21,4 @@ rule_spec =
     (λ c κs. search rules)
     (λ c κs. search rules)
     (λ c κs. search rules)
-    (λ c. let s = c.args.s in let ts = rows s.count c.args.work.now in (took_rule _ _ _ _ c.stepped.ensures ts s _ _ c.token_at-t.ensures c.verdict_at-v.ensures _ c.place_of.ensures c.rule_error_lem.ensures, search_rule _ _ (ap (λ (x : Step). x.search) c.stepped.ensures) ts s _ _ c.token_at-t.ensures c.verdict_at-v.ensures _ _ _ c.after-c.ensures c.next_line_lem.ensures c.moved-next.ensures c.tallied.ensures)))
+    (λ c. let s = c.args.s in let ts = rows s.count c.args.work.now in (took_rule _ _ _ _ c.stepped.ensures ts s _ _ c.token_at-t.ensures c.verdict_at-v.ensures _ c.place_of.ensures c.rule_error-n.ensures, search_rule _ _ (ap (λ (x : Step). x.search) c.stepped.ensures) ts s _ _ c.token_at-t.ensures c.verdict_at-v.ensures _ _ _ c.after-c.ensures c.next_line.ensures c.moved-next.ensures c.tallied.ensures)))
