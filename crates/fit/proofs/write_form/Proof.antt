@@ -36,7 +36,7 @@ write_form_spec =
     (λ c. search rules)
     (λ c.
     let s = c.before in
-    too_short s.args.text.now s.args.head s.args.sheet.now s.requires (fits s) _ _ c.Plain-Form.ensures s.args.output-1.now _ c.least-room.ensures c.if-room-n.true)
+    too_short s.args.text.now s.args.head s.args.sheet.now s.requires (fits s) _ _ c.Plain-Form.ensures s.args.output.now _ c.least-room.ensures c.if-room-n.true)
     (λ c. search rules)
     (λ c. search (rules, front-count))
     (λ c κs.
@@ -44,4 +44,4 @@ write_form_spec =
     (λ c. search rules)
     (λ c.
     let s = c.before in
-    form_stands s.args.text.now s.args.head s.args.sheet.now s.requires (fits s) _ _ c.Plain-Form.ensures s.args.output-1.now _ c.least-room.ensures c.if-room-n.false _ _ c.plain_form-m.ensures s.well-formed.1.1.1.0.0))
+    form_stands s.args.text.now s.args.head s.args.sheet.now s.requires (fits s) _ _ c.Plain-Form.ensures s.args.output.now _ c.least-room.ensures c.if-room-n.false _ _ c.plain_form-m.ensures s.well-formed.1.1.1.0.0))

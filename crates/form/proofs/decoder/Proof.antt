@@ -13,14 +13,14 @@ decoder_spec =
     (λ c. search rules)
     (λ c κs. search rules)
     (λ c κs.
-    decoder-scalar _ _ c.d-1.given.1 c.requires)
+    decoder-scalar _ _ c.in-Unary.is c.requires)
     (λ c. search rules)
     (λ c κs. search rules)
     (λ c. search rules)
     (λ c. search (rules, decoder-word))
     (λ c. search rules)
     (λ c.
-    decoder_unary _ _ _ _ _ c.d-1.given.1 c.say-a.ensures c.symbol.ensures)
+    decoder_unary _ _ _ _ _ c.in-Unary.is c.say-a.ensures c.symbol.ensures)
     (λ c. search rules)
     (λ c.
-    decoder_binary _ _ _ _ c.d-in-Binary-1.given.1 c.bit_order.ensures))
+    decoder_binary _ _ _ _ c.in-Binary.is c.bit_order.ensures))

@@ -10,10 +10,10 @@ note_parts_spec =
     (tie.spec
     (λ c κs. search rules)
     (λ c κs.
-    (c.requires.0, room_as c.args.base c.args.n c.args.blank c.args.work-1.now _ _ (c.is_single.ensures c.if-is_single.true) c.requires.3))
+    (c.requires.0, room_as c.args.base c.args.n c.args.blank c.args.work.now _ _ (c.is_single.ensures c.if-is_single.true) c.requires.3))
     (λ c. search rules)
     (λ c.
-    noted_as c.args.base c.args.n c.args.blank c.args.work-1.now _ _ (c.is_single.ensures c.if-is_single.true) _ _ c.note_single.ensures)
+    noted_as c.args.base c.args.n c.args.blank c.args.work.now _ _ (c.is_single.ensures c.if-is_single.true) _ _ c.note_single.ensures)
     (λ c κs. search rules)
     (λ c. search rules)
     (λ c. search rules))

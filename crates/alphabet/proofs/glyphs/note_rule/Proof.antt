@@ -13,7 +13,7 @@ note_rule_spec =
     (λ c. search rules)
     (λ c. search rules)
     (λ c.
-    rule-none c.args.base c.args.count c.args.blank c.args.work-1.now c.args.n c.args.e _ c.token_at-t.ensures c.requires.2 c.if-t.true)
+    rule-none c.args.base c.args.count c.args.blank c.args.work.now c.args.n c.args.e _ c.token_at-t.ensures c.requires.2 c.if-t.true)
     (λ c. search rules)
     (λ c κs. search rules)
     (λ c κs. search rules)
@@ -25,10 +25,10 @@ note_rule_spec =
       c.requires.0,
       omega (arith, c.requires.0, c.requires.1, c.ranges.base.fits),
       omega (arith, c.wide-w.ensures.1),
-      rule_room c.args.base c.args.count c.args.blank c.args.work-1.now c.args.n c.args.e _ c.token_at-t.ensures c.requires.2 c.if-t.false
+      rule_room c.args.base c.args.count c.args.blank c.args.work.now c.args.n c.args.e _ c.token_at-t.ensures c.requires.2 c.if-t.false
           _ c.token_at-q.ensures _ _ _ c.wide-to.ensures.0 c.wide-w.ensures.0 c.wide-d.ensures.0,
     ))
     (λ c. search rules)
     (λ c.
-    rule-all c.args.base c.args.count c.args.blank c.args.work-1.now c.args.n c.args.e _ c.token_at-t.ensures c.requires.2 c.if-t.false
+    rule-all c.args.base c.args.count c.args.blank c.args.work.now c.args.n c.args.e _ c.token_at-t.ensures c.requires.2 c.if-t.false
     _ c.token_at-q.ensures _ _ _ c.wide-to.ensures.0 c.wide-w.ensures.0 c.wide-d.ensures.0 _ _ c.note_parts.ensures))

@@ -25,7 +25,7 @@ note_rules_spec =
     (tie.spec
     invariant-loop-e
     decreases-loop-e
-    (λ c. rules-start c.args.base c.args.count c.args.blank c.args.work-1.now c.args.n c.requires.1)
+    (λ c. rules-start c.args.base c.args.count c.args.blank c.args.work.now c.args.n c.requires.1)
     (λ c κs. search laws)
     (λ c κs. (c.requires.0, c.loop-e-test.true, rules_room _ _ c.args.blank _ _ _ _ _ c.requires.0 c.loop-e.invariant _ c.loop-e-test.true c.token_at-t.ensures))
     (λ c κs. search laws)

@@ -11,9 +11,9 @@ note_single_spec =
     (λ c κs. search rules)
     (λ c κs. search rules)
     (λ c κs.
-    single_room c.args.base c.args.count c.args.blank c.args.work-1.now _ c.args.from c.args.w _ _ c.token_at-t.ensures c.token_at-u.ensures c.requires.1)
+    single_room c.args.base c.args.count c.args.blank c.args.work.now _ c.args.from c.args.w _ _ c.token_at-t.ensures c.token_at-u.ensures c.requires.1)
     (λ c κs.
-    single_room_2 c.args.base c.args.count c.args.blank c.args.work-1.now _ c.args.from c.args.w _ _ c.token_at-t.ensures c.token_at-u.ensures c.requires.1 _ _ c.note_symbol-m.ensures)
+    single_room_2 c.args.base c.args.count c.args.blank c.args.work.now _ c.args.from c.args.w _ _ c.token_at-t.ensures c.token_at-u.ensures c.requires.1 _ _ c.note_symbol-m.ensures)
     (λ c. search rules)
     (λ c.
-    single_all c.args.base c.args.count c.args.blank c.args.work-1.now _ c.args.from c.args.w _ _ c.token_at-t.ensures c.token_at-u.ensures c.requires.1 _ _ c.note_symbol-m.ensures _ _ c.note_symbol.ensures))
+    single_all c.args.base c.args.count c.args.blank c.args.work.now _ c.args.from c.args.w _ _ c.token_at-t.ensures c.token_at-u.ensures c.requires.1 _ _ c.note_symbol-m.ensures _ _ c.note_symbol.ensures))

@@ -12,7 +12,7 @@ note_symbol_spec =
     (tie.spec
     (λ c κs. search laws)
     (λ c κs. search laws)
-    (λ c κs. one_room _ _ c.args.blank c.args.work-1.now _ _ (is_symbol_lem _ _ c.is_symbol.ensures c.if-is_symbol.true) _ c.resolve.ensures c.requires)
+    (λ c κs. one_room _ _ c.args.blank c.args.work.now _ _ (is_symbol_lem _ _ c.is_symbol.ensures c.if-is_symbol.true) _ c.resolve.ensures c.requires)
     (λ c. search laws)
-    (λ c. one-noted c.args.base c.args.n c.args.blank c.args.work-1.now _ _ (is_symbol_lem _ _ c.is_symbol.ensures c.if-is_symbol.true) _ _ _ c.resolve.ensures c.note.ensures)
+    (λ c. one-noted c.args.base c.args.n c.args.blank c.args.work.now _ _ (is_symbol_lem _ _ c.is_symbol.ensures c.if-is_symbol.true) _ _ _ c.resolve.ensures c.note.ensures)
     (λ c. none-noted _ _ _ _ _ (no_symbol _ _ c.is_symbol.ensures c.if-is_symbol.false) c.requires))

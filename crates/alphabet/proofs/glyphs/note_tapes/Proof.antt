@@ -10,18 +10,18 @@ note_tapes_spec =
     (tie.spec
     (λ c κs. search rules)
     (λ c κs.
-    (c.requires.0, part_room _ _ c.args.blank c.args.work-1.now _ c.args.from c.args.to c.args.w c.args.d c.requires.0 c.requires.1))
+    (c.requires.0, part_room _ _ c.args.blank c.args.work.now _ c.args.from c.args.to c.args.w c.args.d c.requires.0 c.requires.1))
     (λ c κs.
-    (c.requires.0, part_room_2 _ _ c.args.blank c.args.work-1.now _ c.args.from c.args.to c.args.w c.args.d c.requires.0 c.requires.1 _ _ c.note_firsts-i.ensures))
+    (c.requires.0, part_room_2 _ _ c.args.blank c.args.work.now _ c.args.from c.args.to c.args.w c.args.d c.requires.0 c.requires.1 _ _ c.note_firsts-i.ensures))
     (λ c κs.
-    (c.requires.0, part_room_3 _ _ c.args.blank c.args.work-1.now _ c.args.from c.args.to c.args.w c.args.d c.requires.0 c.requires.1 _ _ c.note_firsts-i.ensures _ _ c.note_range-j.ensures))
+    (c.requires.0, part_room_3 _ _ c.args.blank c.args.work.now _ c.args.from c.args.to c.args.w c.args.d c.requires.0 c.requires.1 _ _ c.note_firsts-i.ensures _ _ c.note_range-j.ensures))
     (λ c. search rules)
     (λ c.
-    parts_all _ _ c.args.blank c.args.work-1.now _ c.args.from c.args.to c.args.w c.args.d c.requires.0 c.requires.1 _ _ c.note_firsts-i.ensures _ _ c.note_range-j.ensures _ _ c.note_further.ensures)
+    parts_all _ _ c.args.blank c.args.work.now _ c.args.from c.args.to c.args.w c.args.d c.requires.0 c.requires.1 _ _ c.note_firsts-i.ensures _ _ c.note_range-j.ensures _ _ c.note_further.ensures)
     (λ c κs.
-    (c.requires.0, plain_room _ _ c.args.blank c.args.work-1.now _ c.args.from c.args.to c.args.w c.args.d c.requires.0 c.requires.1 _ c.has_kind.ensures c.if-has_kind.false))
+    (c.requires.0, plain_room _ _ c.args.blank c.args.work.now _ c.args.from c.args.to c.args.w c.args.d c.requires.0 c.requires.1 _ c.has_kind.ensures c.if-has_kind.false))
     (λ c κs.
-    (c.requires.0, plain_room_2 _ _ c.args.blank c.args.work-1.now _ c.args.from c.args.to c.args.w c.args.d c.requires.0 c.requires.1 _ c.has_kind.ensures c.if-has_kind.false _ _ c.note_range-i.ensures))
+    (c.requires.0, plain_room_2 _ _ c.args.blank c.args.work.now _ c.args.from c.args.to c.args.w c.args.d c.requires.0 c.requires.1 _ c.has_kind.ensures c.if-has_kind.false _ _ c.note_range-i.ensures))
     (λ c. search rules)
     (λ c.
-    plain-all _ _ c.args.blank c.args.work-1.now _ c.args.from c.args.to c.args.w c.args.d c.requires.0 c.requires.1 _ c.has_kind.ensures c.if-has_kind.false _ _ c.note_range-i.ensures _ _ c.note_range.ensures))
+    plain-all _ _ c.args.blank c.args.work.now _ c.args.from c.args.to c.args.w c.args.d c.requires.0 c.requires.1 _ c.has_kind.ensures c.if-has_kind.false _ _ c.note_range-i.ensures _ _ c.note_range.ensures))

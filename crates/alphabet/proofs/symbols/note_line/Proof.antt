@@ -14,6 +14,6 @@ note_line_spec =
     (λ c κs. search laws)
     (λ c. search laws)
     (λ c κs. search laws)
-    (λ c κs. (c.requires.0, line_room c.args.base c.args.n c.args.blank c.args.work-1.now _ c.args.f _ _ c.token_at-t.ensures c.wide.ensures.0 c.requires.2))
+    (λ c κs. (c.requires.0, line_room c.args.base c.args.n c.args.blank c.args.work.now _ c.args.f _ _ c.token_at-t.ensures c.wide.ensures.0 c.requires.2))
     (λ c. search laws)
-    (λ c. line-noted c.args.base c.args.n c.args.blank c.args.work-1.now (rows c.args.count c.args.work-1.now) c.args.f _ _ _ _ c.token_at-t.ensures c.wide.ensures.0 c.note_range.ensures))
+    (λ c. line-noted c.args.base c.args.n c.args.blank c.args.work.now (rows c.args.count c.args.work.now) c.args.f _ _ _ _ c.token_at-t.ensures c.wide.ensures.0 c.note_range.ensures))

@@ -12,4 +12,4 @@ at_finals_spec =
     (λ c. search rules)
     (λ c. search rules)
     (λ c κs. search rules)
-    (λ c. let s = c.args.s in let text = c.args.text.now in let w = c.args.work-1.now in let p = c.requires in finals-stepped text w s p.0 p.1 _ c.if-s.false c.onward.ensures))
+    (λ c. let s = c.args.s in let text = c.args.text.now in let w = c.args.work.now in let p = c.requires in finals-stepped text w s p.0 p.1 _ c.if-s.false c.onward.ensures))

@@ -10,7 +10,7 @@ at_names_spec =
     (tie.spec
     (λ c κs. search rules)
     (λ c. search rules)
-    (λ c. let s = c.args.s in let text = c.args.text.now in let w = c.args.work-1.now in let p = c.requires in name-stepped text w s p.0 p.1 _ c.if-s.true c.name.ensures.0 c.name.ensures.1)
+    (λ c. let s = c.args.s in let text = c.args.text.now in let w = c.args.work.now in let p = c.requires in name-stepped text w s p.0 p.1 _ c.if-s.true c.name.ensures.0 c.name.ensures.1)
     (λ c κs. search rules)
     (λ c. search rules)
     (λ c. search rules))

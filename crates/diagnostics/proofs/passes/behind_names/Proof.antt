@@ -11,7 +11,7 @@ behind_names_spec =
     (λ c. search rules)
     (λ c κs. search rules)
     (λ c κs. search rules)
-    (λ c. let p = c.requires in finals-passed c.args.text.now c.args.work-1.now c.args.s p.0 _ _ p.1 p.2 c.wide.ensures.0 c.if-s-wide.true c.onward.ensures)
+    (λ c. let p = c.requires in finals-passed c.args.text.now c.args.work.now c.args.s p.0 _ _ p.1 p.2 c.wide.ensures.0 c.if-s-wide.true c.onward.ensures)
     (λ c κs. search rules)
     (λ c. search rules)
     (λ c. search rules))

@@ -17,6 +17,6 @@ step_spec =
     (λ c κs. search rules)
     (λ c. search rules)
     (λ c. search rules)
-    (λ c κs. let s = c.args.s in let text = c.args.text.now in let w = c.args.work-1.now in let p = c.requires in let z = last_pass s.pass p.0.pass c.if-s-eq-FAILURES.false c.if-s-eq-NAMES.false c.if-s-eq-FINALS.false in (stands_room text w s p.0, p.0.laid.few, rules-inside text w s p.0 z p.1, p.0.tally))
+    (λ c κs. let s = c.args.s in let text = c.args.text.now in let w = c.args.work.now in let p = c.requires in let z = last_pass s.pass p.0.pass c.if-s-eq-FAILURES.false c.if-s-eq-NAMES.false c.if-s-eq-FINALS.false in (stands_room text w s p.0, p.0.laid.few, rules-inside text w s p.0 z p.1, p.0.tally))
     (λ c. search rules)
-    (λ c. let s = c.args.s in let text = c.args.text.now in let w = c.args.work-1.now in let p = c.requires in let z = last_pass s.pass p.0.pass c.if-s-eq-FAILURES.false c.if-s-eq-NAMES.false c.if-s-eq-FINALS.false in rule-stepped text w s p.0 z _ (rules-inside text w s p.0 z p.1) c.rule.ensures.0 c.rule.ensures.1))
+    (λ c. let s = c.args.s in let text = c.args.text.now in let w = c.args.work.now in let p = c.requires in let z = last_pass s.pass p.0.pass c.if-s-eq-FAILURES.false c.if-s-eq-NAMES.false c.if-s-eq-FINALS.false in rule-stepped text w s p.0 z _ (rules-inside text w s p.0 z p.1) c.rule.ensures.0 c.rule.ensures.1))
