@@ -1,10 +1,8 @@
 -- What the log is behind its clearing, and behind the diagnostics and their sort.
-use mathlib.Core.Path.{◌≡◌, refl, sym, ap, subst, ◌∙◌}
+use mathlib.Core.Path.{◌≡◌, refl, sym, ap, ◌∙◌}
 use Prim.Native.Nat.{ℕ, zero, suc, ◌-◌}
 use native.Mathlib.Omega.{arith}
-use mathlib.Core.Bool.{Bool, true, false, not}
 use mathlib.Core.List.{List, [], ◌∷◌, ◌++◌}
-use lib.Dec.{T}
 use lib.ListN.{length, take, drop, replicate}
 use lib.Seq.{take_at}
 use Rattle.diag.specs.Log.{sort}
@@ -30,16 +28,3 @@ module _ (ds : List Diagnostic) (c n : ℕ) (all : c ≡ length ds) (zs zs' : Li
       let front : take c zs' ≡ take c ds = ap (take c) is ∙ take_at ds (replicate (n - c) unused) c (sym all) ∙ sym (ap (λ (k : ℕ). take k ds) all ∙ take_all ds) in
       let tail : drop c zs' ≡ replicate (n - c) unused = ap (drop c) is ∙ ap (λ (k : ℕ). drop k (ds ++ replicate (n - c) unused)) all ∙ drop_at ds (replicate (n - c) unused) in
       ap (λ (l : List Diagnostic). sort l ++ drop c zs') front ∙ ap (λ (l : List Diagnostic). sort (take c ds) ++ l) tail
-
--- the outcome of a test that is known
-module _ {X : Type 0} (x y : X) where
-  pub chosen : (b : Bool) → T b → elim b [ true ↦ x | false ↦ y ] ≡ x
-  chosen true p = refl
-  chosen false p = absurd p
-
-  pub rejected : (b : Bool) → T (not b) → elim b [ true ↦ x | false ↦ y ] ≡ y
-  rejected true p = absurd p
-  rejected false p = refl
-
-pub not_both : {X : Type 0} (b : Bool) → T b → b ≡ false → X
-not_both b p e = absurd (subst T e p)
