@@ -123,7 +123,7 @@ module _ (size count : ℕ) (w first : List ℕ) (s : Scratch size count w) (w�
 -- ---- the places of F
 module _ (t : Token) (o : List ℕ) (i : ℕ) (b : Bool) (test : b ≡ is_state t) where
   pub place-put : (p : Span) (o' : List ℕ) (r : ℕ) → b ≡ true → p ≡ place_of t → Stored (span_words p) o i o' r → Stored (cond (is_state t) (span_words (place_of t)) []) o i o' r
-  place-put p o' r e f s = stored_as (cond (is_state t) (span_words (place_of t)) []) (span_words p) o o' i r (rw (← test, e, ← f)) s
+  place-put p o' r e f s = stored_as (cond (is_state t) (span_words (place_of t)) []) (span_words p) o o' i r (rw (← test, e, f)) s
 
   pub place_none : b ≡ false → Stored (cond (is_state t) (span_words (place_of t)) []) o i o i
   place_none e = stored_none (cond (is_state t) (span_words (place_of t)) []) o i (rw (← test, e))
