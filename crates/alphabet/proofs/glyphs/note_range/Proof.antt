@@ -1,12 +1,12 @@
 -- `alphabet::glyphs::note_range` meets its contract: the invariant: the symbols from here on, on top of what is noted, give what all were to give, and the last one is noted.
 use borrow.Author.Rules.{rules}
-use mathlib.Core.Logic.{⊎_elim}
 use Prim.Native.Nat.{◌-◌}
 use Rattle.assembler.specs.Rows.{rows}
 use Rattle.alphabet.specs.Codes.{noted_all, held}
 use Rattle.alphabet.specs.Symbols.{range, symbols, codes_of}
 use Rattle.alphabet.proofs.GlyphLaws.{Ranging, ranging_start, ranging_as, ranging_room, ranging_noted, ranging_passed, ranging_end}
 use Rattle.alphabet.proofs.glyphs.note_range.Statement.{statement}
+use Rattle.alphabet.proofs.glyphs.note_range.Lts.{then-is_new, else-is_new}
 use Rattle.alphabet.proofs.glyphs.note_range.Tie as tie
 
 abbrev invariant-loop-i : tie.invariant-loop-i
@@ -32,13 +32,12 @@ note_range_spec =
     ranging_room _ _ c.args.blank _ _ _ _ _ _ _ c.requires.0 c.loop-i.invariant _ c.loop-i-test.true c.token_at-t.ensures _ c.is_new.ensures _ c.resolve.ensures c.if-is_new.true)
     (λ c. search laws)
     (λ c. search laws)
-    (λ c.
-    ⊎_elim
-    (λ y. ranging_as _ _ c.args.blank _ _ _ _ _ _ _ _ _ _ y.6 y.7 y.8
-    (ranging_noted _ _ c.args.blank _ _ _ _ _ _ _ c.requires.0 c.loop-i.invariant _ c.loop-i-test.true c.token_at-t.ensures _ c.is_new.ensures
-    _ y.2.ensures y.0.taken _ _ y.3.ensures))
-    (λ y. ranging_as _ _ c.args.blank _ _ _ _ _ _ _ _ _ _ y.1 y.2 y.3
-    (ranging_passed _ _ c.args.blank _ _ _ _ _ _ _ c.requires.0 c.loop-i.invariant _ c.loop-i-test.true c.token_at-t.ensures _ c.is_new.ensures y.0.left))
-    c.if-is_new.branch)
+    (λ c. elim c.if-is_new.branch [
+      | then-is_new w ↦ ranging_as _ _ c.args.blank _ _ _ _ _ _ _ _ _ _ w.work-is w.last-is w.m-is
+        (ranging_noted _ _ c.args.blank _ _ _ _ _ _ _ c.requires.0 c.loop-i.invariant _ c.loop-i-test.true c.token_at-t.ensures _ c.is_new.ensures
+        _ w.resolve.ensures w.if-is_new.true _ _ w.note-m.ensures)
+      | else-is_new w ↦ ranging_as _ _ c.args.blank _ _ _ _ _ _ _ _ _ _ w.work-is w.last-is w.m-is
+        (ranging_passed _ _ c.args.blank _ _ _ _ _ _ _ c.requires.0 c.loop-i.invariant _ c.loop-i-test.true c.token_at-t.ensures _ c.is_new.ensures w.if-is_new.false)
+    ])
     (λ c. search laws)
     (λ c. ranging_end _ _ c.args.blank _ _ _ _ _ _ _ c.requires.0 c.loop-i.invariant c.loop-i-test.false))

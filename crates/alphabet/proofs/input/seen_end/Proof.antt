@@ -28,7 +28,7 @@ seen_end_spec =
     (λ c. search laws)
     (λ c κs. search laws)
     (λ c. search laws)
-    (λ c. passed_on c.args.text.now _ _ _ c.loop-c.invariant _ c.glyph_at-s.ensures _ _ c.s-1.given.1 (c.is_known.ensures c.if-is_known.true))
+    (λ c. passed_on c.args.text.now _ _ _ c.loop-c.invariant _ c.glyph_at-s.ensures _ _ c.in-Char.is (c.is_known.ensures c.if-is_known.true))
     (λ c. search laws)
     (λ c. search laws)
     (λ c. search laws)

@@ -1,6 +1,5 @@
 -- `alphabet::symbols::quoted_run` meets its contract: the invariant: the symbols before this index are stored; a comma is none.
 use borrow.Author.Rules.{rules}
-use borrow.Author.Tests.{not-false}
 use Prim.Native.Nat.{◌-◌}
 use Rattle.assembler.specs.Rows.{rows}
 use Rattle.sheet.proofs.Writes.{stored_length}
@@ -38,6 +37,6 @@ quoted_run_spec =
     (λ c. search laws)
     (λ c.
     running_on _ _ _ _ _ _ _ _ _ _ c.loop-i.invariant (symbol_width c.args.inferred c.args.blank) c.requires.0 _ c.last_below-last.ensures c.loop-i-test.true
-    _ c.quoted_pair.ensures (not-false _ c.if-not-quoted_pair.false) _ _ _ c.token_at.ensures c.put_symbol-n.ensures)
+    _ c.quoted_pair.ensures c.if-not-quoted_pair.false _ _ _ c.token_at.ensures c.put_symbol-n.ensures)
     (λ c. search laws)
     (λ c. search laws))
