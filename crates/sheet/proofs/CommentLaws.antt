@@ -448,7 +448,7 @@ module _ (count : ℕ) (work : List ℕ) (room : 4 * count ≤ length work) wher
 
 pub pending-start : (ts : List Token) → passed_all nothing (entries_at ts 0) ≡ passed_all nothing (entries ts)
 unfolding entries
-pending-start ts = refl
+pending-start _ = refl
 
 pub heading_start : (count : ℕ) (work o : List ℕ) (at : ℕ) → Heading count work o at o at nothing 0
 unfolding header entries

@@ -266,7 +266,7 @@ module _ (ts : List Token) (r : Rule) (c : Span) (o o₁ : List ℕ) (at : ℕ) 
 
 length-head : (ts : List Token) (r : Rule) (c : Span) (n k : ℕ) → length (head_words ts r c n k) ≡ 11
 unfolding head_words places_words
-length-head ts r c n k = refl
+length-head _ r c n k = refl
 
 pub length-rule : (b : ℕ) (ts : List Token) (r : Rule) (c : Span) (cs rs : List Token) → length (rule_words b ts r c cs rs) ≡ rule_length (length rs) (length cs)
 unfolding rule_words
