@@ -1,8 +1,8 @@
 // Bytes from a reader into a lent row.
 #![tactic(auto)]
 
-ghost use Rattle.std.specs.Prelude.{◌≤◌, length, take, IfOk};
-ghost use Rattle.std.specs.Io.KnownBytes.{Consumes};
+ghost use Rattle.std.specs.Prelude.{◌<◌, ◌≤◌, length, take, IfOk};
+ghost use Rattle.std.specs.Io.KnownBytes.{Consumes, IsAtEnd};
 
 use std::io::{self, Read};
 
@@ -10,6 +10,7 @@ use std::io::{self, Read};
 pub fn fill<R: Read>(input: &mut R, row: &mut [u8]) -> io::Result<usize>
     ensures bound { IfOk result (λ n. n ≤ length row.new) }
     ensures bytes { IfOk result (λ n. Consumes (R.remaining input.old) (R.remaining input.new) (take n row.new)) }
+    ensures end { IfOk result (λ n. n < length row.new → IsAtEnd (R.remaining input.new)) }
 {
     let mut done = 0;
     while done < row.len() {
