@@ -1,4 +1,3 @@
 pub mod Outcomes
-pub mod Values
 pub mod Claim
 pub mod Inhabited
