@@ -2,6 +2,7 @@
 """Brings this repository's own definitions and lemmas to the spelling of today's Rattle.
 
 usage: tools/spelling.py [--table FILE]      at the top of the repository, once, behind port.py; --table also writes the names, old and new
+       tools/spelling.py --listed            the names of LISTED alone: they were found after the rest had been turned
 
 port.py turns the names that the kit's tables hold; this turns the rest, by rule:
 - a name that begins in lower case is in snake case: `firstOutside` is `first_outside`, `commasT-length` is `commas_t-length`;
@@ -25,6 +26,13 @@ DATA = re.compile(rf"^(\s*){MARKS}(?:data|record) (?:pub )?({NAME})")
 # What the library calls an operation, in a lemma's name.
 LIBRARY = set("""append length take drop map replicate set sets get_or slice_index reverse cons nil concat filter foldr foldl zip sum all any mem le lt ge gt eq
 suc add sub mul div mod and or not cond some none map_option""".split())
+
+# Names of the older spelling that stand several on a line, or that a `use` line or a `where` gives; and the lemma that would have the name of one of them.
+LISTED = """unterminatedQuote unterminatedString finalItem tapeAlphabetItem statesItem machineItem inputItem inputAlphabetItem goesBy wordOutput binaryOutput
+unaryOutput lineFeed tooMany wrongArity sigmaWord logTooShort gammaWord deltaWord tapesWord statesWord startWord outputWord machineWord kindWord inputWord
+finalWord blankWord workTooShort textTooLong readOne outsideSet invalidUtf8 sheetTooShort itemBy listedNames itemOrder outputTooShort readLeaves nSigma nF
+nQ""".split()
+LEMMAS = {"work_too_short": "work_too_short_lem"}
 
 
 def files(ends):
@@ -169,7 +177,21 @@ def lemmas_apart(rows):
     return found
 
 
+def listed():
+    """Turns the names of LISTED alone."""
+    rows = {name: snake(name) for name in LISTED}
+    for path in files((".antt", ".rt", ".edit")):
+        text = read(path)
+        apart = LEMMAS if "/proofs/" in path else {}
+        new = turn_rt(text, rows) if path.endswith(".rt") else turn_antt(text, rows | apart, {})
+        if new != text:
+            with open(path, "w", encoding="utf-8") as f:
+                f.write(new)
+
+
 def main():
+    if "--listed" in sys.argv:
+        return listed()
     rows, together = table()
     behind = steps()
     apart = lemmas_apart(rows)
@@ -200,6 +222,7 @@ def main():
     if "--table" in sys.argv:
         with open(sys.argv[sys.argv.index("--table") + 1], "w", encoding="utf-8") as f:
             f.write("".join(f"{old}\t{new}\n" for old, new in sorted(rows.items())))
+    listed()
     print(f"{len(rows)} names, {clashes} clashes")
     return 0
 

@@ -12,17 +12,17 @@ use Rattle.chars.specs.Class.{first_outside, plain_up_to}
 use Rattle.chars.specs.declared.Outside.{Outside}
 use Rattle.chars.specs.declared.Outside.TheVariants.{At, Nowhere}
 use Rattle.chars.proofs.Blocks.{plain_whole}
-use Rattle.language.specs.Outcome.{Refusal, textTooLong, workTooShort, invalidUtf8, outsideSet, refusal_of}
+use Rattle.language.specs.Outcome.{Refusal, text_too_long, work_too_short, invalid_utf8, outside_set, refusal_of}
 
 module _ (t : List ℕ) (work : ℕ) where
-  pub too_long : 4194304 < length t → some textTooLong ≡ refusal_of t work
+  pub too_long : 4194304 < length t → some text_too_long ≡ refusal_of t work
   unfolding refusal_of
   too_long h = rw (refusal_of, lt-ltb 4194304 (length t) h)
 
   module _ (a : length t ≤ 4194304) where
-    pub work_too_short : work < 6 * length t + 6 → some workTooShort ≡ refusal_of t work
+    pub work_too_short_lem : work < 6 * length t + 6 → some work_too_short ≡ refusal_of t work
     unfolding refusal_of
-    work_too_short h = rw (refusal_of, le-ltb 4194304 (length t) a, lt-ltb work (6 * length t + 6) h)
+    work_too_short_lem h = rw (refusal_of, le-ltb 4194304 (length t) a, lt-ltb work (6 * length t + 6) h)
 
     pub all_plain : (n : ℕ) → 6 * length t + 6 ≤ work → n ≡ plain_up_to t → n ≡ length t → ◌≡◌ {A = Option Refusal} none (refusal_of t work)
     unfolding refusal_of
@@ -31,12 +31,12 @@ module _ (t : List ℕ) (work : ℕ) where
         rw (refusal_of, le-ltb 4194304 (length t) a, le-ltb work (6 * length t + 6) b, w.1, le-ltb (length t) (length t) (omega arith), w.0)
 
     module _ (b : 6 * length t + 6 ≤ work) (v : ℕ) (e : v ≡ valid_up_to t) where
-      pub not_utf8 : v < length t → some (invalidUtf8 v) ≡ refusal_of t work
+      pub not_utf8 : v < length t → some (invalid_utf8 v) ≡ refusal_of t work
       unfolding refusal_of
       not_utf8 h = rw (e, refusal_of, le-ltb 4194304 (length t) a, le-ltb work (6 * length t + 6) b, lt-ltb (valid_up_to t) (length t) (rw e at h))
 
       module _ (h : length t ≤ v) (o : Outside) (f : o ≡ first_outside t) where
-        pub outside : (i : ℕ) → o ≡ At i → some (outsideSet i) ≡ refusal_of t work
+        pub outside : (i : ℕ) → o ≡ At i → some (outside_set i) ≡ refusal_of t work
         unfolding refusal_of
         outside i g = rw (refusal_of, le-ltb 4194304 (length t) a, le-ltb work (6 * length t + 6) b, ← e, le-ltb v (length t) h, ← f, g)
 

@@ -9,12 +9,12 @@ use Rattle.answer.specs.declared.Answer.TheVariants.{Machine, Diagnostics, Refus
 
 -- a refusal: rows 1 to 6
 abbrev pub refusal_in : Refusal → O.Refusal
-refusal_in TextTooLong = O.textTooLong
-refusal_in WorkTooShort = O.workTooShort
-refusal_in (InvalidUtf8 o) = O.invalidUtf8 o
-refusal_in (OutsideSet o) = O.outsideSet o
-refusal_in (LogTooShort n) = O.logTooShort n
-refusal_in (SheetTooShort n) = O.sheetTooShort n
+refusal_in TextTooLong = O.text_too_long
+refusal_in WorkTooShort = O.work_too_short
+refusal_in (InvalidUtf8 o) = O.invalid_utf8 o
+refusal_in (OutsideSet o) = O.outside_set o
+refusal_in (LogTooShort n) = O.log_too_short n
+refusal_in (SheetTooShort n) = O.sheet_too_short n
 
 -- its number
 abbrev pub refusal_number : Refusal → ℕ

@@ -12,7 +12,7 @@ use Rattle.lexer.specs.declared.Span.{Span as Place}
 use Rattle.tokens.specs.declared.Token.{Token}
 use Rattle.parser.specs.Row.{peek}
 use Rattle.language.specs.Machine.{Located}
-use Rattle.language.specs.Lines.{RawTransition, Item, machineItem, inputItem, kind_item, output_item, tapes_item, statesItem, finalItem, inputAlphabetItem, tapeAlphabetItem, blank_item, start_item, transition_item, Line, blank_line, comment_line, item_line, error_line}
+use Rattle.language.specs.Lines.{RawTransition, Item, machine_item, input_item, kind_item, output_item, tapes_item, states_item, final_item, input_alphabet_item, tape_alphabet_item, blank_item, start_item, transition_item, Line, blank_line, comment_line, item_line, error_line}
 use Rattle.language.specs.Assembly as A
 use Rattle.language.specs.Layout as L
 use Rattle.language.proofs.Every.{Every}
@@ -97,17 +97,17 @@ item_narrow : {text : List ℕ} (ts : List Token) (i : ℕ) (k : Item Place) (q 
     → Every (Narrow (length ts)) b.rules → Every (Narrow (length ts)) (A.attach_item (A.parts k).rule seen old block p c b).rules
 unfolding A.attach_item A.add_header A.add_rule A.parts
 item_narrow ts i (transition_item r) q c o p seen old block b m h = (rule_narrow ts i r m.rule, h)
-item_narrow ts i (machineItem x) q c o p seen old block b m h = h
+item_narrow ts i (machine_item x) q c o p seen old block b m h = h
 item_narrow ts i (kind_item x) q c o p seen old block b m h = h
-item_narrow ts i (inputItem x) q c o p seen old block b m h = h
+item_narrow ts i (input_item x) q c o p seen old block b m h = h
 item_narrow ts i (output_item x) q c o p seen old block b m h = h
 item_narrow ts i (tapes_item x) q c o p seen old block b m h = h
-item_narrow ts i (statesItem x) q c o p seen old block b m h = h
-item_narrow ts i (inputAlphabetItem x) q c o p seen old block b m h = h
-item_narrow ts i (tapeAlphabetItem x) q c o p seen old block b m h = h
+item_narrow ts i (states_item x) q c o p seen old block b m h = h
+item_narrow ts i (input_alphabet_item x) q c o p seen old block b m h = h
+item_narrow ts i (tape_alphabet_item x) q c o p seen old block b m h = h
 item_narrow ts i (blank_item x) q c o p seen old block b m h = h
 item_narrow ts i (start_item x) q c o p seen old block b m h = h
-item_narrow ts i (finalItem x) q c o p seen old block b m h = h
+item_narrow ts i (final_item x) q c o p seen old block b m h = h
 
 end_narrow : (n : ℕ) (seen : Bool) (cs : Notes) → Every (Narrow n) (A.at_end seen cs).rules
 unfolding A.at_end

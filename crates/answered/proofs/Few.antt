@@ -12,8 +12,8 @@ use Rattle.lexer.specs.Tokens.{Token, Span, tokens}
 use Rattle.lexer.proofs.Writes.{tokens_of_bytes}
 use Rattle.language.specs.Machine.{Located, Kind}
 use Rattle.language.specs.Parser.{Result, ok, fail, Parser, then, ◌>>=◌, give, unexpected, is_sign, goes_on, branch, go_on, one, expect, opened, at_most, entries, set}
-use Rattle.language.specs.Lines.{RawSymbol, RawTransition, Item, machineItem, inputItem, kind_item, output_item, tapes_item, statesItem, finalItem, inputAlphabetItem, tapeAlphabetItem, blank_item, start_item, transition_item, Line, blank_line, comment_line, item_line, error_line, state_in, word_in, Keyword, machineWord, kindWord, inputWord, outputWord, tapesWord, statesWord, sigmaWord, gammaWord, blankWord, startWord, finalWord, deltaWord, keywords, kinds, outputs, transition, OutputWord, choice, string, numeral, symbol, state, output, item_of, item, Row, Ending, lineFeed, goesBy, remark, ending_of, in_front, rows, finished, empty_line, line_from, line_of, lines, covering, read_lines}
-use Rattle.language.specs.Assembly.{parts, items, first, found, or_else, finals_in, Body, RuleLine, at_end, attach_item, attach, body_of, combinations, verdict, Verdict, expands, wrongArity, tooMany, Diagnostic, diagnostic, line_errors, declaration, earlier, tapes_error, declaration_error, declaration_errors, unknown_error, listed_at, final_error, final_errors, rule_errors, states_in, diagnostics_of}
+use Rattle.language.specs.Lines.{RawSymbol, RawTransition, Item, machine_item, input_item, kind_item, output_item, tapes_item, states_item, final_item, input_alphabet_item, tape_alphabet_item, blank_item, start_item, transition_item, Line, blank_line, comment_line, item_line, error_line, state_in, word_in, Keyword, machine_word, kind_word, input_word, output_word, tapes_word, states_word, sigma_word, gamma_word, blank_word, start_word, final_word, delta_word, keywords, kinds, outputs, transition, OutputWord, choice, string, numeral, symbol, state, output, item_of, item, Row, Ending, line_feed, goes_by, remark, ending_of, in_front, rows, finished, empty_line, line_from, line_of, lines, covering, read_lines}
+use Rattle.language.specs.Assembly.{parts, items, first, found, or_else, finals_in, Body, RuleLine, at_end, attach_item, attach, body_of, combinations, verdict, Verdict, expands, wrong_arity, too_many, Diagnostic, diagnostic, line_errors, declaration, earlier, tapes_error, declaration_error, declaration_errors, unknown_error, listed_at, final_error, final_errors, rule_errors, states_in, diagnostics_of}
 use Rattle.language.proofs.Entries.{Below, Takes, one-takes}
 
 -- ---- the names of a set: each takes a token, and so does what stands behind it
@@ -95,22 +95,22 @@ module _ {P : Type 0} (stop : P) where
 
   behind-keyword : (k : Keyword) (ts : List (Token P)) → Ends (Pays (length ts)) (item_of stop k ts)
   unfolding item_of ◌>>=◌ parts or_else
-  behind-keyword machineWord ts = plain (length ts) (string stop ts) machineItem (λ a. refl)
-  behind-keyword kindWord ts = plain (length ts) (choice stop kinds ts) (λ (k : Located P Kind). kind_item k.value) (λ a. refl)
-  behind-keyword inputWord ts = plain (length ts) (string stop ts) inputItem (λ a. refl)
-  behind-keyword outputWord ts = plain-behind (length ts) (choice stop outputs ts) (λ (w : Located P OutputWord). output stop w.value) output_item (λ a. refl)
-  behind-keyword tapesWord ts = plain-behind (length ts) (expect stop 0x3D ts) (λ _. numeral stop) tapes_item (λ a. refl)
-  behind-keyword statesWord ts = plain-behind (length ts) (expect stop 0x3D ts) (λ _. set stop (state stop)) statesItem (λ a. refl)
-  behind-keyword sigmaWord ts = plain-behind (length ts) (expect stop 0x3D ts) (λ _. set stop (symbol stop)) inputAlphabetItem (λ a. refl)
-  behind-keyword gammaWord ts = plain-behind (length ts) (expect stop 0x3D ts) (λ _. set stop (symbol stop)) tapeAlphabetItem (λ a. refl)
-  behind-keyword blankWord ts = plain-behind (length ts) (expect stop 0x3D ts) (λ _. symbol stop) (λ (s : Located P RawSymbol). blank_item s.value) (λ a. refl)
-  behind-keyword startWord ts = plain-behind (length ts) (expect stop 0x3D ts) (λ _. state stop) start_item (λ a. refl)
-  behind-keyword deltaWord ts = plain (length ts) (transition stop ts) transition_item (λ a. refl)
-  behind-keyword finalWord ts =
+  behind-keyword machine_word ts = plain (length ts) (string stop ts) machine_item (λ a. refl)
+  behind-keyword kind_word ts = plain (length ts) (choice stop kinds ts) (λ (k : Located P Kind). kind_item k.value) (λ a. refl)
+  behind-keyword input_word ts = plain (length ts) (string stop ts) input_item (λ a. refl)
+  behind-keyword output_word ts = plain-behind (length ts) (choice stop outputs ts) (λ (w : Located P OutputWord). output stop w.value) output_item (λ a. refl)
+  behind-keyword tapes_word ts = plain-behind (length ts) (expect stop 0x3D ts) (λ _. numeral stop) tapes_item (λ a. refl)
+  behind-keyword states_word ts = plain-behind (length ts) (expect stop 0x3D ts) (λ _. set stop (state stop)) states_item (λ a. refl)
+  behind-keyword sigma_word ts = plain-behind (length ts) (expect stop 0x3D ts) (λ _. set stop (symbol stop)) input_alphabet_item (λ a. refl)
+  behind-keyword gamma_word ts = plain-behind (length ts) (expect stop 0x3D ts) (λ _. set stop (symbol stop)) tape_alphabet_item (λ a. refl)
+  behind-keyword blank_word ts = plain-behind (length ts) (expect stop 0x3D ts) (λ _. symbol stop) (λ (s : Located P RawSymbol). blank_item s.value) (λ a. refl)
+  behind-keyword start_word ts = plain-behind (length ts) (expect stop 0x3D ts) (λ _. state stop) start_item (λ a. refl)
+  behind-keyword delta_word ts = plain (length ts) (transition stop ts) transition_item (λ a. refl)
+  behind-keyword final_word ts =
       behind_fewer (Pays (length ts)) (length ts) (expect stop 0x3D ts) _ ((one-takes stop (is_sign 0x3D) unexpected).takes ts)
       (λ b us h. listed (length ts) (set stop (state stop) us) (length us) (omega arith) (set_twice stop (one-takes stop state_in unexpected) us))
     where
-      listed : (n : ℕ) (r : Result P (List (Located P (List ℕ)))) (m : ℕ) → m ≤ n → Ends (Twice m) r → Ends (Pays n) (then r (λ q. give (finalItem q)))
+      listed : (n : ℕ) (r : Result P (List (Located P (List ℕ)))) (m : ℕ) → m ≤ n → Ends (Twice m) r → Ends (Pays n) (then r (λ q. give (final_item q)))
       listed n (ok l us) m h e = unfold then parts or_else in omega arith
       listed n (fail x y) m h e = unfold then in tt
 
@@ -162,9 +162,9 @@ module _ {P : Type 0} where
 
     front-size : (k : Ending) (t : Token P) (rs : List (Row P)) → size (in_front k t rs) ≤ suc (size rs)
     unfolding in_front size
-    front-size lineFeed t rs = omega arith
-    front-size goesBy t [] = omega arith
-    front-size goesBy t (r ∷ rs) = omega arith
+    front-size line_feed t rs = omega arith
+    front-size goes_by t [] = omega arith
+    front-size goes_by t (r ∷ rs) = omega arith
     front-size (remark s) t [] = omega arith
     front-size (remark s) t (r ∷ rs) = omega arith
 
@@ -209,15 +209,15 @@ module _ {P : Type 0} where
   -- a rule is no declaration
   one_each : (before : List (Located P (Item P))) (i : Item P) (p : P) → length (declaration_error before (record { value = i; place = p })) + rule_in (parts i).rule ≤ 1
   unfolding parts rule_in
-  one_each before (machineItem x) p = omega (arith, declaration-one before (record { value = machineItem x; place = p }))
-  one_each before (inputItem x) p = omega (arith, declaration-one before (record { value = inputItem x; place = p }))
+  one_each before (machine_item x) p = omega (arith, declaration-one before (record { value = machine_item x; place = p }))
+  one_each before (input_item x) p = omega (arith, declaration-one before (record { value = input_item x; place = p }))
   one_each before (kind_item x) p = omega (arith, declaration-one before (record { value = kind_item x; place = p }))
   one_each before (output_item x) p = omega (arith, declaration-one before (record { value = output_item x; place = p }))
   one_each before (tapes_item x) p = omega (arith, declaration-one before (record { value = tapes_item x; place = p }))
-  one_each before (statesItem x) p = omega (arith, declaration-one before (record { value = statesItem x; place = p }))
-  one_each before (finalItem x) p = omega (arith, declaration-one before (record { value = finalItem x; place = p }))
-  one_each before (inputAlphabetItem x) p = omega (arith, declaration-one before (record { value = inputAlphabetItem x; place = p }))
-  one_each before (tapeAlphabetItem x) p = omega (arith, declaration-one before (record { value = tapeAlphabetItem x; place = p }))
+  one_each before (states_item x) p = omega (arith, declaration-one before (record { value = states_item x; place = p }))
+  one_each before (final_item x) p = omega (arith, declaration-one before (record { value = final_item x; place = p }))
+  one_each before (input_alphabet_item x) p = omega (arith, declaration-one before (record { value = input_alphabet_item x; place = p }))
+  one_each before (tape_alphabet_item x) p = omega (arith, declaration-one before (record { value = tape_alphabet_item x; place = p }))
   one_each before (blank_item x) p = omega (arith, declaration-one before (record { value = blank_item x; place = p }))
   one_each before (start_item x) p = omega (arith, declaration-one before (record { value = start_item x; place = p }))
   one_each before (transition_item x) p = unfold declaration_error declaration earlier tapes_error parts rule_in in omega arith
@@ -294,13 +294,13 @@ module _ {P : Type 0} where
       go : (v : Verdict) (cut : Bool) → ((m : ℕ) (b : Bool) → length (rule_errors m b rs) ≤ length rs)
           → length {A = Diagnostic P} (elim v [
             | expands ↦ rule_errors (n + combinations r.raw.read) cut rs
-            | wrongArity ↦ diagnostic 10 r.line none ∷ rule_errors n cut rs
-            | tooMany ↦ elim cut [ true ↦ rule_errors n true rs | false ↦ diagnostic 9 r.line none ∷ rule_errors n true rs ]
+            | wrong_arity ↦ diagnostic 10 r.line none ∷ rule_errors n cut rs
+            | too_many ↦ elim cut [ true ↦ rule_errors n true rs | false ↦ diagnostic 9 r.line none ∷ rule_errors n true rs ]
           ]) ≤ suc (length rs)
       go expands cut h = omega (arith, h (n + combinations r.raw.read) cut)
-      go wrongArity cut h = omega (arith, h n cut)
-      go tooMany true h = omega (arith, h n true)
-      go tooMany false h = omega (arith, h n true)
+      go wrong_arity cut h = omega (arith, h n cut)
+      go too_many true h = omega (arith, h n true)
+      go too_many false h = omega (arith, h n true)
 
   diagnostics-found : (ls : List (Line P)) → length (diagnostics_of ls) ≤ found_in ls
   unfolding diagnostics_of body_of

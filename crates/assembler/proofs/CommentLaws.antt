@@ -8,7 +8,7 @@ use borrow.Author.Tests.{ne_eqb, eqb-true}
 use lib.Dec.{eqb}
 use lib.ListN.{length, take, drop, set}
 use Rattle.diag.proofs.Cases.{by_test_lem}
-use Rattle.lexer.specs.Tokens.{TokenKind, word, number, quoted, str, sign, comment, newline, unterminatedString, unterminatedQuote, Span, Token as Lexed}
+use Rattle.lexer.specs.Tokens.{TokenKind, word, number, quoted, str, sign, comment, newline, unterminated_string, unterminated_quote, Span, Token as Lexed}
 use Rattle.lexer.specs.Words.{kind_number, sign_number}
 use Rattle.tokens.specs.declared.Token.{Token}
 use Rattle.parser.specs.declared.Parts.{Parts}
@@ -19,7 +19,7 @@ use Rattle.parser.specs.declared.Line.TheVariants.{Blank as Empty, Comment, Item
 use Rattle.parser.specs.Row.{peek, ended}
 use Rattle.parser.specs.Lines.{line, line_end}
 use Rattle.parser.specs.Meaning.{token_of, Closed, AllLexed}
-use Rattle.language.specs.Lines.{lineFeed, goesBy, remark, ending_of}
+use Rattle.language.specs.Lines.{line_feed, goes_by, remark, ending_of}
 use Rattle.assembler.specs.Entries.{behind}
 use Rattle.assembler.specs.Feeds.{CommentsLast}
 use Rattle.assembler.specs.Entered.{item_entry, failed_entry, counts_of, parts_of, with_parts, enter_as, enter_line, entered_from, entered}
@@ -36,7 +36,7 @@ sign_low c =
     low (eqb c 0x28) 4 _ (omega arith) (low (eqb c 0x29) 5 _ (omega arith) (low (eqb c 0x7B) 6 _ (omega arith) (low (eqb c 0x7D) 7 _ (omega arith)
     (low (eqb c 0x2C) 8 _ (omega arith) (low (eqb c 0x3D) 9 _ (omega arith) (low (eqb c 0x2A) 10 11 (omega arith) (omega arith)))))))
 
-feed_kind : (k : TokenKind) → ending_of k ≡ lineFeed → eqb (kind_number k) 13 ≡ true
+feed_kind : (k : TokenKind) → ending_of k ≡ line_feed → eqb (kind_number k) 13 ≡ true
 unfolding ending_of kind_number
 feed_kind newline e = refl
 feed_kind (comment s) e = cc
@@ -45,8 +45,8 @@ feed_kind (number w) e = cc
 feed_kind (quoted c) e = cc
 feed_kind (str s) e = cc
 feed_kind (sign c) e = cc
-feed_kind unterminatedString e = cc
-feed_kind unterminatedQuote e = cc
+feed_kind unterminated_string e = cc
+feed_kind unterminated_quote e = cc
 
 next_feeds : (k : TokenKind) (ts : List (Lexed Span)) → Closed (ending_of k) ts → eqb (kind_number k) 12 ≡ true → eqb (peek (map token_of ts) 0).kind 13 ≡ true
 unfolding ending_of kind_number token_of
@@ -58,8 +58,8 @@ next_feeds (number w) ts c e = cc
 next_feeds (quoted x) ts c e = cc
 next_feeds (str s) ts c e = cc
 next_feeds (sign x) ts c e = absurd (omega (arith, sign_low x, eqb-true (sign_number x) 12 e))
-next_feeds unterminatedString ts c e = cc
-next_feeds unterminatedQuote ts c e = cc
+next_feeds unterminated_string ts c e = cc
+next_feeds unterminated_quote ts c e = cc
 
 pub tokens_last : (ts : List (Lexed Span)) → AllLexed ts → CommentsLast (map token_of ts)
 unfolding token_of

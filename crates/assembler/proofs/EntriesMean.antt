@@ -12,7 +12,7 @@ use lib.ListN.{length, get_or, take, drop, set, length-append, length-take, leng
 use lib.Seq.{drop-drop, get_or-drop, get_or-take, take-add, take-suc, drop_at, length-take-le, drop-cons, get_or-set_same, get_or-set_other, ext_get_or}
 use Rattle.diag.proofs.Cases.{by_test_lem}
 use Rattle.lexer.specs.declared.Span.{Span as Place}
-use Rattle.lexer.specs.Tokens.{TokenKind, word, number, quoted, str, sign, comment, newline, unterminatedString, unterminatedQuote, Token as Lexed}
+use Rattle.lexer.specs.Tokens.{TokenKind, word, number, quoted, str, sign, comment, newline, unterminated_string, unterminated_quote, Token as Lexed}
 use Rattle.lexer.specs.Words.{kind_number, token_value, value, sign_number}
 use Rattle.lexer.proofs.Placed.{Placed, All, all-at}
 use Rattle.tokens.specs.declared.Token.{Token}
@@ -43,7 +43,7 @@ use Rattle.assembler.proofs.LineLaws.{parts-other}
 use Rattle.assembler.proofs.EnteredLaws.{enter-length, parts_first, entry_behind, enter-drop, entered-one}
 use Rattle.assembler.proofs.Braces.{balanced}
 use Rattle.assembler.proofs.Inside.{PartsIn, ItemIn, LineIn, line_in}
-use Rattle.assembler.proofs.Means.{number as itemOrder, TapesMean, TapesOf, ItemMeans, Means, AllMean, no_lines, one_line}
+use Rattle.assembler.proofs.Means.{number as item_order, TapesMean, TapesOf, ItemMeans, Means, AllMean, no_lines, one_line}
 use Rattle.assembler.proofs.RulesMean.{RuleMeans, RulesOf}
 use Rattle.assembler.proofs.FinalsMean.{AllNames, NamesIn}
 use Rattle.assembler.proofs.SetsMean.{AllSound, sets_mean}
@@ -193,8 +193,8 @@ number-kind (str w) p q e = absurd (let z : ◌≡◌ {A = ℕ} 0 1 = cc in omeg
 number-kind (sign c) p q e = absurd (let z : ◌≡◌ {A = ℕ} 0 1 = cc in omega arith)
 number-kind (comment w) p q e = absurd (let z : ◌≡◌ {A = ℕ} 0 1 = cc in omega arith)
 number-kind newline p q e = absurd (let z : ◌≡◌ {A = ℕ} 0 1 = cc in omega arith)
-number-kind unterminatedString p q e = absurd (let z : ◌≡◌ {A = ℕ} 0 1 = cc in omega arith)
-number-kind unterminatedQuote p q e = absurd (let z : ◌≡◌ {A = ℕ} 0 1 = cc in omega arith)
+number-kind unterminated_string p q e = absurd (let z : ◌≡◌ {A = ℕ} 0 1 = cc in omega arith)
+number-kind unterminated_quote p q e = absurd (let z : ◌≡◌ {A = ℕ} 0 1 = cc in omega arith)
 
 number_large : (t : Lexed Place) → Sound t → eqb (token_of t).kind 1 ≡ true → ltb 255 (token_of t).value ≡ ltb 255 (or_else 0 (number_in t.kind))
 number_large t s e = number-kind t.kind t.place t.inner (sym (sees_number t.kind t.place t.inner s) ∙ number_view t e)
@@ -468,8 +468,8 @@ module _ (text : List ℕ) (E : List Token) (i : ℕ) (t : Lexed Place) (l' : To
     abbrev pub meant : Item Place
     meant = item_means l x.kind x.value x.end x.parts
 
-    pub order_is : (k : ItemKind) → itemOrder (item_means l k x.value x.end x.parts) ≡ item_number k
-    unfolding item_means itemOrder item_number
+    pub order_is : (k : ItemKind) → item_order (item_means l k x.value x.end x.parts) ≡ item_number k
+    unfolding item_means item_order item_number
     order_is Machine = refl
     order_is Kind = refl
     order_is Input = refl

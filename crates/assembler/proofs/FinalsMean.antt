@@ -23,7 +23,7 @@ use Rattle.tokens.specs.declared.Token.{Token}
 use Rattle.parser.specs.Row.{peek}
 use Rattle.parser.specs.Meaning.{token_of}
 use Rattle.language.specs.Machine.{Located}
-use Rattle.language.specs.Lines.{Item, machineItem, inputItem, kind_item, output_item, tapes_item, statesItem, finalItem, inputAlphabetItem, tapeAlphabetItem, blank_item, start_item, transition_item, Line, blank_line, comment_line, item_line, error_line}
+use Rattle.language.specs.Lines.{Item, machine_item, input_item, kind_item, output_item, tapes_item, states_item, final_item, input_alphabet_item, tape_alphabet_item, blank_item, start_item, transition_item, Line, blank_line, comment_line, item_line, error_line}
 use Rattle.language.specs.Assembly as A
 use Rattle.language.specs.Layout.{or_none}
 use Rattle.assembler.specs.Rows.{place_of}
@@ -159,7 +159,7 @@ module _ (text : List ℕ) (ts : List Token) where
       unfolding record_of or_none
       again j p m = ap (λ (a : Span). with_related (error 11 a) (place_of (peek ts j))) (name-place text (peek ts x) f name) ∙ ap (with_related (error 11 (place_in f.place))) m
 
-      name_mean : (before : List ℕ) (listedNames : List (Located Place (List ℕ))) → AllNames text ts before listedNames → final_error text ts d qs before x ≡ records_of (A.final_error q listedNames f)
+      name_mean : (before : List ℕ) (listed_names : List (Located Place (List ℕ))) → AllNames text ts before listed_names → final_error text ts d qs before x ≡ records_of (A.final_error q listed_names f)
       unfolding records_of
       name_mean before ns all = go (listed text ts x before) (A.listed_at f.value ns) refl refl (listed_mean x f name before ns all)
         where
@@ -230,15 +230,15 @@ module _ (text : List ℕ) (ts : List Token) where
   Names = List (Located Place (List ℕ))
 
   abbrev pub NamesIn : Entry → Item Place → Type 0
-  NamesIn e (statesItem q) = AllNames text ts (names_from (suc e.at) e.rest) q
-  NamesIn e (finalItem q) = AllNames text ts (names_from (suc e.at) e.rest) q
-  NamesIn e (machineItem x) = Unit {0}
+  NamesIn e (states_item q) = AllNames text ts (names_from (suc e.at) e.rest) q
+  NamesIn e (final_item q) = AllNames text ts (names_from (suc e.at) e.rest) q
+  NamesIn e (machine_item x) = Unit {0}
   NamesIn e (kind_item x) = Unit {0}
-  NamesIn e (inputItem x) = Unit {0}
+  NamesIn e (input_item x) = Unit {0}
   NamesIn e (output_item x) = Unit {0}
   NamesIn e (tapes_item x) = Unit {0}
-  NamesIn e (inputAlphabetItem x) = Unit {0}
-  NamesIn e (tapeAlphabetItem x) = Unit {0}
+  NamesIn e (input_alphabet_item x) = Unit {0}
+  NamesIn e (tape_alphabet_item x) = Unit {0}
   NamesIn e (blank_item x) = Unit {0}
   NamesIn e (start_item x) = Unit {0}
   NamesIn e (transition_item x) = Unit {0}
@@ -255,59 +255,59 @@ module _ (text : List ℕ) (ts : List Token) where
   selects_states = record { others = others; names = names; itself = itself; listed = listed }
     where
       others : (i : Item Place) → (number i ≡ 5 → ⊥) → (A.parts i).states ≡ none
-      others (machineItem x) h = refl
+      others (machine_item x) h = refl
       others (kind_item x) h = refl
-      others (inputItem x) h = refl
+      others (input_item x) h = refl
       others (output_item x) h = refl
       others (tapes_item x) h = refl
-      others (statesItem x) h = absurd (h refl)
-      others (inputAlphabetItem x) h = refl
-      others (tapeAlphabetItem x) h = refl
+      others (states_item x) h = absurd (h refl)
+      others (input_alphabet_item x) h = refl
+      others (tape_alphabet_item x) h = refl
       others (blank_item x) h = refl
       others (start_item x) h = refl
-      others (finalItem x) h = refl
+      others (final_item x) h = refl
       others (transition_item x) h = refl
 
       names : (i : Item Place) → number i ≡ 5 → Names
-      names (machineItem x) h = []
+      names (machine_item x) h = []
       names (kind_item x) h = []
-      names (inputItem x) h = []
+      names (input_item x) h = []
       names (output_item x) h = []
       names (tapes_item x) h = []
-      names (statesItem x) h = x
-      names (inputAlphabetItem x) h = []
-      names (tapeAlphabetItem x) h = []
+      names (states_item x) h = x
+      names (input_alphabet_item x) h = []
+      names (tape_alphabet_item x) h = []
       names (blank_item x) h = []
       names (start_item x) h = []
-      names (finalItem x) h = []
+      names (final_item x) h = []
       names (transition_item x) h = []
 
       itself : (i : Item Place) (h : number i ≡ 5) → (A.parts i).states ≡ some (names i h)
-      itself (machineItem x) h = absurd (omega arith)
+      itself (machine_item x) h = absurd (omega arith)
       itself (kind_item x) h = absurd (omega arith)
-      itself (inputItem x) h = absurd (omega arith)
+      itself (input_item x) h = absurd (omega arith)
       itself (output_item x) h = absurd (omega arith)
       itself (tapes_item x) h = absurd (omega arith)
-      itself (statesItem x) h = refl
-      itself (inputAlphabetItem x) h = absurd (omega arith)
-      itself (tapeAlphabetItem x) h = absurd (omega arith)
+      itself (states_item x) h = refl
+      itself (input_alphabet_item x) h = absurd (omega arith)
+      itself (tape_alphabet_item x) h = absurd (omega arith)
       itself (blank_item x) h = absurd (omega arith)
       itself (start_item x) h = absurd (omega arith)
-      itself (finalItem x) h = absurd (omega arith)
+      itself (final_item x) h = absurd (omega arith)
       itself (transition_item x) h = absurd (omega arith)
 
       listed : (e : Entry) (i : Item Place) (h : number i ≡ 5) → NamesIn e i → AllNames text ts (names_from (suc e.at) e.rest) (names i h)
-      listed e (machineItem x) h n = absurd (omega arith)
+      listed e (machine_item x) h n = absurd (omega arith)
       listed e (kind_item x) h n = absurd (omega arith)
-      listed e (inputItem x) h n = absurd (omega arith)
+      listed e (input_item x) h n = absurd (omega arith)
       listed e (output_item x) h n = absurd (omega arith)
       listed e (tapes_item x) h n = absurd (omega arith)
-      listed e (statesItem x) h n = n
-      listed e (inputAlphabetItem x) h n = absurd (omega arith)
-      listed e (tapeAlphabetItem x) h n = absurd (omega arith)
+      listed e (states_item x) h n = n
+      listed e (input_alphabet_item x) h n = absurd (omega arith)
+      listed e (tape_alphabet_item x) h n = absurd (omega arith)
       listed e (blank_item x) h n = absurd (omega arith)
       listed e (start_item x) h n = absurd (omega arith)
-      listed e (finalItem x) h n = absurd (omega arith)
+      listed e (final_item x) h n = absurd (omega arith)
       listed e (transition_item x) h n = absurd (omega arith)
 
   selects_finals : Selects 10 (λ p. p.finals)
@@ -315,59 +315,59 @@ module _ (text : List ℕ) (ts : List Token) where
   selects_finals = record { others = others; names = names; itself = itself; listed = listed }
     where
       others : (i : Item Place) → (number i ≡ 10 → ⊥) → (A.parts i).finals ≡ none
-      others (machineItem x) h = refl
+      others (machine_item x) h = refl
       others (kind_item x) h = refl
-      others (inputItem x) h = refl
+      others (input_item x) h = refl
       others (output_item x) h = refl
       others (tapes_item x) h = refl
-      others (statesItem x) h = refl
-      others (inputAlphabetItem x) h = refl
-      others (tapeAlphabetItem x) h = refl
+      others (states_item x) h = refl
+      others (input_alphabet_item x) h = refl
+      others (tape_alphabet_item x) h = refl
       others (blank_item x) h = refl
       others (start_item x) h = refl
-      others (finalItem x) h = absurd (h refl)
+      others (final_item x) h = absurd (h refl)
       others (transition_item x) h = refl
 
       names : (i : Item Place) → number i ≡ 10 → Names
-      names (machineItem x) h = []
+      names (machine_item x) h = []
       names (kind_item x) h = []
-      names (inputItem x) h = []
+      names (input_item x) h = []
       names (output_item x) h = []
       names (tapes_item x) h = []
-      names (statesItem x) h = []
-      names (inputAlphabetItem x) h = []
-      names (tapeAlphabetItem x) h = []
+      names (states_item x) h = []
+      names (input_alphabet_item x) h = []
+      names (tape_alphabet_item x) h = []
       names (blank_item x) h = []
       names (start_item x) h = []
-      names (finalItem x) h = x
+      names (final_item x) h = x
       names (transition_item x) h = []
 
       itself : (i : Item Place) (h : number i ≡ 10) → (A.parts i).finals ≡ some (names i h)
-      itself (machineItem x) h = absurd (omega arith)
+      itself (machine_item x) h = absurd (omega arith)
       itself (kind_item x) h = absurd (omega arith)
-      itself (inputItem x) h = absurd (omega arith)
+      itself (input_item x) h = absurd (omega arith)
       itself (output_item x) h = absurd (omega arith)
       itself (tapes_item x) h = absurd (omega arith)
-      itself (statesItem x) h = absurd (omega arith)
-      itself (inputAlphabetItem x) h = absurd (omega arith)
-      itself (tapeAlphabetItem x) h = absurd (omega arith)
+      itself (states_item x) h = absurd (omega arith)
+      itself (input_alphabet_item x) h = absurd (omega arith)
+      itself (tape_alphabet_item x) h = absurd (omega arith)
       itself (blank_item x) h = absurd (omega arith)
       itself (start_item x) h = absurd (omega arith)
-      itself (finalItem x) h = refl
+      itself (final_item x) h = refl
       itself (transition_item x) h = absurd (omega arith)
 
       listed : (e : Entry) (i : Item Place) (h : number i ≡ 10) → NamesIn e i → AllNames text ts (names_from (suc e.at) e.rest) (names i h)
-      listed e (machineItem x) h n = absurd (omega arith)
+      listed e (machine_item x) h n = absurd (omega arith)
       listed e (kind_item x) h n = absurd (omega arith)
-      listed e (inputItem x) h n = absurd (omega arith)
+      listed e (input_item x) h n = absurd (omega arith)
       listed e (output_item x) h n = absurd (omega arith)
       listed e (tapes_item x) h n = absurd (omega arith)
-      listed e (statesItem x) h n = absurd (omega arith)
-      listed e (inputAlphabetItem x) h n = absurd (omega arith)
-      listed e (tapeAlphabetItem x) h n = absurd (omega arith)
+      listed e (states_item x) h n = absurd (omega arith)
+      listed e (input_alphabet_item x) h n = absurd (omega arith)
+      listed e (tape_alphabet_item x) h n = absurd (omega arith)
       listed e (blank_item x) h n = absurd (omega arith)
       listed e (start_item x) h n = absurd (omega arith)
-      listed e (finalItem x) h n = n
+      listed e (final_item x) h n = n
       listed e (transition_item x) h n = absurd (omega arith)
 
   -- the index where the search for the first such item ends

@@ -22,7 +22,7 @@ use Rattle.tokens.specs.declared.Token.{Token}
 use Rattle.parser.specs.Row.{peek}
 use Rattle.parser.specs.Meaning.{token_of}
 use Rattle.language.specs.Machine.{Located}
-use Rattle.language.specs.Lines.{RawTransition, Item, machineItem, inputItem, kind_item, output_item, tapes_item, statesItem, finalItem, inputAlphabetItem, tapeAlphabetItem, blank_item, start_item, transition_item, Line, blank_line, comment_line, item_line, error_line}
+use Rattle.language.specs.Lines.{RawTransition, Item, machine_item, input_item, kind_item, output_item, tapes_item, states_item, final_item, input_alphabet_item, tape_alphabet_item, blank_item, start_item, transition_item, Line, blank_line, comment_line, item_line, error_line}
 use Rattle.language.specs.Layout.{or_none}
 use Rattle.language.specs.Assembly as A
 use Rattle.assembler.specs.Rows.{place_of}
@@ -34,17 +34,17 @@ use Rattle.assembler.specs.Records.{place_in, record_of, records_of}
 -- ---- an entry and a line
 -- the items in the source's order
 unfoldable pub number : Item Place → ℕ
-number (machineItem x) = 0
+number (machine_item x) = 0
 number (kind_item x) = 1
-number (inputItem x) = 2
+number (input_item x) = 2
 number (output_item x) = 3
 number (tapes_item x) = 4
-number (statesItem x) = 5
-number (inputAlphabetItem x) = 6
-number (tapeAlphabetItem x) = 7
+number (states_item x) = 5
+number (input_alphabet_item x) = 6
+number (tape_alphabet_item x) = 7
 number (blank_item x) = 8
 number (start_item x) = 9
-number (finalItem x) = 10
+number (final_item x) = 10
 number (transition_item x) = 11
 
 -- the value of `tapes`, the third token
@@ -54,16 +54,16 @@ pub record TapesMean (e : Entry) (n : Located Place ℕ) : Type 0 where
 
 abbrev pub TapesOf : Entry → Item Place → Type 0
 TapesOf e (tapes_item n) = TapesMean e n
-TapesOf e (machineItem x) = Unit {0}
+TapesOf e (machine_item x) = Unit {0}
 TapesOf e (kind_item x) = Unit {0}
-TapesOf e (inputItem x) = Unit {0}
+TapesOf e (input_item x) = Unit {0}
 TapesOf e (output_item x) = Unit {0}
-TapesOf e (statesItem x) = Unit {0}
-TapesOf e (inputAlphabetItem x) = Unit {0}
-TapesOf e (tapeAlphabetItem x) = Unit {0}
+TapesOf e (states_item x) = Unit {0}
+TapesOf e (input_alphabet_item x) = Unit {0}
+TapesOf e (tape_alphabet_item x) = Unit {0}
 TapesOf e (blank_item x) = Unit {0}
 TapesOf e (start_item x) = Unit {0}
-TapesOf e (finalItem x) = Unit {0}
+TapesOf e (final_item x) = Unit {0}
 TapesOf e (transition_item x) = Unit {0}
 
 -- an entry of an item: what the pass over declarations asks of it, and what X says of it
@@ -92,17 +92,17 @@ records-append (x ∷ a) b = ap (λ (l : List Diagnostic). record_of x ∷ l) (r
 
 number_low : (i : Item Place) → number i ≤ 11
 unfolding number
-number_low (machineItem x) = omega arith
+number_low (machine_item x) = omega arith
 number_low (kind_item x) = omega arith
-number_low (inputItem x) = omega arith
+number_low (input_item x) = omega arith
 number_low (output_item x) = omega arith
 number_low (tapes_item x) = omega arith
-number_low (statesItem x) = omega arith
-number_low (inputAlphabetItem x) = omega arith
-number_low (tapeAlphabetItem x) = omega arith
+number_low (states_item x) = omega arith
+number_low (input_alphabet_item x) = omega arith
+number_low (tape_alphabet_item x) = omega arith
 number_low (blank_item x) = omega arith
 number_low (start_item x) = omega arith
-number_low (finalItem x) = omega arith
+number_low (final_item x) = omega arith
 number_low (transition_item x) = omega arith
 
 -- ---- failed lines
@@ -132,32 +132,32 @@ module _ (X : Entry → Item Place → Type 0) (ts : List Token) where
 -- the language's number of a name is an item's
 declared-number : (i : Item Place) → number i < 11 → A.declaration i ≡ some (number i)
 unfolding number A.declaration
-declared-number (machineItem x) h = refl
+declared-number (machine_item x) h = refl
 declared-number (kind_item x) h = refl
-declared-number (inputItem x) h = refl
+declared-number (input_item x) h = refl
 declared-number (output_item x) h = refl
 declared-number (tapes_item x) h = refl
-declared-number (statesItem x) h = refl
-declared-number (inputAlphabetItem x) h = refl
-declared-number (tapeAlphabetItem x) h = refl
+declared-number (states_item x) h = refl
+declared-number (input_alphabet_item x) h = refl
+declared-number (tape_alphabet_item x) h = refl
 declared-number (blank_item x) h = refl
 declared-number (start_item x) h = refl
-declared-number (finalItem x) h = refl
+declared-number (final_item x) h = refl
 declared-number (transition_item x) h = absurd (omega arith)
 
 rule-number : (i : Item Place) → (number i < 11 → ⊥) → (A.declaration i ≡ none) × ((A.parts i).tapes ≡ none)
 unfolding number A.declaration A.parts
-rule-number (machineItem x) h = absurd (h (omega arith))
+rule-number (machine_item x) h = absurd (h (omega arith))
 rule-number (kind_item x) h = absurd (h (omega arith))
-rule-number (inputItem x) h = absurd (h (omega arith))
+rule-number (input_item x) h = absurd (h (omega arith))
 rule-number (output_item x) h = absurd (h (omega arith))
 rule-number (tapes_item x) h = absurd (h (omega arith))
-rule-number (statesItem x) h = absurd (h (omega arith))
-rule-number (inputAlphabetItem x) h = absurd (h (omega arith))
-rule-number (tapeAlphabetItem x) h = absurd (h (omega arith))
+rule-number (states_item x) h = absurd (h (omega arith))
+rule-number (input_alphabet_item x) h = absurd (h (omega arith))
+rule-number (tape_alphabet_item x) h = absurd (h (omega arith))
 rule-number (blank_item x) h = absurd (h (omega arith))
 rule-number (start_item x) h = absurd (h (omega arith))
-rule-number (finalItem x) h = absurd (h (omega arith))
+rule-number (final_item x) h = absurd (h (omega arith))
 rule-number (transition_item x) h = (refl, refl)
 
 -- tapes above 255
@@ -182,17 +182,17 @@ tapes_large e n k t =
 
 tapes_mean : (e : Entry) (i : Item Place) → e.first.kind ≡ 16 + number i → TapesOf e i → tapes_error e ≡ records_of (A.tapes_error (A.parts i).tapes)
 unfolding number A.parts A.tapes_error records_of
-tapes_mean e (machineItem x) k t = not-tapes e (λ z. omega arith)
+tapes_mean e (machine_item x) k t = not-tapes e (λ z. omega arith)
 tapes_mean e (kind_item x) k t = not-tapes e (λ z. omega arith)
-tapes_mean e (inputItem x) k t = not-tapes e (λ z. omega arith)
+tapes_mean e (input_item x) k t = not-tapes e (λ z. omega arith)
 tapes_mean e (output_item x) k t = not-tapes e (λ z. omega arith)
 tapes_mean e (tapes_item n) k t = tapes_large e n k t
-tapes_mean e (statesItem x) k t = not-tapes e (λ z. omega arith)
-tapes_mean e (inputAlphabetItem x) k t = not-tapes e (λ z. omega arith)
-tapes_mean e (tapeAlphabetItem x) k t = not-tapes e (λ z. omega arith)
+tapes_mean e (states_item x) k t = not-tapes e (λ z. omega arith)
+tapes_mean e (input_alphabet_item x) k t = not-tapes e (λ z. omega arith)
+tapes_mean e (tape_alphabet_item x) k t = not-tapes e (λ z. omega arith)
 tapes_mean e (blank_item x) k t = not-tapes e (λ z. omega arith)
 tapes_mean e (start_item x) k t = not-tapes e (λ z. omega arith)
-tapes_mean e (finalItem x) k t = not-tapes e (λ z. omega arith)
+tapes_mean e (final_item x) k t = not-tapes e (λ z. omega arith)
 tapes_mean e (transition_item x) k t = not-tapes e (λ z. omega arith)
 
 -- the first declarations so far, as indices of entries and as places

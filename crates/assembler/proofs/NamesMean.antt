@@ -11,7 +11,7 @@ use lib.ListN.{length, get_or, take, drop}
 use lib.Seq.{drop-drop, get_or-drop}
 use Rattle.diag.proofs.Cases.{by_test_lem}
 use Rattle.lexer.specs.declared.Span.{Span as Place}
-use Rattle.lexer.specs.Tokens.{TokenKind, word, number, quoted, str, sign, comment, newline, unterminatedString, unterminatedQuote, Token as Lexed}
+use Rattle.lexer.specs.Tokens.{TokenKind, word, number, quoted, str, sign, comment, newline, unterminated_string, unterminated_quote, Token as Lexed}
 use Rattle.lexer.specs.Text.{codes, same}
 use Rattle.lexer.proofs.Placed.{Placed, All}
 use Rattle.tokens.specs.declared.Token.{Token}
@@ -68,8 +68,8 @@ state-word (str v) w e = absurd (let o : ◌≡◌ {A = ℕ} 0 1 = cc in omega a
 state-word (sign c) w e = absurd (let o : ◌≡◌ {A = ℕ} 0 1 = cc in omega arith)
 state-word (comment v) w e = absurd (let o : ◌≡◌ {A = ℕ} 0 1 = cc in omega arith)
 state-word newline w e = absurd (let o : ◌≡◌ {A = ℕ} 0 1 = cc in omega arith)
-state-word unterminatedString w e = absurd (let o : ◌≡◌ {A = ℕ} 0 1 = cc in omega arith)
-state-word unterminatedQuote w e = absurd (let o : ◌≡◌ {A = ℕ} 0 1 = cc in omega arith)
+state-word unterminated_string w e = absurd (let o : ◌≡◌ {A = ℕ} 0 1 = cc in omega arith)
+state-word unterminated_quote w e = absurd (let o : ◌≡◌ {A = ℕ} 0 1 = cc in omega arith)
 
 -- ---- the walk
 -- no line feed among tokens

@@ -17,7 +17,7 @@ use Rattle.lexer.specs.declared.Span.{Span as Place}
 use Rattle.tokens.specs.declared.Token.{Token}
 use Rattle.parser.specs.Row.{peek}
 use Rattle.language.specs.Machine.{Located}
-use Rattle.language.specs.Lines.{RawTransition, Item, machineItem, inputItem, kind_item, output_item, tapes_item, statesItem, finalItem, inputAlphabetItem, tapeAlphabetItem, blank_item, start_item, transition_item, Line, blank_line, comment_line, item_line, error_line}
+use Rattle.language.specs.Lines.{RawTransition, Item, machine_item, input_item, kind_item, output_item, tapes_item, states_item, final_item, input_alphabet_item, tape_alphabet_item, blank_item, start_item, transition_item, Line, blank_line, comment_line, item_line, error_line}
 use Rattle.language.specs.Assembly as A
 use Rattle.language.specs.Layout.{or_none}
 use Rattle.language.proofs.Counts as L
@@ -58,8 +58,8 @@ cut_test n c =
 -- what becomes of a rule, as the language has it
 abbrev verdict_of : ℕ → ℕ → A.Verdict → Verdict
 verdict_of n c A.expands = Expands (n + c)
-verdict_of n c A.wrongArity = WrongArity
-verdict_of n c A.tooMany = TooMany
+verdict_of n c A.wrong_arity = WrongArity
+verdict_of n c A.too_many = TooMany
 
 verdict_mean : (n : ℕ) (e : Entry) (r : RawTransition Place) → e.first.kind ≡ 27 → RuleMeans e r → verdict n e ≡ verdict_of n (A.combinations r.read) (A.verdict n r)
 unfolding verdict A.verdict
@@ -70,7 +70,7 @@ verdict_mean n e r k m =
   where
     go : (a b : Bool) → leb (n + A.combinations r.read) 262144 ≡ b
         → cond a (cond (leb (n + combinations (read_part e)) 262144) (Expands (n + combinations (read_part e))) TooMany) WrongArity
-        ≡ verdict_of n (A.combinations r.read) (elim a [ false ↦ A.wrongArity | true ↦ elim (leb (n + A.combinations r.read) 262144) [ true ↦ A.expands | false ↦ A.tooMany ] ])
+        ≡ verdict_of n (A.combinations r.read) (elim a [ false ↦ A.wrong_arity | true ↦ elim (leb (n + A.combinations r.read) 262144) [ true ↦ A.expands | false ↦ A.too_many ] ])
     go false b t = refl
     go true true t =
         let c : ℕ = A.combinations r.read in
@@ -85,17 +85,17 @@ verdict_mean n e r k m =
 -- ---- the rules among the lines
 abbrev pub RulesOf : Entry → Item Place → Type 0
 RulesOf e (transition_item r) = RuleMeans e r
-RulesOf e (machineItem x) = Unit {0}
+RulesOf e (machine_item x) = Unit {0}
 RulesOf e (kind_item x) = Unit {0}
-RulesOf e (inputItem x) = Unit {0}
+RulesOf e (input_item x) = Unit {0}
 RulesOf e (output_item x) = Unit {0}
 RulesOf e (tapes_item x) = Unit {0}
-RulesOf e (statesItem x) = Unit {0}
-RulesOf e (inputAlphabetItem x) = Unit {0}
-RulesOf e (tapeAlphabetItem x) = Unit {0}
+RulesOf e (states_item x) = Unit {0}
+RulesOf e (input_alphabet_item x) = Unit {0}
+RulesOf e (tape_alphabet_item x) = Unit {0}
 RulesOf e (blank_item x) = Unit {0}
 RulesOf e (start_item x) = Unit {0}
-RulesOf e (finalItem x) = Unit {0}
+RulesOf e (final_item x) = Unit {0}
 
 other-verdict : (n : ℕ) (e : Entry) → (e.first.kind ≡ 27 → ⊥) → verdict n e ≡ Other
 unfolding verdict
@@ -117,19 +117,19 @@ module _ (s : Tally) (e : Entry) (es : List Entry) where
 
     language_errors : (v : A.Verdict) → A.verdict s.rules l.raw ≡ v → A.rule_errors s.rules s.cut (l ∷ rs) ≡ elim v [
       | A.expands ↦ A.rule_errors (s.rules + c) s.cut rs
-      | A.wrongArity ↦ A.diagnostic 10 l.line none ∷ A.rule_errors s.rules s.cut rs
-      | A.tooMany ↦ elim s.cut [ true ↦ A.rule_errors s.rules true rs | false ↦ A.diagnostic 9 l.line none ∷ A.rule_errors s.rules true rs ]
+      | A.wrong_arity ↦ A.diagnostic 10 l.line none ∷ A.rule_errors s.rules s.cut rs
+      | A.too_many ↦ elim s.cut [ true ↦ A.rule_errors s.rules true rs | false ↦ A.diagnostic 9 l.line none ∷ A.rule_errors s.rules true rs ]
     ]
     unfolding A.rule_errors
     language_errors v d = ap (λ (v : A.Verdict). elim v [
       | A.expands ↦ A.rule_errors (s.rules + c) s.cut rs
-      | A.wrongArity ↦ A.diagnostic 10 l.line none ∷ A.rule_errors s.rules s.cut rs
-      | A.tooMany ↦ elim s.cut [ true ↦ A.rule_errors s.rules true rs | false ↦ A.diagnostic 9 l.line none ∷ A.rule_errors s.rules true rs ]
+      | A.wrong_arity ↦ A.diagnostic 10 l.line none ∷ A.rule_errors s.rules s.cut rs
+      | A.too_many ↦ elim s.cut [ true ↦ A.rule_errors s.rules true rs | false ↦ A.diagnostic 9 l.line none ∷ A.rule_errors s.rules true rs ]
     ]) d
 
-    language_kept : (v : A.Verdict) → A.verdict s.rules l.raw ≡ v → A.kept s.rules (l ∷ rs) ≡ elim v [ A.expands ↦ l ∷ A.kept (s.rules + c) rs | A.wrongArity ↦ A.kept s.rules rs | A.tooMany ↦ A.kept s.rules rs ]
+    language_kept : (v : A.Verdict) → A.verdict s.rules l.raw ≡ v → A.kept s.rules (l ∷ rs) ≡ elim v [ A.expands ↦ l ∷ A.kept (s.rules + c) rs | A.wrong_arity ↦ A.kept s.rules rs | A.too_many ↦ A.kept s.rules rs ]
     unfolding A.kept
-    language_kept v d = ap (λ (v : A.Verdict). elim v [ A.expands ↦ l ∷ A.kept (s.rules + c) rs | A.wrongArity ↦ A.kept s.rules rs | A.tooMany ↦ A.kept s.rules rs ]) d
+    language_kept v d = ap (λ (v : A.Verdict). elim v [ A.expands ↦ l ∷ A.kept (s.rules + c) rs | A.wrong_arity ↦ A.kept s.rules rs | A.too_many ↦ A.kept s.rules rs ]) d
 
     step_errors : (v : Verdict) → verdict s.rules e ≡ v → rule_errors s (e ∷ es) ≡ rule_error v s.cut (place_of e.first) ++ rule_errors (after s v) es
     unfolding rule_errors
@@ -150,11 +150,11 @@ module _ (s : Tally) (e : Entry) (es : List Entry) where
           count = step_count (Expands n) v ∙ r.count ∙ z ∙ ap (λ (x : List (A.RuleLine Place)). s.rules + L.rule_count x) (sym (language_kept A.expands d));
         }
 
-    refused : A.verdict s.rules l.raw ≡ A.wrongArity → verdict s.rules e ≡ WrongArity → Same s (e ∷ es) (l ∷ rs)
+    refused : A.verdict s.rules l.raw ≡ A.wrong_arity → verdict s.rules e ≡ WrongArity → Same s (e ∷ es) (l ∷ rs)
     unfolding rule_error after records_of record_of or_none
     refused d v = record {
-      errors = step_errors WrongArity v ∙ ap (λ (x : Span). error 10 x ∷ rule_errors s es) q ∙ ap (λ (x : List Diagnostic). error 10 (place_in l.line) ∷ x) (p s).errors ∙ ap records_of (sym (language_errors A.wrongArity d));
-      count = step_count WrongArity v ∙ (p s).count ∙ ap (λ (x : List (A.RuleLine Place)). s.rules + L.rule_count x) (sym (language_kept A.wrongArity d));
+      errors = step_errors WrongArity v ∙ ap (λ (x : Span). error 10 x ∷ rule_errors s es) q ∙ ap (λ (x : List Diagnostic). error 10 (place_in l.line) ∷ x) (p s).errors ∙ ap records_of (sym (language_errors A.wrong_arity d));
+      count = step_count WrongArity v ∙ (p s).count ∙ ap (λ (x : List (A.RuleLine Place)). s.rules + L.rule_count x) (sym (language_kept A.wrong_arity d));
     }
 
     cut_by : (b : Bool) → s.cut ≡ b
@@ -166,18 +166,18 @@ module _ (s : Tally) (e : Entry) (es : List Entry) where
         ap (λ (b : Bool). cond b [] (error 9 (place_of e.first) ∷ []) ++ records_of (A.rule_errors s.rules true rs)) f
         ∙ ap (λ (x : Span). error 9 x ∷ records_of (A.rule_errors s.rules true rs)) q
 
-    dropped : A.verdict s.rules l.raw ≡ A.tooMany → verdict s.rules e ≡ TooMany → Same s (e ∷ es) (l ∷ rs)
+    dropped : A.verdict s.rules l.raw ≡ A.too_many → verdict s.rules e ≡ TooMany → Same s (e ∷ es) (l ∷ rs)
     unfolding after
     dropped d v =
         let s' : Tally = record { rules = s.rules; cut = true } in
         let r = p s' in
         record {
           errors = step_errors TooMany v ∙ ap (λ (x : List Diagnostic). rule_error TooMany s.cut (place_of e.first) ++ x) r.errors ∙ first s.cut refl;
-          count = step_count TooMany v ∙ r.count ∙ ap (λ (x : List (A.RuleLine Place)). s.rules + L.rule_count x) (sym (language_kept A.tooMany d));
+          count = step_count TooMany v ∙ r.count ∙ ap (λ (x : List (A.RuleLine Place)). s.rules + L.rule_count x) (sym (language_kept A.too_many d));
         }
       where
         first : (b : Bool) → s.cut ≡ b → rule_error TooMany s.cut (place_of e.first) ++ records_of (A.rule_errors s.rules true rs) ≡ records_of (A.rule_errors s.rules s.cut (l ∷ rs))
-        first b f = cut_by b f ∙ ap records_of (sym (language_errors A.tooMany d ∙ ap (λ (b : Bool). elim b [ true ↦ A.rule_errors s.rules true rs | false ↦ A.diagnostic 9 l.line none ∷ A.rule_errors s.rules true rs ]) f))
+        first b f = cut_by b f ∙ ap records_of (sym (language_errors A.too_many d ∙ ap (λ (b : Bool). elim b [ true ↦ A.rule_errors s.rules true rs | false ↦ A.diagnostic 9 l.line none ∷ A.rule_errors s.rules true rs ]) f))
 
     rule-same : Same s (e ∷ es) (l ∷ rs)
     rule-same = go (A.verdict s.rules l.raw) refl
@@ -187,8 +187,8 @@ module _ (s : Tally) (e : Entry) (es : List Entry) where
 
         go : (v : A.Verdict) → A.verdict s.rules l.raw ≡ v → Same s (e ∷ es) (l ∷ rs)
         go A.expands d = expanded d (is A.expands d)
-        go A.wrongArity d = refused d (is A.wrongArity d)
-        go A.tooMany d = dropped d (is A.tooMany d)
+        go A.wrong_arity d = refused d (is A.wrong_arity d)
+        go A.too_many d = dropped d (is A.too_many d)
 
 -- ---- all lines: the rules of the body are those of the lines, whatever comments are pending
 module _ (X : Entry → Item Place → Type 0) (asks : (e : Entry) (i : Item Place) → X e i → RulesOf e i) (ts : List Token) where
@@ -198,17 +198,17 @@ module _ (X : Entry → Item Place → Type 0) (asks : (e : Entry) (i : Item Pla
   item-same : (s : Tally) (e : Entry) (es : List Entry) (i : Item Place) (p : Place) (c : Option (Located Place (List ℕ))) (seen : Bool) (old block : Comments) (b : A.Body Place) → ItemMeans X e i p
       → ((s : Tally) → Same s es b.rules) → Same s (e ∷ es) (A.attach_item (A.parts i).rule seen old block p c b).rules
   unfolding A.attach_item A.parts A.add_header A.add_rule number
-  item-same s e es (machineItem x) p c seen old block b m r = other-same s e es b.rules (λ z. omega (arith, m.kind)) (r s)
+  item-same s e es (machine_item x) p c seen old block b m r = other-same s e es b.rules (λ z. omega (arith, m.kind)) (r s)
   item-same s e es (kind_item x) p c seen old block b m r = other-same s e es b.rules (λ z. omega (arith, m.kind)) (r s)
-  item-same s e es (inputItem x) p c seen old block b m r = other-same s e es b.rules (λ z. omega (arith, m.kind)) (r s)
+  item-same s e es (input_item x) p c seen old block b m r = other-same s e es b.rules (λ z. omega (arith, m.kind)) (r s)
   item-same s e es (output_item x) p c seen old block b m r = other-same s e es b.rules (λ z. omega (arith, m.kind)) (r s)
   item-same s e es (tapes_item x) p c seen old block b m r = other-same s e es b.rules (λ z. omega (arith, m.kind)) (r s)
-  item-same s e es (statesItem x) p c seen old block b m r = other-same s e es b.rules (λ z. omega (arith, m.kind)) (r s)
-  item-same s e es (inputAlphabetItem x) p c seen old block b m r = other-same s e es b.rules (λ z. omega (arith, m.kind)) (r s)
-  item-same s e es (tapeAlphabetItem x) p c seen old block b m r = other-same s e es b.rules (λ z. omega (arith, m.kind)) (r s)
+  item-same s e es (states_item x) p c seen old block b m r = other-same s e es b.rules (λ z. omega (arith, m.kind)) (r s)
+  item-same s e es (input_alphabet_item x) p c seen old block b m r = other-same s e es b.rules (λ z. omega (arith, m.kind)) (r s)
+  item-same s e es (tape_alphabet_item x) p c seen old block b m r = other-same s e es b.rules (λ z. omega (arith, m.kind)) (r s)
   item-same s e es (blank_item x) p c seen old block b m r = other-same s e es b.rules (λ z. omega (arith, m.kind)) (r s)
   item-same s e es (start_item x) p c seen old block b m r = other-same s e es b.rules (λ z. omega (arith, m.kind)) (r s)
-  item-same s e es (finalItem x) p c seen old block b m r = other-same s e es b.rules (λ z. omega (arith, m.kind)) (r s)
+  item-same s e es (final_item x) p c seen old block b m r = other-same s e es b.rules (λ z. omega (arith, m.kind)) (r s)
   item-same s e es (transition_item x) p c seen old block b m r =
       rule-same s e es (record { raw = x; line = p; comment = c; leading = A.leads seen old block }) b.rules (omega (arith, m.kind)) m.place (asks e (transition_item x) m.more) r
 

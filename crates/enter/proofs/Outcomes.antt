@@ -9,7 +9,7 @@ use borrow.Author.Tests.{lt-ltb, le-ltb, le-leb, lt-leb}
 use lib.ListN.{length, replicate, length-map}
 use Rattle.lexer.specs.Tokens.{Span}
 use Rattle.language.specs.Assembly as A
-use Rattle.language.specs.Outcome.{Refusal, logTooShort, refused, diagnosed, refusal_of, zeros, ReadOutcome, read_machine, read_outcome}
+use Rattle.language.specs.Outcome.{Refusal, log_too_short, refused, diagnosed, refusal_of, zeros, ReadOutcome, read_machine, read_outcome}
 use Rattle.diag.specs.declared.Diagnostic.{Diagnostic}
 use Rattle.diag.specs.Log.{flat, records, start_of, sort, padded, log_after}
 use Rattle.diag.proofs.Records.{length-flat, records-flat}
@@ -96,12 +96,12 @@ module _ (t : List ℕ) (work : ℕ) (log : List Diagnostic) (sheet : List ℕ) 
               ∙ reported_outcome t work (flat log) sheet a d ds e
 
       -- too many: row 5
-      pub too_many : length log < c → (x : Answer) → R.reply_in x ≡ refused (logTooShort c) → read_in x (replicate (length log) unused) (zeros (length sheet)) ≡ read_records t work log sheet
+      pub too_many : length log < c → (x : Answer) → R.reply_in x ≡ refused (log_too_short c) → read_in x (replicate (length log) unused) (zeros (length sheet)) ≡ read_records t work log sheet
       unfolding report_reply log_after
       too_many h x q =
           let n : ℕ = length log in
           let size = found-length in
-          let reply : report_reply (5 * n) c ≡ refused (logTooShort c) = rw (report_reply, lt-ltb (5 * n / 5) c (omega arith)) in
+          let reply : report_reply (5 * n) c ≡ refused (log_too_short c) = rw (report_reply, lt-ltb (5 * n / 5) c (omega arith)) in
           let none_kept : log_after (5 * n) found ≡ zeros (5 * n) = rw (lt-leb (5 * length found) (5 * n) (omega arith)) in
           (λ j. record { reply = (q ∙ sym reply) j; log = sym (ap (records n) none_kept ∙ records-zeros n) j; sheet = zeros (length sheet) }) ∙ of_words_lem _ reported
 

@@ -3,7 +3,7 @@
 
 ghost use Rattle.std.specs.Prelude.{ℕ, ◌≡◌, length};
 ghost use Rattle.std.proofs.Math.Option.{none};
-ghost use Rattle.language.specs.Outcome.{refusal_of, zeros, read_machine, diagnosed, refused, logTooShort};
+ghost use Rattle.language.specs.Outcome.{refusal_of, zeros, read_machine, diagnosed, refused, log_too_short};
 ghost use Rattle.answered.specs.Ready.{lines_of};
 ghost use Rattle.answer.specs.Answer.{reply_in, read_in};
 ghost use Rattle.enter.specs.Begun.{Begun};
@@ -38,7 +38,7 @@ pub fn machine(text: &[u8], work: &mut [u32], s: Search, sheet: &mut [u32]) -> A
 
 // The answer to more diagnostics than the log has records: row 5.
 pub fn refused(errors: usize) -> Answer
-    ensures { reply_in result ≡ refused (logTooShort errors) }
+    ensures { reply_in result ≡ refused (log_too_short errors) }
 {
     Answer::Refused(Refusal::LogTooShort(errors))
 }

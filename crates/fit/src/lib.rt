@@ -6,7 +6,7 @@ ghost use Rattle.language.specs.Outcome.{ReadOutcome, form_of, write_form, write
 ghost use Rattle.machine.specs.Head.{head_in};
 ghost use Rattle.machine.specs.declared.Head.{Head};
 ghost use Rattle.answer.specs.declared.Answer.TheVariants.{Machine};
-ghost use Rattle.answer.specs.Answer.{read_in, leaves_work as readLeaves};
+ghost use Rattle.answer.specs.Answer.{read_in, leaves_work as read_leaves};
 ghost use Rattle.formed.specs.Read.{ReadAs};
 ghost use Rattle.reply.specs.Answer.{write_reply_in, write_in, leaves_work};
 
@@ -34,7 +34,7 @@ fn write_form(head: Head, text: &[u8], sheet: &[u32], output: &mut [u8]) -> Writ
 // The answer of a reading call handed on, but for a machine: its form is written. The log, which stays as reading left it, plays no part.
 pub fn write_answer(a: Answer, text: &[u8], sheet: &[u32], output: &mut [u8]) -> WriteAnswer
     requires { (h : Head) → a ≡ Machine h → ReadAs text.now (head_in h) sheet.now }
-    ensures { ((l : List ℕ) → write_in result l sheet.now output.new ≡ write_with (read_in a l sheet.now) (form_of text.now) output.old) × (leaves_work (write_reply_in result) ≡ true → readLeaves a ≡ true) }
+    ensures { ((l : List ℕ) → write_in result l sheet.now output.new ≡ write_with (read_in a l sheet.now) (form_of text.now) output.old) × (leaves_work (write_reply_in result) ≡ true → read_leaves a ≡ true) }
 {
     match a {
         Answer::Machine(head) => write_form(head, text, sheet, output),

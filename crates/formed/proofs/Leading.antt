@@ -9,7 +9,7 @@ use Rattle.chars.specs.Utf8.{decode}
 use Rattle.lexer.specs.Tokens.{Span, Token, tokens}
 use Rattle.lexer.proofs.Writes.{tokens_of_bytes}
 use Rattle.language.specs.Machine.{Located, Rule}
-use Rattle.language.specs.Lines.{RawSymbol, RawTransition, Line, blank_line, comment_line, item_line, error_line, Row, Ending, lineFeed, goesBy, remark, ending_of, in_front, rows, line_of, covering, lines, read_lines}
+use Rattle.language.specs.Lines.{RawSymbol, RawTransition, Line, blank_line, comment_line, item_line, error_line, Row, Ending, line_feed, goes_by, remark, ending_of, in_front, rows, line_of, covering, lines, read_lines}
 use Rattle.language.specs.Assembly.{parts, items, blank_of, RuleLine, Body, add_header, add_rule, at_end, leads, attach_item, attach, body_of, kept, choices, rule_of, dressed, expand, expand_all}
 use Rattle.language.specs.Infer.{machine_of}
 use Rattle.language.proofs.Every.{Every, every_append, every_any, every_map}
@@ -70,9 +70,9 @@ module _ {P : Type 0} (n : ℕ) where
 
 front_few : {P : Type 0} (e : Ending) (t : Token P) (rs : List (Row P)) → length (in_front e t rs) ≤ length rs + 1
 unfolding in_front
-front_few lineFeed t rs = omega arith
-front_few goesBy t [] = omega arith
-front_few goesBy t (r ∷ rs) = omega arith
+front_few line_feed t rs = omega arith
+front_few goes_by t [] = omega arith
+front_few goes_by t (r ∷ rs) = omega arith
 front_few (remark s) t [] = omega arith
 front_few (remark s) t (r ∷ rs) = omega arith
 

@@ -17,7 +17,7 @@ use Rattle.language.specs.Lines.{Line, read_lines}
 use Rattle.language.specs.Assembly.{Diagnostic, diagnostics}
 use Rattle.language.specs.Infer.{machine_of}
 use Rattle.language.specs.Layout.{Head, head_of, sheet_words, log_words}
-use Rattle.language.specs.Outcome.{Refusal, textTooLong, workTooShort, invalidUtf8, outsideSet, logTooShort, sheetTooShort, max_bytes, work_needed, refusal_of, admitted, zeros, filled, Reply, machine, diagnosed, refused, ReadOutcome, read_diagnostics, words_needed, read_machine, read_with, read_outcome}
+use Rattle.language.specs.Outcome.{Refusal, text_too_long, work_too_short, invalid_utf8, outside_set, log_too_short, sheet_too_short, max_bytes, work_needed, refusal_of, admitted, zeros, filled, Reply, machine, diagnosed, refused, ReadOutcome, read_diagnostics, words_needed, read_machine, read_with, read_outcome}
 use Rattle.language.proofs.Every.{by_test}
 use Rattle.language.proofs.ReadCounts.{read-sheet_length}
 use Rattle.formed.specs.Read.{ReadAs}
@@ -43,8 +43,8 @@ head_or d (refused r) = d
 -- what the four tests give
 abbrev rows : Bool → Bool → Bool → ℕ → Outside → Option Refusal
 rows long short invalid n o = elim long as (λ _. Option Refusal) [
-  | true ↦ some textTooLong
-  | false ↦ elim short [ true ↦ some workTooShort | false ↦ elim invalid [ true ↦ some (invalidUtf8 n) | false ↦ elim o [ At p ↦ some (outsideSet p) | Nowhere ↦ none ] ] ]
+  | true ↦ some text_too_long
+  | false ↦ elim short [ true ↦ some work_too_short | false ↦ elim invalid [ true ↦ some (invalid_utf8 n) | false ↦ elim o [ At p ↦ some (outside_set p) | Nowhere ↦ none ] ] ]
 ]
 
 -- whether there is no refusal
@@ -79,7 +79,7 @@ module _ (ls : List (Line Span)) (log sheet : ℕ) (h : Head) (l s : List ℕ) w
   found-machine : read_machine ls log sheet ≡ answers h l s → Found ls sheet h s
   unfolding read_machine
   found-machine e = by_test (ltb sheet (words_needed ls))
-      (λ b. absurd (no_machine (refused (sheetTooShort (words_needed ls))) (zeros log) (zeros sheet) refl (rw (read_machine, b) at e)))
+      (λ b. absurd (no_machine (refused (sheet_too_short (words_needed ls))) (zeros log) (zeros sheet) refl (rw (read_machine, b) at e)))
       (λ b.
       let q : answers (head_of (machine_of ls)) (zeros log) (filled (sheet_words (machine_of ls)) sheet) ≡ answers h l s = rw (read_machine, b) at e in
       record {
@@ -92,7 +92,7 @@ module _ (ls : List (Line Span)) (log sheet : ℕ) (h : Head) (l s : List ℕ) w
   unfolding read_with read_diagnostics
   found_with [] e = found-machine e
   found_with (d ∷ ds) e = absurd (by_test (ltb (log / 5) (length (d ∷ ds)))
-      (λ b. no_machine (refused (logTooShort (length (d ∷ ds)))) (zeros log) (zeros sheet) refl (rw (read_with, read_diagnostics, b) at e))
+      (λ b. no_machine (refused (log_too_short (length (d ∷ ds)))) (zeros log) (zeros sheet) refl (rw (read_with, read_diagnostics, b) at e))
       (λ b. no_machine (diagnosed (length (d ∷ ds))) (filled (log_words (d ∷ ds)) log) (zeros sheet) refl (rw (read_with, read_diagnostics, b) at e)))
 
 -- the call read an admitted text as its machine

@@ -3,7 +3,7 @@ use Rattle.std.proofs.Common.{◌≡◌, ℕ, suc, ◌+◌, ◌^◌, ◌<◌, �
 use mathlib.Core.Option.{Option, none, some}
 use Rattle.diag.proofs.Cases.{by_test_lem}
 use Rattle.lexer.specs.declared.Span.{Span as Place}
-use Rattle.lexer.specs.Tokens.{TokenKind, word, number, quoted, str, sign, comment, newline, unterminatedString, unterminatedQuote, Token as Lexed}
+use Rattle.lexer.specs.Tokens.{TokenKind, word, number, quoted, str, sign, comment, newline, unterminated_string, unterminated_quote, Token as Lexed}
 use Rattle.lexer.specs.Words.{word_value, value, kind_number, token_value}
 use Rattle.lexer.proofs.Placed.{Placed, All, all-at}
 use Rattle.tokens.specs.declared.Token.{Token}
@@ -21,7 +21,7 @@ use Rattle.parser.proofs.Views.{is_some, sees_string, sees_number, sees_symbol}
 use Rattle.parser.proofs.Keywords.{codes_of_lem, sees_kind, output_rows, output-rule, sees_output, sees_order}
 use Rattle.language.specs.Machine as M
 use Rattle.language.specs.Machine.{Located, transducer, as_unary, as_binary}
-use Rattle.language.specs.Lines.{RawSymbol, raw_blank, RawDecoder, raw_word, raw_unary, raw_binary, OutputWord, wordOutput, unaryOutput, binaryOutput, Text, Item, Spelled, meaning_of, string_in, word_in, number_in, symbol_in, state_in, kinds, outputs, orders}
+use Rattle.language.specs.Lines.{RawSymbol, raw_blank, RawDecoder, raw_word, raw_unary, raw_binary, OutputWord, word_output, unary_output, binary_output, Text, Item, Spelled, meaning_of, string_in, word_in, number_in, symbol_in, state_in, kinds, outputs, orders}
 use Rattle.language.specs.Assembly as A
 use Rattle.language.specs.Infer.{tapes_of, resolve_decoder}
 use Rattle.assembler.specs.Entries.{Entry}
@@ -113,8 +113,8 @@ module _ (p q : Place) where
   word_token t F G says (sign c) b s e = never b e
   word_token t F G says (comment v) b s e = never b e
   word_token t F G says newline b s e = never b e
-  word_token t F G says unterminatedString b s e = never b e
-  word_token t F G says unterminatedQuote b s e = never b e
+  word_token t F G says unterminated_string b s e = never b e
+  word_token t F G says unterminated_quote b s e = never b e
 
   number_token : (k : TokenKind) (n : ℕ) (r : Place) → number_in k ≡ some n → cond (leb (words k).value 255) (words k).value 1 ≡ tapes_of (some (record { value = n; place = r }))
   unfolding token_of kind_number token_value number_in
@@ -125,19 +125,19 @@ module _ (p q : Place) where
   number_token (sign c) n r e = never n e
   number_token (comment v) n r e = never n e
   number_token newline n r e = never n e
-  number_token unterminatedString n r e = never n e
-  number_token unterminatedQuote n r e = never n e
+  number_token unterminated_string n r e = never n e
+  number_token unterminated_quote n r e = never n e
 
 -- the words of an output by their values
 abbrev is_unary : OutputWord → Bool
-is_unary wordOutput = false
-is_unary unaryOutput = true
-is_unary binaryOutput = false
+is_unary word_output = false
+is_unary unary_output = true
+is_unary binary_output = false
 
 abbrev is_binary : OutputWord → Bool
-is_binary wordOutput = false
-is_binary unaryOutput = false
-is_binary binaryOutput = true
+is_binary word_output = false
+is_binary unary_output = false
+is_binary binary_output = true
 
 unary_value : (w : List ℕ) (o : OutputWord) → Codes w → meaning_of outputs w ≡ some o → eqb (word_value w) 0x110015 ≡ is_unary o
 unary_value w o c e = found_row (λ v. eqb v 0x110015) is_unary output_rows (word_value w) o (refl, (refl, (refl, tt))) (output-rule w c ∙ e)
@@ -147,18 +147,18 @@ binary_value w o c e = found_row (λ v. eqb v 0x110016) is_binary output_rows (w
 
 -- the decoder of a word and the third token
 abbrev decoded_as : List (Lexed Place) → OutputWord → RawDecoder
-decoded_as l wordOutput = raw_word
-decoded_as l unaryOutput = raw_unary (located symbol_in raw_blank (at l 2)).value
-decoded_as l binaryOutput = raw_binary (located (word_in orders) M.lsb (at l 2)).value
+decoded_as l word_output = raw_word
+decoded_as l unary_output = raw_unary (located symbol_in raw_blank (at l 2)).value
+decoded_as l binary_output = raw_binary (located (word_in orders) M.lsb (at l 2)).value
 
 decoder_is : (l : List (Lexed Place)) (o : OutputWord) → word_in outputs (at l 1).kind ≡ some o → decoder_at l 1 ≡ decoded_as l o
 unfolding decoder_at
-decoder_is l o q = by_word (located (word_in outputs) wordOutput (at l 1)).value ∙ ap (decoded_as l) (ap (or_else wordOutput) q)
+decoder_is l o q = by_word (located (word_in outputs) word_output (at l 1)).value ∙ ap (decoded_as l) (ap (or_else word_output) q)
   where
-    by_word : (o : OutputWord) → elim o [ wordOutput ↦ raw_word | unaryOutput ↦ raw_unary (located symbol_in raw_blank (at l 2)).value | binaryOutput ↦ raw_binary (located (word_in orders) M.lsb (at l 2)).value ] ≡ decoded_as l o
-    by_word wordOutput = refl
-    by_word unaryOutput = refl
-    by_word binaryOutput = refl
+    by_word : (o : OutputWord) → elim o [ word_output ↦ raw_word | unary_output ↦ raw_unary (located symbol_in raw_blank (at l 2)).value | binary_output ↦ raw_binary (located (word_in orders) M.lsb (at l 2)).value ] ≡ decoded_as l o
+    by_word word_output = refl
+    by_word unary_output = refl
+    by_word binary_output = refl
 
 -- ---- the tokens behind an entry, as the row shows them
 module _ (text : List ℕ) (short : length text < 2 ^ 32) (e : Entry) (l : Tokens) (x : Found) (lexed : AllLexed l) (placed : All (Placed text) l) (low : x.end ≤ length l)
@@ -259,25 +259,25 @@ module _ (text : List ℕ) (short : length text < 2 ^ 32) (e : Entry) (l : Token
 
     decoder_says : (o : OutputWord) → word_in outputs (at l 1).kind ≡ some o → output_of b (peek e.rest 1) o ≡ resolve_decoder b (decoder_at l 1)
     unfolding decoder_at resolve_decoder
-    decoder_says wordOutput q = sym (ap (resolve_decoder b) (decoder_is l wordOutput q))
-    decoder_says unaryOutput q =
-        let u = t.unary (value_test 0x110015 is_unary unary_value unaryOutput q) in
+    decoder_says word_output q = sym (ap (resolve_decoder b) (decoder_is l word_output q))
+    decoder_says unary_output q =
+        let u = t.unary (value_test 0x110015 is_unary unary_value unary_output q) in
         let i : 2 < length l = omega (arith, u.1) in
         let s : is_some (symbol_in (at l 2).kind) ≡ true =
         sym (sees_symbol (at l 2).kind (at l 2).place (at l 2).inner (sound_at l 2 lexed i)) ∙ ap is_symbol (sym (peek-map l 2)) ∙ u.0 in
         with_some (symbol_in (at l 2).kind) s (λ c r.
         ap (λ (w : Token). as_unary (resolve b w)) (plain 1 (omega (arith, u.2)))
         ∙ ap as_unary (symbol-code (at l 2).kind (at l 2).place (at l 2).inner c b (all-at (Placed text) l 2 nothing placed i).good r ∙ ap (A.resolve b) (sym (ap (or_else raw_blank) r)))
-        ∙ sym (ap (resolve_decoder b) (decoder_is l unaryOutput q)))
-    decoder_says binaryOutput q =
-        let u = t.binary (value_test 0x110015 is_unary unary_value binaryOutput q) (value_test 0x110016 is_binary binary_value binaryOutput q) in
+        ∙ sym (ap (resolve_decoder b) (decoder_is l unary_output q)))
+    decoder_says binary_output q =
+        let u = t.binary (value_test 0x110015 is_unary unary_value binary_output q) (value_test 0x110016 is_binary binary_value binary_output q) in
         let i : 2 < length l = omega (arith, u.1) in
         let s : is_some (word_in orders (at l 2).kind) ≡ true =
         sym (sees_order (at l 2).kind (at l 2).place (at l 2).inner (sound_at l 2 lexed i)) ∙ ap (is_choice 0x110017 0x110018) (sym (peek-map l 2)) ∙ u.0 in
         with_some (word_in orders (at l 2).kind) s (λ c r.
         ap (λ (w : Token). as_binary (order_in (order_of w.value))) (plain 1 (omega (arith, u.2)))
         ∙ ap as_binary (word_token (at l 2).place (at l 2).inner orders (λ v. order_in (order_of v)) (λ o. o) order_says (at l 2).kind c (sound_at l 2 lexed i) r ∙ sym (ap (or_else M.lsb) r))
-        ∙ sym (ap (resolve_decoder b) (decoder_is l binaryOutput q)))
+        ∙ sym (ap (resolve_decoder b) (decoder_is l binary_output q)))
 
     output_says_all : (y : RawDecoder) → some (decoder_at l x.value) ≡ some y → decoder_in (decoder_of b (peek e.rest 0).value (peek e.rest 1)) ≡ resolve_decoder b y
     output_says_all y h =

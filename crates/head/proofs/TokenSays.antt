@@ -4,14 +4,14 @@ use mathlib.Core.Option.{none, some}
 use native.Mathlib.Nat.{min-eq_left, min-eq_right}
 use Rattle.diag.proofs.Cases.{by_test_lem}
 use Rattle.lexer.specs.declared.Span.{Span as Place}
-use Rattle.lexer.specs.Tokens.{TokenKind, word, number, quoted, str, sign, comment, newline, unterminatedString, unterminatedQuote}
+use Rattle.lexer.specs.Tokens.{TokenKind, word, number, quoted, str, sign, comment, newline, unterminated_string, unterminated_quote}
 use Rattle.lexer.specs.Words.{position, keyword, word_value, value, kind_number, token_value}
 use Rattle.lexer.proofs.Placed.{Placed}
 use Rattle.parser.specs.Meaning.{token_of}
 use Rattle.parser.proofs.Tables.{Codes, Row, row, find, known, member, valued, table_rule}
 use Rattle.parser.proofs.Keywords.{output_rows, output-rule}
 use Rattle.language.specs.Machine.{Kind, acceptor, transducer, enumerator, beaver, BitOrder, lsb, msb, Decoder, as_word, as_unary, as_binary}
-use Rattle.language.specs.Lines.{string_in, meaning_of, kinds, OutputWord, wordOutput, unaryOutput, binaryOutput, outputs, orders}
+use Rattle.language.specs.Lines.{string_in, meaning_of, kinds, OutputWord, word_output, unary_output, binary_output, outputs, orders}
 use Rattle.tokens.specs.declared.Token.{Token as Words}
 use Rattle.sheet.specs.Rules.{resolve}
 use Rattle.language.specs.Infer.{tapes_of}
@@ -37,8 +37,8 @@ string_says t (quoted c) p q h l s e = none-some s e
 string_says t (sign c) p q h l s e = none-some s e
 string_says t (comment c) p q h l s e = none-some s e
 string_says t newline p q h l s e = none-some s e
-string_says t unterminatedString p q h l s e = none-some s e
-string_says t unterminatedQuote p q h l s e = none-some s e
+string_says t unterminated_string p q h l s e = none-some s e
+string_says t unterminated_quote p q h l s e = none-some s e
 
 -- ---- words of a table: a value's row says the meaning
 abbrev kind_rows : List (Row Kind)
@@ -81,9 +81,9 @@ order_says w o c e = found_row (λ v. order_in (order_of v)) (λ o. o) order_row
 
 -- how the output is read, by the token u behind the word
 abbrev pub output_of : ℕ → Words → OutputWord → Decoder
-output_of b u wordOutput = as_word
-output_of b u unaryOutput = as_unary (resolve b u)
-output_of b u binaryOutput = as_binary (order_in (order_of u.value))
+output_of b u word_output = as_word
+output_of b u unary_output = as_unary (resolve b u)
+output_of b u binary_output = as_binary (order_in (order_of u.value))
 
 pub output_says : (b : ℕ) (u : Words) (w : List ℕ) (o : OutputWord) → Codes w → meaning_of outputs w ≡ some o → decoder_in (decoder_of b (word_value w) u) ≡ output_of b u o
 unfolding decoder_of

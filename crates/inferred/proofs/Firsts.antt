@@ -11,7 +11,7 @@ use Rattle.lexer.specs.declared.Span.{Span as Place}
 use Rattle.tokens.specs.declared.Token.{Token}
 use Rattle.parser.specs.Row.{peek}
 use Rattle.language.specs.Machine.{Located}
-use Rattle.language.specs.Lines.{RawSymbol, Text, Item, machineItem, inputItem, kind_item, output_item, tapes_item, statesItem, finalItem, inputAlphabetItem, tapeAlphabetItem, blank_item, start_item, transition_item, Line}
+use Rattle.language.specs.Lines.{RawSymbol, Text, Item, machine_item, input_item, kind_item, output_item, tapes_item, states_item, final_item, input_alphabet_item, tape_alphabet_item, blank_item, start_item, transition_item, Line}
 use Rattle.language.specs.Assembly as A
 use Rattle.assembler.specs.Entries.{Entry, entry_at, entries}
 use Rattle.assembler.specs.Declarations.{undeclared, declarations}
@@ -45,18 +45,18 @@ some_of a b e = cc
 
 mentioned : (text : List ℕ) (ts : List Token) (i : ℕ) (k : Item Place) → Mentions text ts i k → Mentioned text ts i (A.parts k)
 unfolding A.parts
-mentioned text ts i (machineItem x) m = record { input = λ y e. no y e; states = λ y e. no y e; sigma = λ y e. no y e; gamma = λ y e. no y e; blank = λ y e. no y e; start = λ y e. no y e; finals = λ y e. no y e }
+mentioned text ts i (machine_item x) m = record { input = λ y e. no y e; states = λ y e. no y e; sigma = λ y e. no y e; gamma = λ y e. no y e; blank = λ y e. no y e; start = λ y e. no y e; finals = λ y e. no y e }
 mentioned text ts i (kind_item x) m = record { input = λ y e. no y e; states = λ y e. no y e; sigma = λ y e. no y e; gamma = λ y e. no y e; blank = λ y e. no y e; start = λ y e. no y e; finals = λ y e. no y e }
 mentioned text ts i (output_item x) m = record { input = λ y e. no y e; states = λ y e. no y e; sigma = λ y e. no y e; gamma = λ y e. no y e; blank = λ y e. no y e; start = λ y e. no y e; finals = λ y e. no y e }
 mentioned text ts i (tapes_item x) m = record { input = λ y e. no y e; states = λ y e. no y e; sigma = λ y e. no y e; gamma = λ y e. no y e; blank = λ y e. no y e; start = λ y e. no y e; finals = λ y e. no y e }
 mentioned text ts i (transition_item x) m = record { input = λ y e. no y e; states = λ y e. no y e; sigma = λ y e. no y e; gamma = λ y e. no y e; blank = λ y e. no y e; start = λ y e. no y e; finals = λ y e. no y e }
-mentioned text ts i (inputItem x) m = record { input = λ y e. subst (TextShows text (peek ts (i + 1))) (some_of x y e) m; states = λ y e. no y e; sigma = λ y e. no y e; gamma = λ y e. no y e; blank = λ y e. no y e; start = λ y e. no y e; finals = λ y e. no y e }
-mentioned text ts i (statesItem x) m = record { input = λ y e. no y e; states = λ y e. subst (AllNames text ts (names_of ts i)) (some_of x y e) m; sigma = λ y e. no y e; gamma = λ y e. no y e; blank = λ y e. no y e; start = λ y e. no y e; finals = λ y e. no y e }
-mentioned text ts i (inputAlphabetItem x) m = record { input = λ y e. no y e; states = λ y e. no y e; sigma = λ y e. subst (SymbolsShow (range ts (i + 1) (peek ts i).value)) (some_of x y e) m; gamma = λ y e. no y e; blank = λ y e. no y e; start = λ y e. no y e; finals = λ y e. no y e }
-mentioned text ts i (tapeAlphabetItem x) m = record { input = λ y e. no y e; states = λ y e. no y e; sigma = λ y e. no y e; gamma = λ y e. subst (SymbolsShow (range ts (i + 1) (peek ts i).value)) (some_of x y e) m; blank = λ y e. no y e; start = λ y e. no y e; finals = λ y e. no y e }
+mentioned text ts i (input_item x) m = record { input = λ y e. subst (TextShows text (peek ts (i + 1))) (some_of x y e) m; states = λ y e. no y e; sigma = λ y e. no y e; gamma = λ y e. no y e; blank = λ y e. no y e; start = λ y e. no y e; finals = λ y e. no y e }
+mentioned text ts i (states_item x) m = record { input = λ y e. no y e; states = λ y e. subst (AllNames text ts (names_of ts i)) (some_of x y e) m; sigma = λ y e. no y e; gamma = λ y e. no y e; blank = λ y e. no y e; start = λ y e. no y e; finals = λ y e. no y e }
+mentioned text ts i (input_alphabet_item x) m = record { input = λ y e. no y e; states = λ y e. no y e; sigma = λ y e. subst (SymbolsShow (range ts (i + 1) (peek ts i).value)) (some_of x y e) m; gamma = λ y e. no y e; blank = λ y e. no y e; start = λ y e. no y e; finals = λ y e. no y e }
+mentioned text ts i (tape_alphabet_item x) m = record { input = λ y e. no y e; states = λ y e. no y e; sigma = λ y e. no y e; gamma = λ y e. subst (SymbolsShow (range ts (i + 1) (peek ts i).value)) (some_of x y e) m; blank = λ y e. no y e; start = λ y e. no y e; finals = λ y e. no y e }
 mentioned text ts i (blank_item x) m = record { input = λ y e. no y e; states = λ y e. no y e; sigma = λ y e. no y e; gamma = λ y e. no y e; blank = λ y e b. m b ∙ ap (A.resolve b) (some_of x y e); start = λ y e. no y e; finals = λ y e. no y e }
 mentioned text ts i (start_item x) m = record { input = λ y e. no y e; states = λ y e. no y e; sigma = λ y e. no y e; gamma = λ y e. no y e; blank = λ y e. no y e; start = λ y e. subst (StateShows text (peek ts (i + 2))) (some_of x y e) m; finals = λ y e. no y e }
-mentioned text ts i (finalItem x) m = record { input = λ y e. no y e; states = λ y e. no y e; sigma = λ y e. no y e; gamma = λ y e. no y e; blank = λ y e. no y e; start = λ y e. no y e; finals = λ y e. subst (AllNames text ts (names_of ts i)) (some_of x y e) m }
+mentioned text ts i (final_item x) m = record { input = λ y e. no y e; states = λ y e. no y e; sigma = λ y e. no y e; gamma = λ y e. no y e; blank = λ y e. no y e; start = λ y e. no y e; finals = λ y e. subst (AllNames text ts (names_of ts i)) (some_of x y e) m }
 
 module _ (text : List ℕ) (X : Entry → Item Place → Type 0) (ts : List Token) (says : (e : Entry) (i : Item Place) → X e i → Mentions text ts e.at i) (few : length ts ≤ 0xffffffff) (ls : List (Line Place))
     (all : AllMean X ts (entries ts) ls) where

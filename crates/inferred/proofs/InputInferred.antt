@@ -15,7 +15,7 @@ use Rattle.chars.specs.Class.{class_of}
 use Rattle.chars.specs.Utf8.{decode, size, sizes}
 use Rattle.chars.proofs.Laws.{points_next}
 use Rattle.lexer.specs.declared.Span.{Span as Place}
-use Rattle.lexer.specs.Tokens.{TokenKind, word, number, quoted, str, sign, comment, newline, unterminatedString, unterminatedQuote, Token as Lexed, span, line, trim_end, Inside, closed, unclosed, inside, Step, gap, tok, step, word_step, number_step, string_step, quoted_step, comment_step, slash_step, other_step, emit, token_at, tokens_from, tokens}
+use Rattle.lexer.specs.Tokens.{TokenKind, word, number, quoted, str, sign, comment, newline, unterminated_string, unterminated_quote, Token as Lexed, span, line, trim_end, Inside, closed, unclosed, inside, Step, gap, tok, step, word_step, number_step, string_step, quoted_step, comment_step, slash_step, other_step, emit, token_at, tokens_from, tokens}
 use Rattle.lexer.specs.Places.{rest}
 use Rattle.lexer.specs.Words.{kind_number, word_value, value, token_value}
 use Rattle.lexer.proofs.Pieces.{by_class, step_class}
@@ -25,7 +25,7 @@ use Rattle.parser.specs.Row.{peek}
 use Rattle.parser.specs.Meaning.{token_of}
 use Rattle.language.specs.Machine.{Located}
 use Rattle.language.specs.Content.{value_or}
-use Rattle.language.specs.Lines.{Text, Item, machineItem, inputItem, kind_item, output_item, tapes_item, statesItem, finalItem, inputAlphabetItem, tapeAlphabetItem, blank_item, start_item, transition_item, Line, blank_line, comment_line, item_line, error_line, state_in, symbol_in, string_in, Ending, lineFeed, goesBy, remark, ending_of, lines, covering, read_lines}
+use Rattle.language.specs.Lines.{Text, Item, machine_item, input_item, kind_item, output_item, tapes_item, states_item, final_item, input_alphabet_item, tape_alphabet_item, blank_item, start_item, transition_item, Line, blank_line, comment_line, item_line, error_line, state_in, symbol_in, string_in, Ending, line_feed, goes_by, remark, ending_of, lines, covering, read_lines}
 use Rattle.language.specs.Assembly as A
 use Rattle.language.specs.Infer as I
 use Rattle.language.proofs.Every.{Every, Maybe}
@@ -44,8 +44,8 @@ StrKind c r (quoted q) a n = Unit {0}
 StrKind c r (sign q) a n = Unit {0}
 StrKind c r (comment s) a n = Unit {0}
 StrKind c r newline a n = Unit {0}
-StrKind c r unterminatedString a n = Unit {0}
-StrKind c r unterminatedQuote a n = Unit {0}
+StrKind c r unterminated_string a n = Unit {0}
+StrKind c r unterminated_quote a n = Unit {0}
 
 abbrev StrStep : ℕ → List ℕ → Step → Type 0
 StrStep c r gap = Unit {0}
@@ -57,7 +57,7 @@ string_str c r e = go (inside false r) refl
   where
     go : (i : Inside) → inside false r ≡ i → StrStep c r (elim i [
       | closed v n ↦ tok (str v) (1 + sizes (take n r)) 1 1 n
-      | unclosed ↦ let l = line r in tok unterminatedString (1 + sizes (trim_end l)) 0 0 (length l)
+      | unclosed ↦ let l = line r in tok unterminated_string (1 + sizes (trim_end l)) 0 0 (length l)
     ])
     go (closed v n) q = (e, refl, q)
     go unclosed q = tt
@@ -68,7 +68,7 @@ quoted_str c [] = tt
 quoted_str c (x ∷ []) = tt
 quoted_str c (x ∷ q ∷ r) = go (not (eqb x 10) && eqb q 0x27)
   where
-    go : (b : Bool) → StrStep c (x ∷ q ∷ r) (elim b [ true ↦ tok (quoted x) (2 + size x) 0 0 2 | false ↦ tok unterminatedQuote 1 0 0 0 ])
+    go : (b : Bool) → StrStep c (x ∷ q ∷ r) (elim b [ true ↦ tok (quoted x) (2 + size x) 0 0 2 | false ↦ tok unterminated_quote 1 0 0 0 ])
     go true = tt
     go false = tt
 
@@ -116,8 +116,8 @@ Spells text (quoted q) p = Unit {0}
 Spells text (sign q) p = Unit {0}
 Spells text (comment s) p = Unit {0}
 Spells text newline p = Unit {0}
-Spells text unterminatedString p = Unit {0}
-Spells text unterminatedQuote p = Unit {0}
+Spells text unterminated_string p = Unit {0}
+Spells text unterminated_quote p = Unit {0}
 
 abbrev SpellsAt : List ℕ → Lexed Place → Type 0
 SpellsAt text x = Spells text x.kind x.inner.start
@@ -135,8 +135,8 @@ module _ (text : List ℕ) where
   kind_spells (sign q) c r o a n p h = tt
   kind_spells (comment s) c r o a n p h = tt
   kind_spells newline c r o a n p h = tt
-  kind_spells unterminatedString c r o a n p h = tt
-  kind_spells unterminatedQuote c r o a n p h = tt
+  kind_spells unterminated_string c r o a n p h = tt
+  kind_spells unterminated_quote c r o a n p h = tt
 
   emit_spells : (s : Step) (c : ℕ) (r : List ℕ) (o : ℕ) (next : ℕ → List (Lexed Place)) → decode (drop (o + size c) text) ≡ r → StrStep c r s → ((n : ℕ) → Every (SpellsAt text) (next n)) → Every (SpellsAt text) (emit o s next)
   unfolding emit
@@ -162,12 +162,12 @@ module _ (text : List ℕ) where
   text_view (sign q) p h = tt
   text_view (comment s) p h = tt
   text_view newline p h = tt
-  text_view unterminatedString p h = tt
-  text_view unterminatedQuote p h = tt
+  text_view unterminated_string p h = tt
+  text_view unterminated_quote p h = tt
 
   any_ending : (e : Ending) → GoodEnding Any e
-  any_ending lineFeed = tt
-  any_ending goesBy = tt
+  any_ending line_feed = tt
+  any_ending goes_by = tt
   any_ending (remark s) = tt
 
   lines_spell : Every (GoodLine goods) (read_lines (decode text))
@@ -178,15 +178,15 @@ module _ (text : List ℕ) where
 
   item_input : (i : Item Place) → GoodItem goods i → Maybe (λ x. goods.text x.value) (A.parts i).input
   unfolding A.parts
-  item_input (inputItem x) h = h
-  item_input (machineItem x) h = tt
+  item_input (input_item x) h = h
+  item_input (machine_item x) h = tt
   item_input (kind_item x) h = tt
   item_input (output_item x) h = tt
   item_input (tapes_item x) h = tt
-  item_input (statesItem x) h = tt
-  item_input (finalItem x) h = tt
-  item_input (inputAlphabetItem x) h = tt
-  item_input (tapeAlphabetItem x) h = tt
+  item_input (states_item x) h = tt
+  item_input (final_item x) h = tt
+  item_input (input_alphabet_item x) h = tt
+  item_input (tape_alphabet_item x) h = tt
   item_input (blank_item x) h = tt
   item_input (start_item x) h = tt
   item_input (transition_item x) h = tt
@@ -217,8 +217,8 @@ module _ (text : List ℕ) where
         | str u ↦ q.inner.start - q.place.start
         | comment u ↦ q.inner.start - q.place.start
         | newline ↦ 0
-        | unterminatedString ↦ 0
-        | unterminatedQuote ↦ 0
+        | unterminated_string ↦ 0
+        | unterminated_quote ↦ 0
       ]) s.spelled in
       ap (λ (t : Token). t.start + t.value) s.words ∙ omega (arith, v, s.placed.starts) ∙ ap (λ (p : Place). p.start) s.inner
 

@@ -10,7 +10,7 @@ use lib.Dec.{eqb}
 use Rattle.lexer.specs.declared.Span.{Span as Place}
 use Rattle.tokens.specs.declared.Token.{Token}
 use Rattle.language.specs.Machine.{Located}
-use Rattle.language.specs.Lines.{RawTransition, Item, machineItem, inputItem, kind_item, output_item, tapes_item, statesItem, finalItem, inputAlphabetItem, tapeAlphabetItem, blank_item, start_item, transition_item, Line, blank_line, comment_line, item_line, error_line}
+use Rattle.language.specs.Lines.{RawTransition, Item, machine_item, input_item, kind_item, output_item, tapes_item, states_item, final_item, input_alphabet_item, tape_alphabet_item, blank_item, start_item, transition_item, Line, blank_line, comment_line, item_line, error_line}
 use Rattle.language.specs.Assembly as A
 use Rattle.assembler.specs.Entries.{Entry}
 use Rattle.assembler.proofs.Means.{number, ItemMeans, Means, AllMean, no_lines, one_line}
@@ -32,17 +32,17 @@ module _ (text : List ℕ) (X : Entry → Item Place → Type 0) (ts : List Toke
       → RulesAt text ts es b.rules → RulesAt text ts (e ∷ es) (A.attach_item (A.parts i).rule seen old block p c b).rules
   unfolding A.parts A.attach_item A.add_header A.add_rule number
   item-at e es (transition_item r) p m seen old block c b q = one-rule (eq-eqb e.first.kind 27 m.kind) (says e (transition_item r) m.more) q
-  item-at e es (machineItem x) p m seen old block c b q = no_rule (ne_eqb e.first.kind 27 (λ z. omega (arith, m.kind))) q
+  item-at e es (machine_item x) p m seen old block c b q = no_rule (ne_eqb e.first.kind 27 (λ z. omega (arith, m.kind))) q
   item-at e es (kind_item x) p m seen old block c b q = no_rule (ne_eqb e.first.kind 27 (λ z. omega (arith, m.kind))) q
-  item-at e es (inputItem x) p m seen old block c b q = no_rule (ne_eqb e.first.kind 27 (λ z. omega (arith, m.kind))) q
+  item-at e es (input_item x) p m seen old block c b q = no_rule (ne_eqb e.first.kind 27 (λ z. omega (arith, m.kind))) q
   item-at e es (output_item x) p m seen old block c b q = no_rule (ne_eqb e.first.kind 27 (λ z. omega (arith, m.kind))) q
   item-at e es (tapes_item x) p m seen old block c b q = no_rule (ne_eqb e.first.kind 27 (λ z. omega (arith, m.kind))) q
-  item-at e es (statesItem x) p m seen old block c b q = no_rule (ne_eqb e.first.kind 27 (λ z. omega (arith, m.kind))) q
-  item-at e es (inputAlphabetItem x) p m seen old block c b q = no_rule (ne_eqb e.first.kind 27 (λ z. omega (arith, m.kind))) q
-  item-at e es (tapeAlphabetItem x) p m seen old block c b q = no_rule (ne_eqb e.first.kind 27 (λ z. omega (arith, m.kind))) q
+  item-at e es (states_item x) p m seen old block c b q = no_rule (ne_eqb e.first.kind 27 (λ z. omega (arith, m.kind))) q
+  item-at e es (input_alphabet_item x) p m seen old block c b q = no_rule (ne_eqb e.first.kind 27 (λ z. omega (arith, m.kind))) q
+  item-at e es (tape_alphabet_item x) p m seen old block c b q = no_rule (ne_eqb e.first.kind 27 (λ z. omega (arith, m.kind))) q
   item-at e es (blank_item x) p m seen old block c b q = no_rule (ne_eqb e.first.kind 27 (λ z. omega (arith, m.kind))) q
   item-at e es (start_item x) p m seen old block c b q = no_rule (ne_eqb e.first.kind 27 (λ z. omega (arith, m.kind))) q
-  item-at e es (finalItem x) p m seen old block c b q = no_rule (ne_eqb e.first.kind 27 (λ z. omega (arith, m.kind))) q
+  item-at e es (final_item x) p m seen old block c b q = no_rule (ne_eqb e.first.kind 27 (λ z. omega (arith, m.kind))) q
 
   attached : (es : List Entry) (ls : List (Line Place)) → AllMean X ts es ls → (seen : Bool) (old block : Comments) → RulesAt text ts es (A.attach seen old block ls).rules
   unfolding A.attach A.at_end

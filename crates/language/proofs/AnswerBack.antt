@@ -12,7 +12,7 @@ use lib.Seq.{take_at, drop_at, drop-append-add}
 use Rattle.chars.specs.Utf8.{scalars, sizes, encode, decode, valid_up_to}
 use Rattle.lexer.specs.Text.{codes, same}
 use Rattle.chars.proofs.Theorems.{sizes-append, length-encode, decode-scalars, valid_whole}
-use Rattle.lexer.specs.Tokens.{TokenKind, Token, Span, unescape, tokens, word, number, quoted, str, sign, comment, newline, unterminatedString, unterminatedQuote}
+use Rattle.lexer.specs.Tokens.{TokenKind, Token, Span, unescape, tokens, word, number, quoted, str, sign, comment, newline, unterminated_string, unterminated_quote}
 use Rattle.language.specs.Machine.{Located, Dir, left, right, stay, State, Action, Rule, Symbol, Machine}
 use Rattle.language.specs.Content.{StateContent, ActionContent, RuleContent, Content, value_or, optional, values, rule_content, content_of}
 use Rattle.language.specs.Parser.{when}
@@ -264,8 +264,8 @@ module _ (cs : List ℕ) (place inner : Span) where
   name_view (quoted c) h = tt
   name_view (sign c) h = tt
   name_view newline h = tt
-  name_view unterminatedString h = tt
-  name_view unterminatedQuote h = tt
+  name_view unterminated_string h = tt
+  name_view unterminated_quote h = tt
 
   text_view : (k : TokenKind) → Placed cs (token k) → Maybe (λ v. (placed_in cs).text (record { value = v; place = inner })) (string_in k)
   unfolding string_in
@@ -276,8 +276,8 @@ module _ (cs : List ℕ) (place inner : Span) where
   text_view (quoted c) h = tt
   text_view (sign c) h = tt
   text_view newline h = tt
-  text_view unterminatedString h = tt
-  text_view unterminatedQuote h = tt
+  text_view unterminated_string h = tt
+  text_view unterminated_quote h = tt
 
   note_view : (k : TokenKind) → Placed cs (token k) → GoodEnding (λ s. Stands cs inner s) (ending_of k)
   unfolding ending_of
@@ -288,8 +288,8 @@ module _ (cs : List ℕ) (place inner : Span) where
   note_view (quoted c) h = tt
   note_view (sign c) h = tt
   note_view newline h = tt
-  note_view unterminatedString h = tt
-  note_view unterminatedQuote h = tt
+  note_view unterminated_string h = tt
+  note_view unterminated_quote h = tt
 
 -- the names, strings and comments of a text stand where the machine says
 pub machine_placed : (cs : List ℕ) → GoodMachine (placed_in cs) (machine_of (read_lines cs))

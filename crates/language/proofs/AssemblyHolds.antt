@@ -5,7 +5,7 @@ use mathlib.Core.List.{List, [], ◌∷◌, ◌++◌}
 use mathlib.Core.Option.{Option, none, some}
 use mathlib.Core.Path.{◌≡◌, refl, sym, subst}
 use Rattle.language.specs.Machine.{Located, Rule, Machine}
-use Rattle.language.specs.Lines.{RawSymbol, RawTransition, Text, Item, machineItem, inputItem, kind_item, output_item, tapes_item, statesItem, finalItem, inputAlphabetItem, tapeAlphabetItem, blank_item, start_item, transition_item, Line, blank_line, comment_line, item_line, error_line}
+use Rattle.language.specs.Lines.{RawSymbol, RawTransition, Text, Item, machine_item, input_item, kind_item, output_item, tapes_item, states_item, final_item, input_alphabet_item, tape_alphabet_item, blank_item, start_item, transition_item, Line, blank_line, comment_line, item_line, error_line}
 use Rattle.language.specs.Assembly.{Parts, parts, items, first, found, or_else, blank_of, states_in, finals_in, RuleLine, Body, of_option, add_header, add_rule, at_end, leads, unled, attach_item, attach, body_of, kept, choices, rule_of, dressed, expand, expand_all}
 use Rattle.language.specs.Infer.{same_name, member, fresh, nothing, mentions, infer_states, marked, head, between, machine_of}
 use Rattle.language.proofs.Every.{by_test, Every, Maybe, every_append, every_any, every_map}
@@ -46,17 +46,17 @@ module _ {P : Type 0} (S : Goods P) where
 
   parts_good : (i : Item P) → GoodItem S i → GoodParts (parts i)
   unfolding parts
-  parts_good (machineItem x) h = good_parts h tt tt tt tt tt tt tt tt tt
-  parts_good (inputItem x) h = good_parts tt h tt tt tt tt tt tt tt tt
+  parts_good (machine_item x) h = good_parts h tt tt tt tt tt tt tt tt tt
+  parts_good (input_item x) h = good_parts tt h tt tt tt tt tt tt tt tt
   parts_good (kind_item x) h = good_parts tt tt tt tt tt tt tt tt tt tt
   parts_good (output_item x) h = good_parts tt tt h tt tt tt tt tt tt tt
   parts_good (tapes_item x) h = good_parts tt tt tt tt tt tt tt tt tt tt
-  parts_good (statesItem x) h = good_parts tt tt tt h tt tt tt tt tt tt
-  parts_good (inputAlphabetItem x) h = good_parts tt tt tt tt h tt tt tt tt tt
-  parts_good (tapeAlphabetItem x) h = good_parts tt tt tt tt tt h tt tt tt tt
+  parts_good (states_item x) h = good_parts tt tt tt h tt tt tt tt tt tt
+  parts_good (input_alphabet_item x) h = good_parts tt tt tt tt h tt tt tt tt tt
+  parts_good (tape_alphabet_item x) h = good_parts tt tt tt tt tt h tt tt tt tt
   parts_good (blank_item x) h = good_parts tt tt tt tt tt tt h tt tt tt
   parts_good (start_item x) h = good_parts tt tt tt tt tt tt tt h tt tt
-  parts_good (finalItem x) h = good_parts tt tt tt tt tt tt tt tt h tt
+  parts_good (final_item x) h = good_parts tt tt tt tt tt tt tt tt h tt
   parts_good (transition_item x) h = good_parts tt tt tt tt tt tt tt tt tt h
 
   pub items_good : (ls : List (Line P)) → Every (GoodLine S) ls → Every (λ i. GoodItem S i.value) (items ls)

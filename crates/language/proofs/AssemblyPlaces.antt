@@ -9,8 +9,8 @@ use lib.ListN.{length-map}
 use Rattle.lexer.specs.Text.{same}
 use Rattle.language.specs.Machine.{Located, Dir, Action}
 use Rattle.language.specs.Content.{ActionContent, optional, values, rule_content}
-use Rattle.language.specs.Lines.{RawSymbol, raw_blank, RawTransition, Item, machineItem, inputItem, kind_item, output_item, tapes_item, statesItem, finalItem, inputAlphabetItem, tapeAlphabetItem, blank_item, start_item, transition_item, Line, blank_line, comment_line, item_line, error_line}
-use Rattle.language.specs.Assembly.{Parts, parts, items, first, found, or_else, resolve, blank_of, states_in, finals_in, RuleLine, Body, of_option, add_header, add_rule, at_end, leads, unled, attach_item, attach, body_of, combinations, Verdict, expands, wrongArity, tooMany, verdict, kept, each_front, choices, written, actions, rule_of, dressed, expand, expand_all, Diagnostic, diagnostic, line_errors, declaration, is_number, declared_at, earlier, tapes_error, declaration_error, declaration_errors, listed_at, unknown_error, final_error, final_errors, rule_errors, diagnostics_of}
+use Rattle.language.specs.Lines.{RawSymbol, raw_blank, RawTransition, Item, machine_item, input_item, kind_item, output_item, tapes_item, states_item, final_item, input_alphabet_item, tape_alphabet_item, blank_item, start_item, transition_item, Line, blank_line, comment_line, item_line, error_line}
+use Rattle.language.specs.Assembly.{Parts, parts, items, first, found, or_else, resolve, blank_of, states_in, finals_in, RuleLine, Body, of_option, add_header, add_rule, at_end, leads, unled, attach_item, attach, body_of, combinations, Verdict, expands, wrong_arity, too_many, verdict, kept, each_front, choices, written, actions, rule_of, dressed, expand, expand_all, Diagnostic, diagnostic, line_errors, declaration, is_number, declared_at, earlier, tapes_error, declaration_error, declaration_errors, listed_at, unknown_error, final_error, final_errors, rule_errors, diagnostics_of}
 use Rattle.language.proofs.Every.{by_test}
 use Rattle.language.proofs.Facts.{map_option, facts_from, facts_of, map-append}
 use Rattle.language.proofs.ParsePlaces.{on_loc, on_text, on_raw, on_item, on_line}
@@ -28,11 +28,11 @@ module _ {P : Type 0} (n : ℕ) (r : RuleLine P) (rs : List (RuleLine P)) where
   unfolding kept
   kept_expands e = rw (e, kept)
 
-  pub kept_arity : verdict n r.raw ≡ wrongArity → kept n (r ∷ rs) ≡ kept n rs
+  pub kept_arity : verdict n r.raw ≡ wrong_arity → kept n (r ∷ rs) ≡ kept n rs
   unfolding kept
   kept_arity e = rw (e, kept)
 
-  pub kept_many : verdict n r.raw ≡ tooMany → kept n (r ∷ rs) ≡ kept n rs
+  pub kept_many : verdict n r.raw ≡ too_many → kept n (r ∷ rs) ≡ kept n rs
   unfolding kept
   kept_many e = rw (e, kept)
 
@@ -94,15 +94,15 @@ module _ {P : Type 0} (n : ℕ) (r : RuleLine P) (rs : List (RuleLine P)) where
   unfolding rule_errors
   error_expands cut e = rw (e, rule_errors)
 
-  pub error_arity : (cut : Bool) → verdict n r.raw ≡ wrongArity → rule_errors n cut (r ∷ rs) ≡ diagnostic 10 r.line none ∷ rule_errors n cut rs
+  pub error_arity : (cut : Bool) → verdict n r.raw ≡ wrong_arity → rule_errors n cut (r ∷ rs) ≡ diagnostic 10 r.line none ∷ rule_errors n cut rs
   unfolding rule_errors
   error_arity cut e = rw (e, rule_errors)
 
-  pub error_many : verdict n r.raw ≡ tooMany → rule_errors n false (r ∷ rs) ≡ diagnostic 9 r.line none ∷ rule_errors n true rs
+  pub error_many : verdict n r.raw ≡ too_many → rule_errors n false (r ∷ rs) ≡ diagnostic 9 r.line none ∷ rule_errors n true rs
   unfolding rule_errors
   error_many e = rw (e, rule_errors)
 
-  error_more : verdict n r.raw ≡ tooMany → rule_errors n true (r ∷ rs) ≡ rule_errors n true rs
+  error_more : verdict n r.raw ≡ too_many → rule_errors n true (r ∷ rs) ≡ rule_errors n true rs
   unfolding rule_errors
   error_more e = rw (e, rule_errors)
 
@@ -111,7 +111,7 @@ four-append g a b c d = map-append g a (b ++ (c ++ d)) ∙ ap (λ t. map g a ++ 
 
 -- a verdict from the numbers of entries written, read and moved, and of rules
 abbrev judge : ℕ → ℕ → ℕ → ℕ → Verdict
-judge w r d n = elim (eqb w r && eqb d r) [ false ↦ wrongArity | true ↦ elim (leb n 262144) [ true ↦ expands | false ↦ tooMany ] ]
+judge w r d n = elim (eqb w r && eqb d r) [ false ↦ wrong_arity | true ↦ elim (leb n 262144) [ true ↦ expands | false ↦ too_many ] ]
 
 module _ {P Q : Type 0} (f : P → Q) where
   -- ---- declarations
@@ -137,17 +137,17 @@ module _ {P Q : Type 0} (f : P → Q) where
 
   parts_natural : (i : Item P) → parts (on_item f i) ≡ on_parts (parts i)
   unfolding parts
-  parts_natural (machineItem x) = refl
+  parts_natural (machine_item x) = refl
   parts_natural (kind_item x) = refl
-  parts_natural (inputItem x) = refl
+  parts_natural (input_item x) = refl
   parts_natural (output_item x) = refl
   parts_natural (tapes_item x) = refl
-  parts_natural (statesItem x) = refl
-  parts_natural (inputAlphabetItem x) = refl
-  parts_natural (tapeAlphabetItem x) = refl
+  parts_natural (states_item x) = refl
+  parts_natural (input_alphabet_item x) = refl
+  parts_natural (tape_alphabet_item x) = refl
   parts_natural (blank_item x) = refl
   parts_natural (start_item x) = refl
-  parts_natural (finalItem x) = refl
+  parts_natural (final_item x) = refl
   parts_natural (transition_item x) = refl
 
   items_natural : (ls : List (Line P)) → items (map (on_line f) ls) ≡ map on_items (items ls)
@@ -246,8 +246,8 @@ module _ {P Q : Type 0} (f : P → Q) where
   kept_case n r rs expands e h =
       kept_expands n (on_rule_line r) (map on_rule_line rs) (verdict_natural n r.raw ∙ e)
       ∙ (ap (λ t. on_rule_line r ∷ t) (ap (λ k. kept (n + k) (map on_rule_line rs)) (combinations_natural r.raw.read) ∙ h (n + combinations r.raw.read)) ∙ sym (ap (map on_rule_line) (kept_expands n r rs e)))
-  kept_case n r rs wrongArity e h = kept_arity n (on_rule_line r) (map on_rule_line rs) (verdict_natural n r.raw ∙ e) ∙ (h n ∙ sym (ap (map on_rule_line) (kept_arity n r rs e)))
-  kept_case n r rs tooMany e h = kept_many n (on_rule_line r) (map on_rule_line rs) (verdict_natural n r.raw ∙ e) ∙ (h n ∙ sym (ap (map on_rule_line) (kept_many n r rs e)))
+  kept_case n r rs wrong_arity e h = kept_arity n (on_rule_line r) (map on_rule_line rs) (verdict_natural n r.raw ∙ e) ∙ (h n ∙ sym (ap (map on_rule_line) (kept_arity n r rs e)))
+  kept_case n r rs too_many e h = kept_many n (on_rule_line r) (map on_rule_line rs) (verdict_natural n r.raw ∙ e) ∙ (h n ∙ sym (ap (map on_rule_line) (kept_many n r rs e)))
 
   kept_natural : (n : ℕ) (rs : List (RuleLine P)) → kept n (map on_rule_line rs) ≡ map on_rule_line (kept n rs)
   unfolding kept
@@ -363,17 +363,17 @@ module _ {P Q : Type 0} (f : P → Q) where
 
   number_natural : (i : Item P) → declaration (on_item f i) ≡ declaration i
   unfolding declaration
-  number_natural (machineItem x) = refl
+  number_natural (machine_item x) = refl
   number_natural (kind_item x) = refl
-  number_natural (inputItem x) = refl
+  number_natural (input_item x) = refl
   number_natural (output_item x) = refl
   number_natural (tapes_item x) = refl
-  number_natural (statesItem x) = refl
-  number_natural (inputAlphabetItem x) = refl
-  number_natural (tapeAlphabetItem x) = refl
+  number_natural (states_item x) = refl
+  number_natural (input_alphabet_item x) = refl
+  number_natural (tape_alphabet_item x) = refl
   number_natural (blank_item x) = refl
   number_natural (start_item x) = refl
-  number_natural (finalItem x) = refl
+  number_natural (final_item x) = refl
   number_natural (transition_item x) = refl
 
   declared_natural : (n : ℕ) (is : List (Located P (Item P))) → declared_at n (map on_items is) ≡ map_option f (declared_at n is)
@@ -446,11 +446,11 @@ module _ {P Q : Type 0} (f : P → Q) where
   rules_case n cut r rs expands e h =
       error_expands n (on_rule_line r) (map on_rule_line rs) cut (verdict_natural n r.raw ∙ e)
       ∙ (ap (λ k. rule_errors (n + k) cut (map on_rule_line rs)) (combinations_natural r.raw.read) ∙ (h (n + combinations r.raw.read) cut ∙ sym (ap (map on_diagnostic) (error_expands n r rs cut e))))
-  rules_case n cut r rs wrongArity e h =
+  rules_case n cut r rs wrong_arity e h =
       error_arity n (on_rule_line r) (map on_rule_line rs) cut (verdict_natural n r.raw ∙ e) ∙ (ap (λ t. diagnostic 10 (f r.line) none ∷ t) (h n cut) ∙ sym (ap (map on_diagnostic) (error_arity n r rs cut e)))
-  rules_case n false r rs tooMany e h =
+  rules_case n false r rs too_many e h =
       error_many n (on_rule_line r) (map on_rule_line rs) (verdict_natural n r.raw ∙ e) ∙ (ap (λ t. diagnostic 9 (f r.line) none ∷ t) (h n true) ∙ sym (ap (map on_diagnostic) (error_many n r rs e)))
-  rules_case n true r rs tooMany e h = error_more n (on_rule_line r) (map on_rule_line rs) (verdict_natural n r.raw ∙ e) ∙ (h n true ∙ sym (ap (map on_diagnostic) (error_more n r rs e)))
+  rules_case n true r rs too_many e h = error_more n (on_rule_line r) (map on_rule_line rs) (verdict_natural n r.raw ∙ e) ∙ (h n true ∙ sym (ap (map on_diagnostic) (error_more n r rs e)))
 
   rules_natural : (n : ℕ) (cut : Bool) (rs : List (RuleLine P)) → rule_errors n cut (map on_rule_line rs) ≡ map on_diagnostic (rule_errors n cut rs)
   unfolding rule_errors

@@ -20,7 +20,7 @@ use Rattle.language.specs.Lines.{Line, read_lines}
 use Rattle.language.specs.Assembly.{diagnostics}
 use Rattle.language.specs.Infer.{machine_of}
 use Rattle.language.specs.Layout.{Head, head_of, sheet_words}
-use Rattle.language.specs.Outcome.{Refusal, textTooLong, workTooShort, invalidUtf8, outsideSet, max_bytes, work_needed, refusal_of, admitted, machine, zeros, filled, ReadOutcome, words_needed, read_machine, read_with, read_outcome, written, form_of, write_form, write_with, write_outcome}
+use Rattle.language.specs.Outcome.{Refusal, text_too_long, work_too_short, invalid_utf8, outside_set, max_bytes, work_needed, refusal_of, admitted, machine, zeros, filled, ReadOutcome, words_needed, read_machine, read_with, read_outcome, written, form_of, write_form, write_with, write_outcome}
 use Rattle.language.specs.Agreement.{Answer, content_of_answer}
 use Rattle.language.specs.Claim.{Lent, reading, writing, Enough, Writable, form_left, answer_given, BothAgree, Claim}
 use Rattle.language.proofs.AnswerBack.{answer_of_text}
@@ -31,8 +31,8 @@ use Rattle.language.proofs.RoundTrip.{content_of_text, Reads, round_trip, forms_
 -- what the four tests give
 abbrev rows : Bool → Bool → Bool → ℕ → Outside → Option Refusal
 rows long short invalid n o = elim long as (λ _. Option Refusal) [
-  | true ↦ some textTooLong
-  | false ↦ elim short [ true ↦ some workTooShort | false ↦ elim invalid [ true ↦ some (invalidUtf8 n) | false ↦ elim o [ At p ↦ some (outsideSet p) | Nowhere ↦ none ] ] ]
+  | true ↦ some text_too_long
+  | false ↦ elim short [ true ↦ some work_too_short | false ↦ elim invalid [ true ↦ some (invalid_utf8 n) | false ↦ elim o [ At p ↦ some (outside_set p) | Nowhere ↦ none ] ] ]
 ]
 
 -- a text that passes them is short and UTF-8, and passes with any work that is long enough

@@ -11,7 +11,7 @@ use lib.ListN.{length, length-append, length-map}
 use Rattle.lexer.specs.Tokens.{Span}
 use Rattle.language.specs.Machine.{Located, Dir, Action, Rule, State, Symbol, Machine}
 use Rattle.language.specs.Lines.{RawSymbol}
-use Rattle.language.specs.Assembly.{RuleLine, combinations, Verdict, expands, wrongArity, tooMany, verdict, kept, each_front, choices, actions, rule_of, dressed, expand, expand_all}
+use Rattle.language.specs.Assembly.{RuleLine, combinations, Verdict, expands, wrong_arity, too_many, verdict, kept, each_front, choices, actions, rule_of, dressed, expand, expand_all}
 use Rattle.language.specs.Layout.{place_words, located_words, flat, state_words, symbol_words, action_words, rule_length, rule_words, sheet_words, rule_lengths, sheet_length}
 use Rattle.language.proofs.Every.{by_test, Every, Filled, every_append, every_any, every_map, and_left, and_right}
 
@@ -84,14 +84,14 @@ verdict_fits n l e =
     let d : Bool = eqb (length l.raw.dir) (length l.raw.read) in
     by_test (w && d) (λ h. (eqb-true _ _ (and_left w d h), eqb-true _ _ (and_right w d h))) (λ h. absurd (never (sym (rw (h, verdict) at e))))
   where
-    never : expands ≡ wrongArity → ⊥
+    never : expands ≡ wrong_arity → ⊥
     never q = let z : ◌≡◌ {A = ℕ} 0 1 = cc in omega arith
 
 -- to go by a verdict and keep what it said
-pub by_verdict : {X : Type 0} (v : Verdict) → (v ≡ expands → X) → (v ≡ wrongArity → X) → (v ≡ tooMany → X) → X
+pub by_verdict : {X : Type 0} (v : Verdict) → (v ≡ expands → X) → (v ≡ wrong_arity → X) → (v ≡ too_many → X) → X
 by_verdict expands f g h = f refl
-by_verdict wrongArity f g h = g refl
-by_verdict tooMany f g h = h refl
+by_verdict wrong_arity f g h = g refl
+by_verdict too_many f g h = h refl
 
 -- what holds of each line that expands holds of those that are kept
 pub kept_every : {P : Type 0} (p q : RuleLine P → Type 0) → ((n : ℕ) (l : RuleLine P) → p l → verdict n l.raw ≡ expands → q l)

@@ -10,7 +10,7 @@ use Rattle.chars.specs.Ranges.{within}
 use Rattle.chars.specs.Class.{admitted, class_of}
 use Rattle.chars.specs.declared.Class.{Class}
 use Rattle.chars.specs.declared.Class.TheVariants.{Letter, Digit, Space, Sign, Other}
-use Rattle.lexer.specs.Tokens.{TokenKind, word, number, quoted, str, sign, comment, newline, unterminatedString, unterminatedQuote, Step, gap, tok, is_letter, is_digit, is_word_start, is_word_continue, is_ascii_digit, is_whitespace, run, line, trim_cons, trim_end, comment_text, escape, Inner, ends, breaks, escapes, stands, inner_of, Inside, closed, unclosed, put, pass, inside, word_step, number_step, string_step, quoted_step, slash_step, other_step, step}
+use Rattle.lexer.specs.Tokens.{TokenKind, word, number, quoted, str, sign, comment, newline, unterminated_string, unterminated_quote, Step, gap, tok, is_letter, is_digit, is_word_start, is_word_continue, is_ascii_digit, is_whitespace, run, line, trim_cons, trim_end, comment_text, escape, Inner, ends, breaks, escapes, stands, inner_of, Inside, closed, unclosed, put, pass, inside, word_step, number_step, string_step, quoted_step, slash_step, other_step, step}
 use Rattle.language.proofs.Every.{by_test, or_left, or_right, Every, All, Maybe}
 use Rattle.language.proofs.TokenKinds.{kinds, kinds_from, emit_kind}
 use Rattle.language.proofs.PlainLex.{IsWord, IsSymbol, IsComment}
@@ -36,8 +36,8 @@ GoodKind (str s) = AllFine s
 GoodKind (sign c) = IsSymbol c × Fine c
 GoodKind (comment s) = IsComment s × AllFine s
 GoodKind newline = Unit {0}
-GoodKind unterminatedString = Unit {0}
-GoodKind unterminatedQuote = Unit {0}
+GoodKind unterminated_string = Unit {0}
+GoodKind unterminated_quote = Unit {0}
 
 abbrev GoodStep : Step → Type 0
 GoodStep gap = Unit {0}

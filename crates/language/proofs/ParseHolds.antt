@@ -8,7 +8,7 @@ use lib.ListN.{length}
 use Rattle.lexer.specs.Tokens.{TokenKind, comment, Token}
 use Rattle.language.specs.Machine.{Located}
 use Rattle.language.specs.Parser.{Result, ok, fail, Parser, then, ◌>>=◌, give, unexpected, is_sign, goes_on, taken, branch, go_on, one, expect, opened, at_most, entries, single, tuple, set}
-use Rattle.language.specs.Lines.{RawSymbol, RawDecoder, raw_word, raw_unary, raw_binary, RawTransition, Item, machineItem, inputItem, kind_item, output_item, tapes_item, statesItem, finalItem, inputAlphabetItem, tapeAlphabetItem, blank_item, start_item, transition_item, Line, blank_line, comment_line, item_line, error_line, state_in, symbol_in, write_in, direction_in, not_direction, string_in, number_in, Spelled, word_in, Keyword, machineWord, kindWord, inputWord, outputWord, tapesWord, statesWord, sigmaWord, gammaWord, blankWord, startWord, finalWord, deltaWord, keywords, kinds, OutputWord, wordOutput, unaryOutput, binaryOutput, outputs, orders, string_taken, string, choice, state, symbol, direction, read_entry, write_entry, transition, output, item_of, item, Row, Ending, lineFeed, goesBy, remark, ending_of, in_front, rows, last_place, finished, empty_line, line_from, line_of, lines}
+use Rattle.language.specs.Lines.{RawSymbol, RawDecoder, raw_word, raw_unary, raw_binary, RawTransition, Item, machine_item, input_item, kind_item, output_item, tapes_item, states_item, final_item, input_alphabet_item, tape_alphabet_item, blank_item, start_item, transition_item, Line, blank_line, comment_line, item_line, error_line, state_in, symbol_in, write_in, direction_in, not_direction, string_in, number_in, Spelled, word_in, Keyword, machine_word, kind_word, input_word, output_word, tapes_word, states_word, sigma_word, gamma_word, blank_word, start_word, final_word, delta_word, keywords, kinds, OutputWord, word_output, unary_output, binary_output, outputs, orders, string_taken, string, choice, state, symbol, direction, read_entry, write_entry, transition, output, item_of, item, Row, Ending, line_feed, goes_by, remark, ending_of, in_front, rows, last_place, finished, empty_line, line_from, line_of, lines}
 use Rattle.language.proofs.Every.{Every, Maybe, Filled, every_map}
 
 -- a value as it is taken from a token
@@ -29,8 +29,8 @@ Some good l = Filled l × Every good l
 
 -- a comment's text is good
 abbrev pub GoodEnding : (List ℕ → Type 0) → Ending → Type 0
-GoodEnding good lineFeed = Unit {0}
-GoodEnding good goesBy = Unit {0}
+GoodEnding good line_feed = Unit {0}
+GoodEnding good goes_by = Unit {0}
 GoodEnding good (remark s) = good s
 
 -- what holds of each name, string, symbol and comment
@@ -55,15 +55,15 @@ module _ {P : Type 0} (S : Goods P) where
   GoodDecoder (raw_binary o) = Unit {0}
 
   abbrev pub GoodItem : Item P → Type 0
-  GoodItem (machineItem x) = S.text x.value
-  GoodItem (inputItem x) = S.text x.value
+  GoodItem (machine_item x) = S.text x.value
+  GoodItem (input_item x) = S.text x.value
   GoodItem (kind_item x) = Unit {0}
   GoodItem (output_item x) = GoodDecoder x
   GoodItem (tapes_item x) = Unit {0}
-  GoodItem (statesItem x) = Every S.name x
-  GoodItem (finalItem x) = Every S.name x
-  GoodItem (inputAlphabetItem x) = Every (λ s. S.sym s.value) x
-  GoodItem (tapeAlphabetItem x) = Every (λ s. S.sym s.value) x
+  GoodItem (states_item x) = Every S.name x
+  GoodItem (final_item x) = Every S.name x
+  GoodItem (input_alphabet_item x) = Every (λ s. S.sym s.value) x
+  GoodItem (tape_alphabet_item x) = Every (λ s. S.sym s.value) x
   GoodItem (blank_item x) = S.sym x
   GoodItem (start_item x) = S.name x
   GoodItem (transition_item x) = GoodRaw x
@@ -231,24 +231,24 @@ module _ {P : Type 0} (G : Token P → Type 0) where
 
       output_gives : (w : OutputWord) → Gives (GoodDecoder S) (output stop w)
       unfolding output
-      output_gives wordOutput = give_gives tt
-      output_gives unaryOutput = bind_gives _ symbol_gives (λ s h. give_gives h)
-      output_gives binaryOutput = bind_gives _ (choice_gives orders) (λ o _. give_gives tt)
+      output_gives word_output = give_gives tt
+      output_gives unary_output = bind_gives _ symbol_gives (λ s h. give_gives h)
+      output_gives binary_output = bind_gives _ (choice_gives orders) (λ o _. give_gives tt)
 
       item_of_gives : (k : Keyword) → Gives (GoodItem S) (item_of stop k)
       unfolding item_of
-      item_of_gives machineWord = bind_gives _ string_gives (λ s h. give_gives h)
-      item_of_gives kindWord = bind_gives _ (choice_gives kinds) (λ k _. give_gives tt)
-      item_of_gives inputWord = bind_gives _ string_gives (λ s h. give_gives h)
-      item_of_gives outputWord = bind_gives _ (choice_gives outputs) (λ w _. bind_gives _ (output_gives w.value) (λ o h. give_gives h))
-      item_of_gives tapesWord = bind_gives _ (expect_gives stop 0x3D) (λ _ _. bind_gives _ (any_gives stop number_in unexpected) (λ n _. give_gives tt))
-      item_of_gives statesWord = bind_gives _ (expect_gives stop 0x3D) (λ _ _. bind_gives _ (set_gives stop state_gives) (λ q h. give_gives h))
-      item_of_gives sigmaWord = bind_gives _ (expect_gives stop 0x3D) (λ _ _. bind_gives _ (set_gives stop symbol_gives) (λ q h. give_gives h))
-      item_of_gives gammaWord = bind_gives _ (expect_gives stop 0x3D) (λ _ _. bind_gives _ (set_gives stop symbol_gives) (λ q h. give_gives h))
-      item_of_gives blankWord = bind_gives _ (expect_gives stop 0x3D) (λ _ _. bind_gives _ symbol_gives (λ s h. give_gives h))
-      item_of_gives startWord = bind_gives _ (expect_gives stop 0x3D) (λ _ _. bind_gives _ state_gives (λ q h. give_gives h))
-      item_of_gives finalWord = bind_gives _ (expect_gives stop 0x3D) (λ _ _. bind_gives _ (set_gives stop state_gives) (λ q h. give_gives h))
-      item_of_gives deltaWord = bind_gives _ transition_gives (λ r h. give_gives h)
+      item_of_gives machine_word = bind_gives _ string_gives (λ s h. give_gives h)
+      item_of_gives kind_word = bind_gives _ (choice_gives kinds) (λ k _. give_gives tt)
+      item_of_gives input_word = bind_gives _ string_gives (λ s h. give_gives h)
+      item_of_gives output_word = bind_gives _ (choice_gives outputs) (λ w _. bind_gives _ (output_gives w.value) (λ o h. give_gives h))
+      item_of_gives tapes_word = bind_gives _ (expect_gives stop 0x3D) (λ _ _. bind_gives _ (any_gives stop number_in unexpected) (λ n _. give_gives tt))
+      item_of_gives states_word = bind_gives _ (expect_gives stop 0x3D) (λ _ _. bind_gives _ (set_gives stop state_gives) (λ q h. give_gives h))
+      item_of_gives sigma_word = bind_gives _ (expect_gives stop 0x3D) (λ _ _. bind_gives _ (set_gives stop symbol_gives) (λ q h. give_gives h))
+      item_of_gives gamma_word = bind_gives _ (expect_gives stop 0x3D) (λ _ _. bind_gives _ (set_gives stop symbol_gives) (λ q h. give_gives h))
+      item_of_gives blank_word = bind_gives _ (expect_gives stop 0x3D) (λ _ _. bind_gives _ symbol_gives (λ s h. give_gives h))
+      item_of_gives start_word = bind_gives _ (expect_gives stop 0x3D) (λ _ _. bind_gives _ state_gives (λ q h. give_gives h))
+      item_of_gives final_word = bind_gives _ (expect_gives stop 0x3D) (λ _ _. bind_gives _ (set_gives stop state_gives) (λ q h. give_gives h))
+      item_of_gives delta_word = bind_gives _ transition_gives (λ r h. give_gives h)
 
       pub item_gives : Gives (GoodItem S) (item stop)
       unfolding item
@@ -262,9 +262,9 @@ module _ {P : Type 0} (G : Token P → Type 0) where
 
     front_good : (e : Ending) (t : Token P) (rs : List (Row P)) → G t → GoodEnding (λ s. S.note (record { value = s; place = t.inner })) e → Every GoodRow rs → Every GoodRow (in_front e t rs)
     unfolding in_front
-    front_good lineFeed t rs g n h = ((tt, tt), h)
-    front_good goesBy t [] g n h = tt
-    front_good goesBy t (r ∷ rs) g n h = (((g, h.0.0), h.0.1), h.1)
+    front_good line_feed t rs g n h = ((tt, tt), h)
+    front_good goes_by t [] g n h = tt
+    front_good goes_by t (r ∷ rs) g n h = (((g, h.0.0), h.0.1), h.1)
     front_good (remark s) t [] g n h = tt
     front_good (remark s) t (r ∷ rs) g n h = ((tt, n), h.1)
 

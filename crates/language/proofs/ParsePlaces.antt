@@ -8,7 +8,7 @@ use lib.ListN.{length, length-map}
 use Rattle.lexer.specs.Tokens.{TokenKind, Token, tokens}
 use Rattle.language.specs.Machine.{Located}
 use Rattle.language.specs.Parser.{Result, ok, fail, Parser, then, ◌>>=◌, give, unexpected, is_sign, goes_on, taken, branch, go_on, one, expect, opened, at_most, entries, single, tuple, set}
-use Rattle.language.specs.Lines.{RawTransition, Text, Item, machineItem, inputItem, kind_item, output_item, tapes_item, statesItem, finalItem, inputAlphabetItem, tapeAlphabetItem, blank_item, start_item, transition_item, Line, blank_line, comment_line, item_line, error_line, state_in, symbol_in, write_in, direction_in, not_direction, string_in, number_in, word_in, Keyword, machineWord, kindWord, inputWord, outputWord, tapesWord, statesWord, sigmaWord, gammaWord, blankWord, startWord, finalWord, deltaWord, keywords, kinds, OutputWord, wordOutput, unaryOutput, binaryOutput, outputs, orders, string_taken, string, numeral, choice, state, symbol, direction, read_entry, write_entry, transition, output, item_of, item, Row, Ending, lineFeed, goesBy, remark, ending_of, in_front, rows, finished, empty_line, line_from, line_of, lines, covering, read_lines}
+use Rattle.language.specs.Lines.{RawTransition, Text, Item, machine_item, input_item, kind_item, output_item, tapes_item, states_item, final_item, input_alphabet_item, tape_alphabet_item, blank_item, start_item, transition_item, Line, blank_line, comment_line, item_line, error_line, state_in, symbol_in, write_in, direction_in, not_direction, string_in, number_in, word_in, Keyword, machine_word, kind_word, input_word, output_word, tapes_word, states_word, sigma_word, gamma_word, blank_word, start_word, final_word, delta_word, keywords, kinds, OutputWord, word_output, unary_output, binary_output, outputs, orders, string_taken, string, numeral, choice, state, symbol, direction, read_entry, write_entry, transition, output, item_of, item, Row, Ending, line_feed, goes_by, remark, ending_of, in_front, rows, finished, empty_line, line_from, line_of, lines, covering, read_lines}
 use Rattle.language.proofs.Every.{map_ext}
 use Rattle.language.proofs.Facts.{map_option}
 use Rattle.language.proofs.TokenKinds as TokenKinds
@@ -32,15 +32,15 @@ module _ {P Q : Type 0} (f : P → Q) where
   on_raw r = record { from = on_loc r.from; read = map (map on_loc) r.read; to = on_loc r.to; write = map on_loc r.write; dir = map on_loc r.dir }
 
   abbrev pub on_item : Item P → Item Q
-  on_item (machineItem t) = machineItem (on_text t)
-  on_item (inputItem t) = inputItem (on_text t)
+  on_item (machine_item t) = machine_item (on_text t)
+  on_item (input_item t) = input_item (on_text t)
   on_item (kind_item k) = kind_item k
   on_item (output_item o) = output_item o
   on_item (tapes_item n) = tapes_item (on_loc n)
-  on_item (statesItem l) = statesItem (map on_loc l)
-  on_item (finalItem l) = finalItem (map on_loc l)
-  on_item (inputAlphabetItem l) = inputAlphabetItem (map on_loc l)
-  on_item (tapeAlphabetItem l) = tapeAlphabetItem (map on_loc l)
+  on_item (states_item l) = states_item (map on_loc l)
+  on_item (final_item l) = final_item (map on_loc l)
+  on_item (input_alphabet_item l) = input_alphabet_item (map on_loc l)
+  on_item (tape_alphabet_item l) = tape_alphabet_item (map on_loc l)
   on_item (blank_item s) = blank_item s
   on_item (start_item l) = start_item (on_loc l)
   on_item (transition_item r) = transition_item (on_raw r)
@@ -183,24 +183,24 @@ module _ {P Q : Type 0} (f : P → Q) where
 
     output_natural : (w : OutputWord) → Natural (λ o. o) (output stop w) (output (f stop) w)
     unfolding output choice
-    output_natural wordOutput = give_natural
-    output_natural unaryOutput = bind_natural _ symbol_natural (λ s. give_natural)
-    output_natural binaryOutput = bind_natural _ (one_natural (word_in orders) unexpected) (λ o. give_natural)
+    output_natural word_output = give_natural
+    output_natural unary_output = bind_natural _ symbol_natural (λ s. give_natural)
+    output_natural binary_output = bind_natural _ (one_natural (word_in orders) unexpected) (λ o. give_natural)
 
     item_of_natural : (k : Keyword) → Natural on_item (item_of stop k) (item_of (f stop) k)
     unfolding item_of choice
-    item_of_natural machineWord = bind_natural _ string_natural (λ s. give_natural)
-    item_of_natural kindWord = bind_natural _ (one_natural (word_in kinds) unexpected) (λ k. give_natural)
-    item_of_natural inputWord = bind_natural _ string_natural (λ s. give_natural)
-    item_of_natural outputWord = bind_natural _ (one_natural (word_in outputs) unexpected) (λ w. bind_natural _ (output_natural w.value) (λ o. give_natural))
-    item_of_natural tapesWord = bind_natural _ (expect_natural 0x3D) (λ _. bind_natural _ numeral_natural (λ n. give_natural))
-    item_of_natural statesWord = bind_natural _ (expect_natural 0x3D) (λ _. bind_natural _ (set_natural state_natural) (λ q. give_natural))
-    item_of_natural sigmaWord = bind_natural _ (expect_natural 0x3D) (λ _. bind_natural _ (set_natural symbol_natural) (λ q. give_natural))
-    item_of_natural gammaWord = bind_natural _ (expect_natural 0x3D) (λ _. bind_natural _ (set_natural symbol_natural) (λ q. give_natural))
-    item_of_natural blankWord = bind_natural _ (expect_natural 0x3D) (λ _. bind_natural _ symbol_natural (λ s. give_natural))
-    item_of_natural startWord = bind_natural _ (expect_natural 0x3D) (λ _. bind_natural _ state_natural (λ q. give_natural))
-    item_of_natural finalWord = bind_natural _ (expect_natural 0x3D) (λ _. bind_natural _ (set_natural state_natural) (λ q. give_natural))
-    item_of_natural deltaWord = bind_natural _ transition_natural (λ r. give_natural)
+    item_of_natural machine_word = bind_natural _ string_natural (λ s. give_natural)
+    item_of_natural kind_word = bind_natural _ (one_natural (word_in kinds) unexpected) (λ k. give_natural)
+    item_of_natural input_word = bind_natural _ string_natural (λ s. give_natural)
+    item_of_natural output_word = bind_natural _ (one_natural (word_in outputs) unexpected) (λ w. bind_natural _ (output_natural w.value) (λ o. give_natural))
+    item_of_natural tapes_word = bind_natural _ (expect_natural 0x3D) (λ _. bind_natural _ numeral_natural (λ n. give_natural))
+    item_of_natural states_word = bind_natural _ (expect_natural 0x3D) (λ _. bind_natural _ (set_natural state_natural) (λ q. give_natural))
+    item_of_natural sigma_word = bind_natural _ (expect_natural 0x3D) (λ _. bind_natural _ (set_natural symbol_natural) (λ q. give_natural))
+    item_of_natural gamma_word = bind_natural _ (expect_natural 0x3D) (λ _. bind_natural _ (set_natural symbol_natural) (λ q. give_natural))
+    item_of_natural blank_word = bind_natural _ (expect_natural 0x3D) (λ _. bind_natural _ symbol_natural (λ s. give_natural))
+    item_of_natural start_word = bind_natural _ (expect_natural 0x3D) (λ _. bind_natural _ state_natural (λ q. give_natural))
+    item_of_natural final_word = bind_natural _ (expect_natural 0x3D) (λ _. bind_natural _ (set_natural state_natural) (λ q. give_natural))
+    item_of_natural delta_word = bind_natural _ transition_natural (λ r. give_natural)
 
     item_natural : Natural on_item (item stop) (item (f stop))
     unfolding item choice
@@ -210,9 +210,9 @@ module _ {P Q : Type 0} (f : P → Q) where
 
   front_natural : (e : Ending) (t : Token P) (rs : List (Row P)) → map on_row (in_front e t rs) ≡ in_front e (on_token t) (map on_row rs)
   unfolding in_front
-  front_natural lineFeed t rs = refl
-  front_natural goesBy t [] = refl
-  front_natural goesBy t (r ∷ rs) = refl
+  front_natural line_feed t rs = refl
+  front_natural goes_by t [] = refl
+  front_natural goes_by t (r ∷ rs) = refl
   front_natural (remark s) t [] = refl
   front_natural (remark s) t (r ∷ rs) = refl
 

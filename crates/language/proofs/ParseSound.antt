@@ -6,7 +6,7 @@ use mathlib.Core.Path.{◌≡◌, refl, sym}
 use borrow.Author.Tests.{not-true}
 use lib.Dec.{eqb}
 use Rattle.lexer.specs.Text.{codes, same}
-use Rattle.lexer.specs.Tokens.{TokenKind, word, number, quoted, str, sign, comment, newline, unterminatedString, unterminatedQuote}
+use Rattle.lexer.specs.Tokens.{TokenKind, word, number, quoted, str, sign, comment, newline, unterminated_string, unterminated_quote}
 use Rattle.language.specs.Parser.{when}
 use Rattle.language.specs.Lines.{RawSymbol, raw_blank, glyph, RawDecoder, state_in, one_character, bare, bracket, symbol_in, string_in, ending_of, lines}
 use Rattle.language.proofs.Every.{by_test, Every, Maybe, every_map}
@@ -58,8 +58,8 @@ state_in_lem (str s) h = tt
 state_in_lem (sign c) h = tt
 state_in_lem (comment s) h = tt
 state_in_lem newline h = tt
-state_in_lem unterminatedString h = tt
-state_in_lem unterminatedQuote h = tt
+state_in_lem unterminated_string h = tt
+state_in_lem unterminated_quote h = tt
 
 bare_good : (b c : ℕ) → GoodCode c → GoodSymbol (bare b c)
 unfolding bare
@@ -82,8 +82,8 @@ symbol_in_lem (sign c) h = when_good GoodSymbol (not (bracket c || eqb c 0x2A ||
 symbol_in_lem (str s) h = tt
 symbol_in_lem (comment s) h = tt
 symbol_in_lem newline h = tt
-symbol_in_lem unterminatedString h = tt
-symbol_in_lem unterminatedQuote h = tt
+symbol_in_lem unterminated_string h = tt
+symbol_in_lem unterminated_quote h = tt
 
 string_in_lem : (k : TokenKind) → GoodKind k → Maybe AllFine (string_in k)
 unfolding string_in
@@ -94,8 +94,8 @@ string_in_lem (quoted c) h = tt
 string_in_lem (sign c) h = tt
 string_in_lem (comment s) h = tt
 string_in_lem newline h = tt
-string_in_lem unterminatedString h = tt
-string_in_lem unterminatedQuote h = tt
+string_in_lem unterminated_string h = tt
+string_in_lem unterminated_quote h = tt
 
 -- ---- lines
 
@@ -108,8 +108,8 @@ ending_good (quoted c) h = tt
 ending_good (str s) h = tt
 ending_good (sign c) h = tt
 ending_good newline h = tt
-ending_good unterminatedString h = tt
-ending_good unterminatedQuote h = tt
+ending_good unterminated_string h = tt
+ending_good unterminated_quote h = tt
 
 -- every line of a text of admitted characters, places left out
 pub lines_good : (cs : List ℕ) → AllFine cs → Every (GoodLine writable) (lines nowhere (map PlainParse.bare (TokenKinds.kinds cs)))

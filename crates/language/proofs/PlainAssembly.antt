@@ -11,7 +11,7 @@ use Rattle.lexer.specs.Text.{same}
 use Rattle.language.specs.Machine.{Located}
 use Rattle.language.specs.Content.{ActionContent, RuleContent, Content, optional, values, rule_content}
 use Rattle.language.specs.Parser.{when}
-use Rattle.language.specs.Lines.{glyph, RawTransition, Item, machineItem, inputItem, kind_item, output_item, tapes_item, statesItem, finalItem, inputAlphabetItem, tapeAlphabetItem, blank_item, start_item, transition_item, Line, blank_line}
+use Rattle.language.specs.Lines.{glyph, RawTransition, Item, machine_item, input_item, kind_item, output_item, tapes_item, states_item, final_item, input_alphabet_item, tape_alphabet_item, blank_item, start_item, transition_item, Line, blank_line}
 use Rattle.language.specs.Assembly as A
 use Rattle.language.specs.Assembly.{Parts, parts, items, first, found, or_else, blank_of, states_in, finals_in, RuleLine, Body, add_header, add_rule, attach, body_of, combinations, expands, verdict, kept, choices, actions, rule_of, dressed, expand, expand_all, line_errors, is_number, declared_at, tapes_error, declaration_error, declaration_errors, listed_at, unknown_error, final_error, final_errors, rule_errors, diagnostics_of}
 use Rattle.language.specs.Infer.{member, fresh, nothing}
@@ -37,17 +37,17 @@ rule_items (r ∷ l) = item (transition_item (raw_of r)) ∷ rule_items l
 -- the items of a plain form
 plain_items : Content → List (Located U (Item U))
 plain_items m =
-    item (machineItem (text m.name))
+    item (machine_item (text m.name))
     ∷ item (kind_item m.kind)
-    ∷ item (inputItem (text m.input))
+    ∷ item (input_item (text m.input))
     ∷ item (output_item (raw_decoder m.output))
     ∷ item (tapes_item (loc m.tapes))
-    ∷ only_item m.declared.states (statesItem (map loc (map (λ s. s.name) m.states)))
-    (only_item m.declared.input_alphabet (inputAlphabetItem (map (λ c. loc (glyph c)) m.sigma))
-    (only_item m.declared.tape_alphabet (tapeAlphabetItem (map (λ c. loc (glyph c)) m.gamma))
+    ∷ only_item m.declared.states (states_item (map loc (map (λ s. s.name) m.states)))
+    (only_item m.declared.input_alphabet (input_alphabet_item (map (λ c. loc (glyph c)) m.sigma))
+    (only_item m.declared.tape_alphabet (tape_alphabet_item (map (λ c. loc (glyph c)) m.gamma))
     (only_item m.declared.blank (blank_item (glyph m.blank))
     (only_item m.declared.start (start_item (loc m.start))
-    (item (finalItem (map loc (final_names m.states))) ∷ rule_items m.rules)))))
+    (item (final_item (map loc (final_names m.states))) ∷ rule_items m.rules)))))
 
 items-comments : (l : List (List ℕ)) (ls : List (Line U)) → items (comment_lines l ls) ≡ items ls
 unfolding items comment_lines
@@ -68,9 +68,9 @@ items-plain : (m : Content) → items (plain_lines m) ≡ plain_items m
 unfolding plain_lines plain_items items
 items-plain m =
     items-comments m.header _
-    ∙ ap (λ t. item (machineItem (text m.name)) ∷ item (kind_item m.kind) ∷ item (inputItem (text m.input)) ∷ item (output_item (raw_decoder m.output)) ∷ item (tapes_item (loc m.tapes)) ∷ t)
+    ∙ ap (λ t. item (machine_item (text m.name)) ∷ item (kind_item m.kind) ∷ item (input_item (text m.input)) ∷ item (output_item (raw_decoder m.output)) ∷ item (tapes_item (loc m.tapes)) ∷ t)
     (items-only m.declared.states _ _ _ (items-only m.declared.input_alphabet _ _ _ (items-only m.declared.tape_alphabet _ _ _ (items-only m.declared.blank _ _ _ (items-only m.declared.start _ _ _
-    (ap (λ t. item (finalItem (map loc (final_names m.states))) ∷ t) (items-rules m.rules _ (items-comments m.trailing (blank_line ∷ [])))))))))
+    (ap (λ t. item (final_item (map loc (final_names m.states))) ∷ t) (items-rules m.rules _ (items-comments m.trailing (blank_line ∷ [])))))))))
 
 -- ---- the first item with a part
 

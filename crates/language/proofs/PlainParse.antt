@@ -13,7 +13,7 @@ use Rattle.lexer.specs.Words.{value}
 use Rattle.language.specs.Machine.{Located, Kind, acceptor, transducer, enumerator, beaver, lsb, msb, Decoder, as_word, as_unary, as_binary, Dir, left, right, stay}
 use Rattle.language.specs.Content.{RuleContent, Content}
 use Rattle.language.specs.Parser.{Result, ok, Parser, then, give, is_sign, goes_on, branch, one, at_most, entries, tuple, set}
-use Rattle.language.specs.Lines.{glyph, RawDecoder, raw_word, raw_unary, raw_binary, RawTransition, Item, machineItem, inputItem, kind_item, output_item, tapes_item, statesItem, finalItem, inputAlphabetItem, tapeAlphabetItem, blank_item, start_item, transition_item, Line, blank_line, comment_line, item_line, state_in, state, symbol, direction, read_entry, write_entry, transition, output, goesBy, ending_of, in_front, rows, finished, line_from, line_of, lines}
+use Rattle.language.specs.Lines.{glyph, RawDecoder, raw_word, raw_unary, raw_binary, RawTransition, Item, machine_item, input_item, kind_item, output_item, tapes_item, states_item, final_item, input_alphabet_item, tape_alphabet_item, blank_item, start_item, transition_item, Line, blank_line, comment_line, item_line, state_in, state, symbol, direction, read_entry, write_entry, transition, output, goes_by, ending_of, in_front, rows, finished, line_from, line_of, lines}
 use Rattle.language.specs.Lines as L
 use Rattle.language.specs.Plain.{final_names, plain}
 use Rattle.language.proofs.Every.{Every, Filled, every_any}
@@ -168,14 +168,14 @@ unfolding line_from
 row_line r = line_from nowhere (map bare r.body) tt (maybe_loc r.own)
 
 abbrev GoesBy : TokenKind → Type 0
-GoesBy k = ending_of k ≡ goesBy
+GoesBy k = ending_of k ≡ goes_by
 
 row_front : (ks : List TokenKind) → Every GoesBy ks → (o : Option (List ℕ)) (rest : List TokenKind)
     → rows (map bare (ks ++ own_t o (newline ∷ rest))) ≡ record { body = map bare ks; stop = tt; comment = maybe_loc o } ∷ rows (map bare rest)
 unfolding rows
 row_front [] h none rest = refl
 row_front [] h (some s) rest = refl
-row_front (k ∷ ks) h o rest = rw h.0 (ap (in_front goesBy (bare k)) (row_front ks h.1 o rest))
+row_front (k ∷ ks) h o rest = rw h.0 (ap (in_front goes_by (bare k)) (row_front ks h.1 o rest))
 
 -- the rows parse to the lines; the text's end is one more, blank
 pub data Parses : List Row → List (Line U) → Type 0 where
@@ -227,11 +227,11 @@ module _ {rs : List Row} {ls : List (Line U)} (h : Parses rs ls) where
   unfolding row_line
   comment_parses s = put (comment_row s) _ tt refl
 
-  machine_parses : (s : List ℕ) → Parses (machine_row s ∷ rs) (declaration (machineItem (text s)) ∷ ls)
+  machine_parses : (s : List ℕ) → Parses (machine_row s ∷ rs) (declaration (machine_item (text s)) ∷ ls)
   unfolding row_line ending_of
   machine_parses s = put (machine_row s) _ (refl, (refl, tt)) refl
 
-  input_parses : (s : List ℕ) → Parses (input_row s ∷ rs) (declaration (inputItem (text s)) ∷ ls)
+  input_parses : (s : List ℕ) → Parses (input_row s ∷ rs) (declaration (input_item (text s)) ∷ ls)
   unfolding row_line ending_of
   input_parses s = put (input_row s) _ (refl, (refl, tt)) refl
 
@@ -261,25 +261,25 @@ module _ {rs : List Row} {ls : List (Line U)} (h : Parses rs ls) where
   unfolding row_line ending_of
   start_parses w g = put (start_row w) _ (refl, (refl, (refl, tt))) (ap (λ p. finished tt none (then p (λ q. give (start_item q)))) (state-read w g []))
 
-  states_parses : (l : List (List ℕ)) → Every NotBlank l → Parses (set_row (codes "Q") word l ∷ rs) (declaration (statesItem (map loc l)) ∷ ls)
+  states_parses : (l : List (List ℕ)) → Every NotBlank l → Parses (set_row (codes "Q") word l ∷ rs) (declaration (states_item (map loc l)) ∷ ls)
   unfolding row_line ending_of set_row
   states_parses l g = put (set_row (codes "Q") word l) _ (refl, (refl, (refl, commas_t_goes word (λ a. refl) l (sign 0x7D ∷ []) (refl, tt))))
-      (ap (λ p. finished tt none (then p (λ q. give (statesItem q)))) (set-read states-read (λ a. refl) l g))
+      (ap (λ p. finished tt none (then p (λ q. give (states_item q)))) (set-read states-read (λ a. refl) l g))
 
-  finals_parses : (l : List (List ℕ)) → Every NotBlank l → Parses (set_row (codes "F") word l ∷ rs) (declaration (finalItem (map loc l)) ∷ ls)
+  finals_parses : (l : List (List ℕ)) → Every NotBlank l → Parses (set_row (codes "F") word l ∷ rs) (declaration (final_item (map loc l)) ∷ ls)
   unfolding row_line ending_of set_row
   finals_parses l g = put (set_row (codes "F") word l) _ (refl, (refl, (refl, commas_t_goes word (λ a. refl) l (sign 0x7D ∷ []) (refl, tt))))
-      (ap (λ p. finished tt none (then p (λ q. give (finalItem q)))) (set-read states-read (λ a. refl) l g))
+      (ap (λ p. finished tt none (then p (λ q. give (final_item q)))) (set-read states-read (λ a. refl) l g))
 
-  sigma_parses : (l : List ℕ) → Parses (set_row (codes "Σ") quoted l ∷ rs) (declaration (inputAlphabetItem (map (λ c. loc (glyph c)) l)) ∷ ls)
+  sigma_parses : (l : List ℕ) → Parses (set_row (codes "Σ") quoted l ∷ rs) (declaration (input_alphabet_item (map (λ c. loc (glyph c)) l)) ∷ ls)
   unfolding row_line ending_of set_row
   sigma_parses l = put (set_row (codes "Σ") quoted l) _ (refl, (refl, (refl, commas_t_goes quoted (λ a. refl) l (sign 0x7D ∷ []) (refl, tt))))
-      (ap (λ p. finished tt none (then p (λ q. give (inputAlphabetItem q)))) (set-read symbols-read (λ a. refl) l (any l)))
+      (ap (λ p. finished tt none (then p (λ q. give (input_alphabet_item q)))) (set-read symbols-read (λ a. refl) l (any l)))
 
-  gamma_parses : (l : List ℕ) → Parses (set_row (codes "Γ") quoted l ∷ rs) (declaration (tapeAlphabetItem (map (λ c. loc (glyph c)) l)) ∷ ls)
+  gamma_parses : (l : List ℕ) → Parses (set_row (codes "Γ") quoted l ∷ rs) (declaration (tape_alphabet_item (map (λ c. loc (glyph c)) l)) ∷ ls)
   unfolding row_line ending_of set_row
   gamma_parses l = put (set_row (codes "Γ") quoted l) _ (refl, (refl, (refl, commas_t_goes quoted (λ a. refl) l (sign 0x7D ∷ []) (refl, tt))))
-      (ap (λ p. finished tt none (then p (λ q. give (tapeAlphabetItem q)))) (set-read symbols-read (λ a. refl) l (any l)))
+      (ap (λ p. finished tt none (then p (λ q. give (tape_alphabet_item q)))) (set-read symbols-read (λ a. refl) l (any l)))
 
   only_parses : (b : Bool) (r : Row) (l : Line U) → (b ≡ true → Parses (r ∷ rs) (l ∷ ls)) → Parses (only_row b r rs) (only_line b l ls)
   only_parses true r l f = f refl
@@ -357,17 +357,17 @@ unfoldable pub plain_lines : Content → List (Line U)
 unfolding comment_lines rule_lines final_names
 plain_lines m =
     comment_lines m.header
-    (declaration (machineItem (text m.name))
+    (declaration (machine_item (text m.name))
     ∷ declaration (kind_item m.kind)
-    ∷ declaration (inputItem (text m.input))
+    ∷ declaration (input_item (text m.input))
     ∷ declaration (output_item (raw_decoder m.output))
     ∷ declaration (tapes_item (loc m.tapes))
-    ∷ only_line m.declared.states (declaration (statesItem (map loc (map (λ s. s.name) m.states))))
-    (only_line m.declared.input_alphabet (declaration (inputAlphabetItem (map (λ c. loc (glyph c)) m.sigma)))
-    (only_line m.declared.tape_alphabet (declaration (tapeAlphabetItem (map (λ c. loc (glyph c)) m.gamma)))
+    ∷ only_line m.declared.states (declaration (states_item (map loc (map (λ s. s.name) m.states))))
+    (only_line m.declared.input_alphabet (declaration (input_alphabet_item (map (λ c. loc (glyph c)) m.sigma)))
+    (only_line m.declared.tape_alphabet (declaration (tape_alphabet_item (map (λ c. loc (glyph c)) m.gamma)))
     (only_line m.declared.blank (declaration (blank_item (glyph m.blank)))
     (only_line m.declared.start (declaration (start_item (loc m.start)))
-    (declaration (finalItem (map loc (final_names m.states)))
+    (declaration (final_item (map loc (final_names m.states)))
     ∷ rule_lines m.rules
     (comment_lines m.trailing (blank_line ∷ []))))))))
 

@@ -8,8 +8,8 @@ use borrow.Author.Tests.{leb-true}
 use lib.Dec.{eqb, leb}
 use lib.ListN.{length}
 use Rattle.lexer.specs.Tokens.{Token, Span, tokens}
-use Rattle.language.specs.Lines.{Line, state_in, symbol_in, string_in, Ending, lineFeed, goesBy, remark, ending_of, lines, covering, read_lines}
-use Rattle.language.specs.Assembly.{items, blank_of, RuleLine, body_of, combinations, expands, wrongArity, tooMany, verdict, kept}
+use Rattle.language.specs.Lines.{Line, state_in, symbol_in, string_in, Ending, line_feed, goes_by, remark, ending_of, lines, covering, read_lines}
+use Rattle.language.specs.Assembly.{items, blank_of, RuleLine, body_of, combinations, expands, wrong_arity, too_many, verdict, kept}
 use Rattle.language.specs.Infer.{machine_of}
 use Rattle.language.specs.Layout.{sheet_words, sheet_length}
 use Rattle.language.proofs.Every.{by_test, Every, Filled, every_any, every_impl}
@@ -31,8 +31,8 @@ abbrev free : {P : Type 0} → Goods P
 free = record { name = Any; text = Any; sym = Any; note = Any }
 
 any_ending : (e : Ending) → GoodEnding Any e
-any_ending lineFeed = tt
-any_ending goesBy = tt
+any_ending line_feed = tt
+any_ending goes_by = tt
 any_ending (remark s) = tt
 
 -- the read sets of every rule that is read have members
@@ -43,10 +43,10 @@ read_chosen ◌⋯◌ ts =
 
 -- ---- the limit
 
-not_many : tooMany ≡ expands → ⊥
+not_many : too_many ≡ expands → ⊥
 not_many q = let z : ◌≡◌ {A = ℕ} 0 1 = cc in omega arith
 
-not_arity : wrongArity ≡ expands → ⊥
+not_arity : wrong_arity ≡ expands → ⊥
 not_arity q = let z : ◌≡◌ {A = ℕ} 0 1 = cc in omega arith
 
 expands_within : {P : Type 0} (n : ℕ) (l : RuleLine P) → verdict n l.raw ≡ expands → n + combinations l.raw.read ≤ 262144

@@ -20,7 +20,7 @@ use Rattle.language.specs.Content.{Content, content_of}
 use Rattle.language.specs.Lines.{lines, read_lines}
 use Rattle.language.specs.Assembly.{Diagnostic, diagnostics_of, sort, diagnostics}
 use Rattle.language.specs.Infer.{machine_of}
-use Rattle.language.specs.Outcome.{Refusal, textTooLong, workTooShort, invalidUtf8, outsideSet, max_bytes, work_needed, admitted, form_of}
+use Rattle.language.specs.Outcome.{Refusal, text_too_long, work_too_short, invalid_utf8, outside_set, max_bytes, work_needed, admitted, form_of}
 use Rattle.language.specs.Plain.{plain}
 use Rattle.language.proofs.Every.{by_test, and_right}
 use Rattle.language.proofs.TokenKinds.{kinds}
@@ -71,8 +71,8 @@ nowhere_fine o (c ∷ cs) e = by_test (fine c) (λ h. (h, nowhere_fine (o + size
 abbrev gate : Bool → Bool → Bool → ℕ → Outside → Bool
 gate long short invalid n o = elim (
     elim long as (λ _. Option Refusal) [
-      | true ↦ some textTooLong
-      | false ↦ elim short [ true ↦ some workTooShort | false ↦ elim invalid [ true ↦ some (invalidUtf8 n) | false ↦ elim o [ At p ↦ some (outsideSet p) | Nowhere ↦ none ] ] ]
+      | true ↦ some text_too_long
+      | false ↦ elim short [ true ↦ some work_too_short | false ↦ elim invalid [ true ↦ some (invalid_utf8 n) | false ↦ elim o [ At p ↦ some (outside_set p) | Nowhere ↦ none ] ] ]
     ]
     ) [ none ↦ true | some r ↦ false ]
 

@@ -14,7 +14,7 @@ use Rattle.chars.specs.Class.{class_of}
 use Rattle.chars.specs.declared.Class.{Class}
 use Rattle.chars.specs.declared.Class.TheVariants.{Letter, Digit, Space, Sign, Other}
 use Rattle.chars.proofs.Theorems.{encode-append, decode-encode, length-encode, sizes-append}
-use Rattle.lexer.specs.Tokens.{TokenKind, word, number, quoted, str, sign, comment, newline, unterminatedString, unterminatedQuote, Span, span, Token, run, line, trim_cons, trim_end, is_whitespace, indent, comment_text, escape, Inner, ends, breaks, escapes, stands, inner_of, Inside, closed, unclosed, put, pass, inside, unescape, Step, gap, tok, word_step, number_step, string_step, quoted_step, slash_step, other_step, step, emit, tokens_from, tokens, is_word_continue, is_ascii_digit}
+use Rattle.lexer.specs.Tokens.{TokenKind, word, number, quoted, str, sign, comment, newline, unterminated_string, unterminated_quote, Span, span, Token, run, line, trim_cons, trim_end, is_whitespace, indent, comment_text, escape, Inner, ends, breaks, escapes, stands, inner_of, Inside, closed, unclosed, put, pass, inside, unescape, Step, gap, tok, word_step, number_step, string_step, quoted_step, slash_step, other_step, step, emit, tokens_from, tokens, is_word_continue, is_ascii_digit}
 use Rattle.language.specs.Agreement.{characters_at}
 use Rattle.language.proofs.Every.{by_test, Every, and_left, and_right, and_both}
 
@@ -203,8 +203,8 @@ FitsKind l (str v) w a b = (raw : List ℕ) × Encloses raw v × Within l raw w 
 FitsKind l (quoted c) w a b = Unit {0}
 FitsKind l (sign c) w a b = Unit {0}
 FitsKind l newline w a b = Unit {0}
-FitsKind l unterminatedString w a b = Unit {0}
-FitsKind l unterminatedQuote w a b = Unit {0}
+FitsKind l unterminated_string w a b = Unit {0}
+FitsKind l unterminated_quote w a b = Unit {0}
 
 abbrev FitsStep : List ℕ → Step → Type 0
 FitsStep l gap = Unit {0}
@@ -322,8 +322,8 @@ Placed cs t = elim t.kind [
   | quoted c ↦ Unit {0}
   | sign c ↦ Unit {0}
   | newline ↦ Unit {0}
-  | unterminatedString ↦ Unit {0}
-  | unterminatedQuote ↦ Unit {0}
+  | unterminated_string ↦ Unit {0}
+  | unterminated_quote ↦ Unit {0}
 ]
 
 -- `pre` stands before the list l that is left, at the place o
@@ -354,8 +354,8 @@ module _ (cs pre l : List ℕ) (o : ℕ) (split : cs ≡ pre ++ l) (at : o ≡ s
   placed (quoted c) w a b h = tt
   placed (sign c) w a b h = tt
   placed newline w a b h = tt
-  placed unterminatedString w a b h = tt
-  placed unterminatedQuote w a b h = tt
+  placed unterminated_string w a b h = tt
+  placed unterminated_quote w a b h = tt
 
   emit_placed : (s : Step) (next : ℕ → List (Token Span)) → FitsStep l s → ((n : ℕ) → Every (Placed cs) (next n)) → Every (Placed cs) (emit o s next)
   unfolding emit

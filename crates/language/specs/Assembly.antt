@@ -4,7 +4,7 @@ use Rattle.std.proofs.Math.Option.{Option, none, some}
 use Rattle.lexer.specs.Text.{same}
 use Rattle.lexer.specs.Tokens.{Span}
 use Rattle.language.specs.Machine.{Located, Kind, Dir, Action, Rule}
-use Rattle.language.specs.Lines.{RawSymbol, raw_blank, glyph, RawDecoder, RawTransition, Text, Item, machineItem, inputItem, kind_item, output_item, tapes_item, statesItem, finalItem, inputAlphabetItem, tapeAlphabetItem, blank_item, start_item, transition_item, Line, blank_line, comment_line, item_line, error_line}
+use Rattle.language.specs.Lines.{RawSymbol, raw_blank, glyph, RawDecoder, RawTransition, Text, Item, machine_item, input_item, kind_item, output_item, tapes_item, states_item, final_item, input_alphabet_item, tape_alphabet_item, blank_item, start_item, transition_item, Line, blank_line, comment_line, item_line, error_line}
 
 -- ---- declarations
 
@@ -31,17 +31,17 @@ columns m k i o t q s g b st f r = record { machine = m; kind = k; input = i; ou
 
 -- each item fills one column
 unfoldable pub parts : {P : Type 0} → Item P → Parts P
-parts (machineItem x) = columns (some x) none none none none none none none none none none none
+parts (machine_item x) = columns (some x) none none none none none none none none none none none
 parts (kind_item x) = columns none (some x) none none none none none none none none none none
-parts (inputItem x) = columns none none (some x) none none none none none none none none none
+parts (input_item x) = columns none none (some x) none none none none none none none none none
 parts (output_item x) = columns none none none (some x) none none none none none none none none
 parts (tapes_item x) = columns none none none none (some x) none none none none none none none
-parts (statesItem x) = columns none none none none none (some x) none none none none none none
-parts (inputAlphabetItem x) = columns none none none none none none (some x) none none none none none
-parts (tapeAlphabetItem x) = columns none none none none none none none (some x) none none none none
+parts (states_item x) = columns none none none none none (some x) none none none none none none
+parts (input_alphabet_item x) = columns none none none none none none (some x) none none none none none
+parts (tape_alphabet_item x) = columns none none none none none none none (some x) none none none none
 parts (blank_item x) = columns none none none none none none none none (some x) none none none
 parts (start_item x) = columns none none none none none none none none none (some x) none none
-parts (finalItem x) = columns none none none none none none none none none none (some x) none
+parts (final_item x) = columns none none none none none none none none none none (some x) none
 parts (transition_item x) = columns none none none none none none none none none none none (some x)
 
 -- the items of a list of lines, each with its line's place
@@ -158,22 +158,22 @@ combinations (s ∷ ss) = length s * combinations ss
 
 -- what becomes of a rule when n rules came before it
 pub data Verdict : Type 0 where
-  expands wrongArity tooMany : Verdict
+  expands wrong_arity too_many : Verdict
 
 -- a wrong number of entries comes first, then the limit of 262,144 rules
 unfoldable pub verdict : {P : Type 0} → ℕ → RawTransition P → Verdict
 unfolding combinations
 verdict n r =
     elim (eqb (length r.write) (length r.read) && eqb (length r.dir) (length r.read)) [
-      | false ↦ wrongArity
-      | true ↦ elim (leb (n + combinations r.read) 262144) [ true ↦ expands | false ↦ tooMany ]
+      | false ↦ wrong_arity
+      | true ↦ elim (leb (n + combinations r.read) 262144) [ true ↦ expands | false ↦ too_many ]
     ]
 
 -- the rules that expand, n rules standing before them
 unfoldable pub kept : {P : Type 0} → ℕ → List (RuleLine P) → List (RuleLine P)
 unfolding verdict combinations
 kept n [] = []
-kept n (r ∷ rs) = elim (verdict n r.raw) [ expands ↦ r ∷ kept (n + combinations r.raw.read) rs | wrongArity ↦ kept n rs | tooMany ↦ kept n rs ]
+kept n (r ∷ rs) = elim (verdict n r.raw) [ expands ↦ r ∷ kept (n + combinations r.raw.read) rs | wrong_arity ↦ kept n rs | too_many ↦ kept n rs ]
 
 -- every choice of one entry from each list, the last list fastest
 unfoldable pub each_front : {A : Type 0} → List A → List (List A) → List (List A)
@@ -248,17 +248,17 @@ line_errors (error_line n p ∷ ls) = diagnostic n p none ∷ line_errors ls
 
 -- the number of the name that an item declares
 unfoldable pub declaration : {P : Type 0} → Item P → Option ℕ
-declaration (machineItem x) = some 0
+declaration (machine_item x) = some 0
 declaration (kind_item x) = some 1
-declaration (inputItem x) = some 2
+declaration (input_item x) = some 2
 declaration (output_item x) = some 3
 declaration (tapes_item x) = some 4
-declaration (statesItem x) = some 5
-declaration (inputAlphabetItem x) = some 6
-declaration (tapeAlphabetItem x) = some 7
+declaration (states_item x) = some 5
+declaration (input_alphabet_item x) = some 6
+declaration (tape_alphabet_item x) = some 7
 declaration (blank_item x) = some 8
 declaration (start_item x) = some 9
-declaration (finalItem x) = some 10
+declaration (final_item x) = some 10
 declaration (transition_item x) = none
 
 -- the name n is declared
@@ -323,8 +323,8 @@ unfolding verdict combinations
 rule_errors n cut [] = []
 rule_errors n cut (r ∷ rs) = elim (verdict n r.raw) [
   | expands ↦ rule_errors (n + combinations r.raw.read) cut rs
-  | wrongArity ↦ diagnostic 10 r.line none ∷ rule_errors n cut rs
-  | tooMany ↦ elim cut [ true ↦ rule_errors n true rs | false ↦ diagnostic 9 r.line none ∷ rule_errors n true rs ]
+  | wrong_arity ↦ diagnostic 10 r.line none ∷ rule_errors n cut rs
+  | too_many ↦ elim cut [ true ↦ rule_errors n true rs | false ↦ diagnostic 9 r.line none ∷ rule_errors n true rs ]
 ]
 
 -- all diagnostics in the order in which they are found

@@ -4,7 +4,7 @@ use mathlib.Core.List.{List, [], ◌∷◌, map}
 use Rattle.std.proofs.Math.Option.{Option, none, some}
 use Rattle.lexer.specs.Text.{codes, same}
 use Rattle.lexer.specs.Words.{value}
-use Rattle.lexer.specs.Tokens.{TokenKind, word, number, quoted, str, sign, comment, newline, unterminatedString, unterminatedQuote, Token, Span, span, tokens}
+use Rattle.lexer.specs.Tokens.{TokenKind, word, number, quoted, str, sign, comment, newline, unterminated_string, unterminated_quote, Token, Span, span, tokens}
 use Rattle.language.specs.Machine.{Located, Kind, acceptor, transducer, enumerator, beaver, BitOrder, lsb, msb, Dir, left, right, stay}
 use Rattle.language.specs.Parser.{Result, ok, fail, Parser, ◌>>=◌, give, when, unexpected, is_sign, one, expect, opened, entries, single, tuple, set}
 
@@ -35,12 +35,12 @@ Text P = Located P (Located P (List ℕ))
 
 -- a declaration or a rule
 pub data Item (P : Type 0) : Type 0 where
-  machineItem inputItem : Text P → Item P
+  machine_item input_item : Text P → Item P
   kind_item : Kind → Item P
   output_item : RawDecoder → Item P
   tapes_item : Located P ℕ → Item P
-  statesItem finalItem : List (Located P (List ℕ)) → Item P
-  inputAlphabetItem tapeAlphabetItem : List (Located P RawSymbol) → Item P
+  states_item final_item : List (Located P (List ℕ)) → Item P
+  input_alphabet_item tape_alphabet_item : List (Located P RawSymbol) → Item P
   blank_item : RawSymbol → Item P
   start_item : Located P (List ℕ) → Item P
   transition_item : RawTransition P → Item P
@@ -63,8 +63,8 @@ state_in (str s) = none
 state_in (sign c) = none
 state_in (comment s) = none
 state_in newline = none
-state_in unterminatedString = none
-state_in unterminatedQuote = none
+state_in unterminated_string = none
+state_in unterminated_quote = none
 
 -- a word or number of one character
 unfoldable pub one_character : {A : Type 0} → (ℕ → A) → List ℕ → Option A
@@ -90,8 +90,8 @@ symbol_in (sign c) = when (not (bracket c || eqb c 0x2A || eqb c 0x3B)) (bare 0x
 symbol_in (str s) = none
 symbol_in (comment s) = none
 symbol_in newline = none
-symbol_in unterminatedString = none
-symbol_in unterminatedQuote = none
+symbol_in unterminated_string = none
+symbol_in unterminated_quote = none
 
 -- what is written: bare `*` for the symbol read (none), or a symbol
 unfoldable pub write_in : TokenKind → Option (Option RawSymbol)
@@ -114,8 +114,8 @@ direction_in (str s) = none
 direction_in (sign c) = none
 direction_in (comment s) = none
 direction_in newline = none
-direction_in unterminatedString = none
-direction_in unterminatedQuote = none
+direction_in unterminated_string = none
+direction_in unterminated_quote = none
 
 -- the code where a direction is due: E008 for a word, number, quoted character, `*` or other sign
 unfoldable pub not_direction : TokenKind → ℕ
@@ -124,11 +124,11 @@ not_direction (word w) = 8
 not_direction (number w) = 8
 not_direction (quoted c) = 8
 not_direction (sign c) = elim (bracket c) [ true ↦ 1 | false ↦ 8 ]
-not_direction unterminatedString = 2
+not_direction unterminated_string = 2
 not_direction (str s) = 1
 not_direction (comment s) = 1
 not_direction newline = 1
-not_direction unterminatedQuote = 1
+not_direction unterminated_quote = 1
 
 -- a string's value
 unfoldable pub string_in : TokenKind → Option (List ℕ)
@@ -139,8 +139,8 @@ string_in (quoted c) = none
 string_in (sign c) = none
 string_in (comment s) = none
 string_in newline = none
-string_in unterminatedString = none
-string_in unterminatedQuote = none
+string_in unterminated_string = none
+string_in unterminated_quote = none
 
 -- a number's value; digits above 64 bits count as 18446744073709551615
 unfoldable pub number_in : TokenKind → Option ℕ
@@ -152,8 +152,8 @@ number_in (str s) = none
 number_in (sign c) = none
 number_in (comment s) = none
 number_in newline = none
-number_in unterminatedString = none
-number_in unterminatedQuote = none
+number_in unterminated_string = none
+number_in unterminated_quote = none
 
 -- a word and what it means
 pub record Spelled (A : Type 0) : Type 0 where
@@ -179,20 +179,20 @@ word_in l (str s) = none
 word_in l (sign c) = none
 word_in l (comment s) = none
 word_in l newline = none
-word_in l unterminatedString = none
-word_in l unterminatedQuote = none
+word_in l unterminated_string = none
+word_in l unterminated_quote = none
 
 -- what a line begins with: a declaration's name, or a rule's δ
 pub data Keyword : Type 0 where
-  machineWord kindWord inputWord outputWord tapesWord statesWord sigmaWord gammaWord blankWord startWord finalWord deltaWord : Keyword
+  machine_word kind_word input_word output_word tapes_word states_word sigma_word gamma_word blank_word start_word final_word delta_word : Keyword
 
 -- the words that a line begins with, in both spellings
 abbrev pub keywords : List (Spelled Keyword)
 keywords =
-    means (codes "machine") machineWord ∷ means (codes "kind") kindWord ∷ means (codes "input") inputWord ∷ means (codes "output") outputWord ∷
-    means (codes "tapes") tapesWord ∷ means (codes "Q") statesWord ∷ means (codes "Σ") sigmaWord ∷ means (codes "Sigma") sigmaWord ∷
-    means (codes "Γ") gammaWord ∷ means (codes "Gamma") gammaWord ∷ means (codes "blank") blankWord ∷ means (codes "start") startWord ∷
-    means (codes "F") finalWord ∷ means (codes "δ") deltaWord ∷ means (codes "delta") deltaWord ∷ []
+    means (codes "machine") machine_word ∷ means (codes "kind") kind_word ∷ means (codes "input") input_word ∷ means (codes "output") output_word ∷
+    means (codes "tapes") tapes_word ∷ means (codes "Q") states_word ∷ means (codes "Σ") sigma_word ∷ means (codes "Sigma") sigma_word ∷
+    means (codes "Γ") gamma_word ∷ means (codes "Gamma") gamma_word ∷ means (codes "blank") blank_word ∷ means (codes "start") start_word ∷
+    means (codes "F") final_word ∷ means (codes "δ") delta_word ∷ means (codes "delta") delta_word ∷ []
 
 -- the kinds of machine
 abbrev pub kinds : List (Spelled Kind)
@@ -200,11 +200,11 @@ kinds = means (codes "acceptor") acceptor ∷ means (codes "transducer") transdu
 
 -- how an output declaration begins
 pub data OutputWord : Type 0 where
-  wordOutput unaryOutput binaryOutput : OutputWord
+  word_output unary_output binary_output : OutputWord
 
 -- the outputs
 abbrev pub outputs : List (Spelled OutputWord)
-outputs = means (codes "word") wordOutput ∷ means (codes "unary") unaryOutput ∷ means (codes "binary") binaryOutput ∷ []
+outputs = means (codes "word") word_output ∷ means (codes "unary") unary_output ∷ means (codes "binary") binary_output ∷ []
 
 -- the orders of bits
 abbrev pub orders : List (Spelled BitOrder)
@@ -283,25 +283,25 @@ module _ {P : Type 0} (stop : P) where
   -- everything behind `output`
   unfoldable pub output : OutputWord → Parser P RawDecoder
   unfolding ◌>>=◌ symbol choice
-  output wordOutput = give raw_word
-  output unaryOutput = symbol >>= λ s. give (raw_unary s.value)
-  output binaryOutput = choice orders >>= λ o. give (raw_binary o.value)
+  output word_output = give raw_word
+  output unary_output = symbol >>= λ s. give (raw_unary s.value)
+  output binary_output = choice orders >>= λ o. give (raw_binary o.value)
 
   -- what a keyword is followed by; some take `=` first
   unfoldable pub item_of : Keyword → Parser P (Item P)
   unfolding ◌>>=◌ expect set string numeral choice state symbol output transition
-  item_of machineWord = string >>= λ s. give (machineItem s)
-  item_of kindWord = choice kinds >>= λ k. give (kind_item k.value)
-  item_of inputWord = string >>= λ s. give (inputItem s)
-  item_of outputWord = choice outputs >>= λ w. output w.value >>= λ o. give (output_item o)
-  item_of tapesWord = expect stop 0x3D >>= λ _. numeral >>= λ n. give (tapes_item n)
-  item_of statesWord = expect stop 0x3D >>= λ _. set stop state >>= λ q. give (statesItem q)
-  item_of sigmaWord = expect stop 0x3D >>= λ _. set stop symbol >>= λ l. give (inputAlphabetItem l)
-  item_of gammaWord = expect stop 0x3D >>= λ _. set stop symbol >>= λ l. give (tapeAlphabetItem l)
-  item_of blankWord = expect stop 0x3D >>= λ _. symbol >>= λ s. give (blank_item s.value)
-  item_of startWord = expect stop 0x3D >>= λ _. state >>= λ q. give (start_item q)
-  item_of finalWord = expect stop 0x3D >>= λ _. set stop state >>= λ q. give (finalItem q)
-  item_of deltaWord = transition >>= λ r. give (transition_item r)
+  item_of machine_word = string >>= λ s. give (machine_item s)
+  item_of kind_word = choice kinds >>= λ k. give (kind_item k.value)
+  item_of input_word = string >>= λ s. give (input_item s)
+  item_of output_word = choice outputs >>= λ w. output w.value >>= λ o. give (output_item o)
+  item_of tapes_word = expect stop 0x3D >>= λ _. numeral >>= λ n. give (tapes_item n)
+  item_of states_word = expect stop 0x3D >>= λ _. set stop state >>= λ q. give (states_item q)
+  item_of sigma_word = expect stop 0x3D >>= λ _. set stop symbol >>= λ l. give (input_alphabet_item l)
+  item_of gamma_word = expect stop 0x3D >>= λ _. set stop symbol >>= λ l. give (tape_alphabet_item l)
+  item_of blank_word = expect stop 0x3D >>= λ _. symbol >>= λ s. give (blank_item s.value)
+  item_of start_word = expect stop 0x3D >>= λ _. state >>= λ q. give (start_item q)
+  item_of final_word = expect stop 0x3D >>= λ _. set stop state >>= λ q. give (final_item q)
+  item_of delta_word = transition >>= λ r. give (transition_item r)
 
   -- a keyword and what follows it
   unfoldable pub item : Parser P (Item P)
@@ -318,26 +318,26 @@ pub record Row (P : Type 0) : Type 0 where
 
 -- how a token ends a line's tokens: as a line feed, as a comment, or not at all
 pub data Ending : Type 0 where
-  lineFeed goesBy : Ending
+  line_feed goes_by : Ending
   remark : List ℕ → Ending
 
 -- how a token of a kind ends them
 unfoldable pub ending_of : TokenKind → Ending
-ending_of newline = lineFeed
+ending_of newline = line_feed
 ending_of (comment s) = remark s
-ending_of (word w) = goesBy
-ending_of (number w) = goesBy
-ending_of (quoted c) = goesBy
-ending_of (str s) = goesBy
-ending_of (sign c) = goesBy
-ending_of unterminatedString = goesBy
-ending_of unterminatedQuote = goesBy
+ending_of (word w) = goes_by
+ending_of (number w) = goes_by
+ending_of (quoted c) = goes_by
+ending_of (str s) = goes_by
+ending_of (sign c) = goes_by
+ending_of unterminated_string = goes_by
+ending_of unterminated_quote = goes_by
 
 -- a token in front of rows: it joins the first of them, opens a new one, or is its comment, behind which no token stands
 unfoldable pub in_front : {P : Type 0} → Ending → Token P → List (Row P) → List (Row P)
-in_front lineFeed t rs = record { body = []; stop = t.place; comment = none } ∷ rs
-in_front goesBy t [] = []
-in_front goesBy t (r ∷ rs) = record { body = t ∷ r.body; stop = r.stop; comment = r.comment } ∷ rs
+in_front line_feed t rs = record { body = []; stop = t.place; comment = none } ∷ rs
+in_front goes_by t [] = []
+in_front goes_by t (r ∷ rs) = record { body = t ∷ r.body; stop = r.stop; comment = r.comment } ∷ rs
 in_front (remark s) t [] = []
 in_front (remark s) t (r ∷ rs) = record { body = []; stop = t.place; comment = some (record { value = s; place = t.inner }) } ∷ rs
 

@@ -16,39 +16,39 @@ use Rattle.language.specs.Plain.{plain}
 
 -- why a call is refused
 pub data Refusal : Type 0 where
-  textTooLong workTooShort : Refusal
-  invalidUtf8 outsideSet : ℕ → Refusal
-  logTooShort sheetTooShort outputTooShort : ℕ → Refusal
+  text_too_long work_too_short : Refusal
+  invalid_utf8 outside_set : ℕ → Refusal
+  log_too_short sheet_too_short output_too_short : ℕ → Refusal
 
 -- the number that is returned
 abbrev pub refusal_number : Refusal → ℕ
-refusal_number textTooLong = 1
-refusal_number workTooShort = 2
-refusal_number (invalidUtf8 o) = 3
-refusal_number (outsideSet o) = 4
-refusal_number (logTooShort n) = 5
-refusal_number (sheetTooShort n) = 6
-refusal_number (outputTooShort n) = 7
+refusal_number text_too_long = 1
+refusal_number work_too_short = 2
+refusal_number (invalid_utf8 o) = 3
+refusal_number (outside_set o) = 4
+refusal_number (log_too_short n) = 5
+refusal_number (sheet_too_short n) = 6
+refusal_number (output_too_short n) = 7
 
 -- and the value beside it: a place, a count, words or bytes needed
 abbrev pub refusal_value : Refusal → ℕ
-refusal_value textTooLong = 0
-refusal_value workTooShort = 0
-refusal_value (invalidUtf8 o) = o
-refusal_value (outsideSet o) = o
-refusal_value (logTooShort n) = n
-refusal_value (sheetTooShort n) = n
-refusal_value (outputTooShort n) = n
+refusal_value text_too_long = 0
+refusal_value work_too_short = 0
+refusal_value (invalid_utf8 o) = o
+refusal_value (outside_set o) = o
+refusal_value (log_too_short n) = n
+refusal_value (sheet_too_short n) = n
+refusal_value (output_too_short n) = n
 
 -- whether work is untouched too: paper 01 leaves its contents to the program for every other answer
 abbrev pub leaves_work : Refusal → Bool
-leaves_work textTooLong = true
-leaves_work workTooShort = true
-leaves_work (invalidUtf8 o) = false
-leaves_work (outsideSet o) = false
-leaves_work (logTooShort n) = false
-leaves_work (sheetTooShort n) = false
-leaves_work (outputTooShort n) = false
+leaves_work text_too_long = true
+leaves_work work_too_short = true
+leaves_work (invalid_utf8 o) = false
+leaves_work (outside_set o) = false
+leaves_work (log_too_short n) = false
+leaves_work (sheet_too_short n) = false
+leaves_work (output_too_short n) = false
 
 -- the longest text and the longest plain form
 abbrev pub max_bytes : ℕ
@@ -63,12 +63,12 @@ unfoldable pub refusal_of : List ℕ → ℕ → Option Refusal
 unfolding valid_up_to first_outside
 refusal_of t work =
     elim (ltb max_bytes (length t)) [
-      | true ↦ some textTooLong
+      | true ↦ some text_too_long
       | false ↦ elim (ltb work (work_needed (length t))) [
-        | true ↦ some workTooShort
+        | true ↦ some work_too_short
         | false ↦ elim (ltb (valid_up_to t) (length t)) [
-          | true ↦ some (invalidUtf8 (valid_up_to t))
-          | false ↦ elim (first_outside t) [ At o ↦ some (outsideSet o) | Nowhere ↦ none ]
+          | true ↦ some (invalid_utf8 (valid_up_to t))
+          | false ↦ elim (first_outside t) [ At o ↦ some (outside_set o) | Nowhere ↦ none ]
         ]
       ]
     ]
@@ -132,7 +132,7 @@ unfoldable pub read_diagnostics : List (Diagnostic Span) → ℕ → ℕ → Rea
 unfolding log_words
 read_diagnostics ds log sheet =
     elim (ltb (log / 5) (length ds)) [
-      | true ↦ record { reply = refused (logTooShort (length ds)); log = zeros log; sheet = zeros sheet }
+      | true ↦ record { reply = refused (log_too_short (length ds)); log = zeros log; sheet = zeros sheet }
       | false ↦ record { reply = diagnosed (length ds); log = filled (log_words ds) log; sheet = zeros sheet }
     ]
 
@@ -148,7 +148,7 @@ read_machine ls log sheet =
     let m = machine_of ls in
     let needed = words_needed ls in
     elim (ltb sheet needed) [
-      | true ↦ record { reply = refused (sheetTooShort needed); log = zeros log; sheet = zeros sheet }
+      | true ↦ record { reply = refused (sheet_too_short needed); log = zeros log; sheet = zeros sheet }
       | false ↦ record { reply = machine (head_of m); log = zeros log; sheet = filled (sheet_words m) sheet }
     ]
 
@@ -207,7 +207,7 @@ unfoldable pub write_form : List ℕ → ReadOutcome → List ℕ → WriteOutco
 write_form form r output =
     let n = length form in
     elim (ltb (length output) n || ltb max_bytes n) [
-      | true ↦ record { reply = not_read (outputTooShort n); log = r.log; sheet = r.sheet; output = output }
+      | true ↦ record { reply = not_read (output_too_short n); log = r.log; sheet = r.sheet; output = output }
       | false ↦ record { reply = written n; log = r.log; sheet = r.sheet; output = form ++ drop n output }
     ]
 

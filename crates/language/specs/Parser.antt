@@ -3,7 +3,7 @@ use Prim.Native.Nat.{ℕ, zero, suc}
 use Rattle.std.specs.Prelude.{Bool, true, false, eqb, length}
 use mathlib.Core.List.{List, [], ◌∷◌}
 use Rattle.std.proofs.Math.Option.{Option, none, some}
-use Rattle.lexer.specs.Tokens.{TokenKind, word, number, quoted, str, sign, comment, newline, unterminatedString, unterminatedQuote, Token}
+use Rattle.lexer.specs.Tokens.{TokenKind, word, number, quoted, str, sign, comment, newline, unterminated_string, unterminated_quote, Token}
 use Rattle.language.specs.Machine.{Located}
 
 -- what a parser answers: a value and the tokens behind it, or a diagnostic's code and place
@@ -37,7 +37,7 @@ when false a = none
 
 -- the code for a token that does not fit: E002 for an unterminated string, else E001
 unfoldable pub unexpected : TokenKind → ℕ
-unexpected unterminatedString = 2
+unexpected unterminated_string = 2
 unexpected (word w) = 1
 unexpected (number w) = 1
 unexpected (quoted c) = 1
@@ -45,7 +45,7 @@ unexpected (str s) = 1
 unexpected (sign c) = 1
 unexpected (comment s) = 1
 unexpected newline = 1
-unexpected unterminatedQuote = 1
+unexpected unterminated_quote = 1
 
 -- what a sign says
 unfoldable pub sign_in : {A : Type 0} → (ℕ → Option A) → TokenKind → Option A
@@ -56,8 +56,8 @@ sign_in f (quoted c) = none
 sign_in f (str s) = none
 sign_in f (comment s) = none
 sign_in f newline = none
-sign_in f unterminatedString = none
-sign_in f unterminatedQuote = none
+sign_in f unterminated_string = none
+sign_in f unterminated_quote = none
 
 -- the sign c
 unfoldable pub is_sign : ℕ → TokenKind → Option Bool

@@ -3,7 +3,7 @@ use mathlib.Core.Path.{◌≡◌, refl}
 use Prim.Native.Nat.{ℕ}
 use mathlib.Core.List.{List, [], ◌∷◌, map}
 use Rattle.lexer.specs.Text.{codes}
-use Rattle.lexer.specs.Tokens.{TokenKind, word, number, quoted, str, sign, comment, newline, unterminatedString, unterminatedQuote, Span, span, Token, tokens}
+use Rattle.lexer.specs.Tokens.{TokenKind, word, number, quoted, str, sign, comment, newline, unterminated_string, unterminated_quote, Span, span, Token, tokens}
 
 -- a text and its tokens
 record Sample : Type 0 where
@@ -25,11 +25,11 @@ samples =
     record { text = codes "unary'x'"; all = at (word (codes "unary'x'")) 0 8 ∷ at newline 8 8 ∷ [] } ∷
     -- quoted characters and lone quotes
     record { text = codes "'''δ'δ'"; all = at (quoted 0x27) 0 3 ∷ at (word (codes "δ'δ'")) 3 9 ∷ at newline 9 9 ∷ [] } ∷
-    record { text = codes "''x"; all = at unterminatedQuote 0 1 ∷ at unterminatedQuote 1 2 ∷ at (word (codes "x")) 2 3 ∷ at newline 3 3 ∷ [] } ∷
-    record { text = codes "'\n'"; all = at unterminatedQuote 0 1 ∷ at newline 1 2 ∷ at unterminatedQuote 2 3 ∷ at newline 3 3 ∷ [] } ∷
+    record { text = codes "''x"; all = at unterminated_quote 0 1 ∷ at unterminated_quote 1 2 ∷ at (word (codes "x")) 2 3 ∷ at newline 3 3 ∷ [] } ∷
+    record { text = codes "'\n'"; all = at unterminated_quote 0 1 ∷ at newline 1 2 ∷ at unterminated_quote 2 3 ∷ at newline 3 3 ∷ [] } ∷
     -- strings: the four escapes, any other backslash, and none that ends
     record { text = codes "\"\\\"\\\\\\n\\t\\x\""; all = around (str (codes "\"\\\n\t\\x")) 0 12 1 11 ∷ at newline 12 12 ∷ [] } ∷
-    record { text = codes "\"a\\\" \n\""; all = at unterminatedString 0 4 ∷ at newline 5 6 ∷ at unterminatedString 6 7 ∷ at newline 7 7 ∷ [] } ∷
+    record { text = codes "\"a\\\" \n\""; all = at unterminated_string 0 4 ∷ at newline 5 6 ∷ at unterminated_string 6 7 ∷ at newline 7 7 ∷ [] } ∷
     -- white space: carriage return, U+0085, U+00A0
     record { text = codes "Q\r\n\u{85}Σ\u{a0}"; all = at (word (codes "Q")) 0 1 ∷ at newline 2 3 ∷ at (word (codes "Σ")) 5 7 ∷ at newline 9 9 ∷ [] } ∷
     -- comments: one space goes, the end is trimmed

@@ -24,7 +24,7 @@ use Rattle.chars.proofs.Encoding.{size-range}
 use Rattle.chars.proofs.Laws.{decode-end, decode_bad, decode-none, front-decode, char_next, char_decode, char_le, invalid_decode, end-decode, points_next, points_le}
 use Rattle.chars.proofs.Theorems.{part_bytes, part-scalars, encode_injective}
 use Rattle.lexer.specs.Text.{same}
-use Rattle.lexer.specs.Tokens.{TokenKind, word, number, quoted, str, sign, comment, newline, unterminatedString, unterminatedQuote, Span, Token, token_at, is_letter, is_digit, is_word_start, is_ascii_digit, is_word_continue, is_whitespace, run, line, trim_cons, trim_end, indent, comment_text, Inside, closed, unclosed, inside, Step, gap, tok, word_step, number_step, string_step, quoted_step, comment_step, slash_step, other_step, step}
+use Rattle.lexer.specs.Tokens.{TokenKind, word, number, quoted, str, sign, comment, newline, unterminated_string, unterminated_quote, Span, Token, token_at, is_letter, is_digit, is_word_start, is_ascii_digit, is_word_continue, is_whitespace, run, line, trim_cons, trim_end, indent, comment_text, Inside, closed, unclosed, inside, Step, gap, tok, word_step, number_step, string_step, quoted_step, comment_step, slash_step, other_step, step}
 use Rattle.lexer.specs.Words.{keywords, keyword_bytes, keyword, position, value, sign_number, kind_number, word_value, token_value}
 use Rattle.lexer.specs.Places.{starts_with, part, line_at, string_end, piece_of, piece}
 use Rattle.lexer.specs.declared.Line.{Line}
@@ -103,21 +103,21 @@ sign_of c k n e p = p ∙ sym (ap sign_number e)
 no_bytes : (i : ℕ) → i ≡ i + 0
 no_bytes i = omega arith
 
-pub lone : (at : ℕ) (cs : List ℕ) → Tok 15 (at + 1) 0 (at + 1) ≡ piece_of at (at + 1) cs (tok unterminatedQuote 1 0 0 0)
+pub lone : (at : ℕ) (cs : List ℕ) → Tok 15 (at + 1) 0 (at + 1) ≡ piece_of at (at + 1) cs (tok unterminated_quote 1 0 0 0)
 unfolding kind_number token_value sizes
-lone at cs = piece_tok at (at + 1) cs unterminatedQuote 1 0 0 0 (at + 1) 0 (at + 1) refl refl (no_bytes (at + 1))
+lone at cs = piece_tok at (at + 1) cs unterminated_quote 1 0 0 0 (at + 1) 0 (at + 1) refl refl (no_bytes (at + 1))
 
-quoted_lone : (x : ℕ) (r : List ℕ) → starts_with 0x27 r ≡ false → quoted_step (x ∷ r) ≡ tok unterminatedQuote 1 0 0 0
+quoted_lone : (x : ℕ) (r : List ℕ) → starts_with 0x27 r ≡ false → quoted_step (x ∷ r) ≡ tok unterminated_quote 1 0 0 0
 unfolding quoted_step starts_with
 quoted_lone x [] e = refl
 quoted_lone x (q ∷ r) e = rw (e, quoted_step) (by_test (eqb x 10) (λ p. rw p) (λ p. rw p))
 
-quoted_feed : (x : ℕ) (r : List ℕ) → x ≡ 10 → quoted_step (x ∷ r) ≡ tok unterminatedQuote 1 0 0 0
+quoted_feed : (x : ℕ) (r : List ℕ) → x ≡ 10 → quoted_step (x ∷ r) ≡ tok unterminated_quote 1 0 0 0
 unfolding quoted_step
 quoted_feed x [] e = refl
 quoted_feed x (q ∷ r) e = rw (eq-eqb x 10 e, quoted_step)
 
-quoted-nil : quoted_step [] ≡ tok unterminatedQuote 1 0 0 0
+quoted-nil : quoted_step [] ≡ tok unterminated_quote 1 0 0 0
 unfolding quoted_step
 quoted-nil = refl
 
@@ -191,8 +191,8 @@ module _ (t : List ℕ) (at : ℕ) (r : StringEnd) (s : r ≡ string_end false (
       let cs : List ℕ = decode (drop (at + 1) t) in
       let p : l.trimmed ≡ at + 1 + sizes (trim_end (line cs)) = ap (λ (x : Line). x.trimmed) g in
       let q : l.end ≡ at + 1 + sizes (line cs) = ap (λ (x : Line). x.end) g in
-      piece_of_lem at (at + 1) cs _ (tok unterminatedString (1 + sizes (trim_end (line cs))) 0 0 (length (line cs))) _ (rw (string-open false (at + 1) cs (sym s ∙ e), string_step))
-      (piece_tok at (at + 1) cs unterminatedString (1 + sizes (trim_end (line cs))) 0 0 (length (line cs)) l.trimmed 0 l.end (omega arith) refl
+      piece_of_lem at (at + 1) cs _ (tok unterminated_string (1 + sizes (trim_end (line cs))) 0 0 (length (line cs))) _ (rw (string-open false (at + 1) cs (sym s ∙ e), string_step))
+      (piece_tok at (at + 1) cs unterminated_string (1 + sizes (trim_end (line cs))) 0 0 (length (line cs)) l.trimmed 0 l.end (omega arith) refl
       (q ∙ ap (λ (x : List ℕ). at + 1 + sizes x) (sym (line_prefix cs))))
 
 -- ---- a comment

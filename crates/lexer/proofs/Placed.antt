@@ -10,7 +10,7 @@ use Rattle.chars.specs.Utf8.{size, sizes, scalars, decode, encode}
 use Rattle.chars.proofs.Laws.{points_next, points_le}
 use Rattle.chars.proofs.Theorems.{sizes-append, decode-encode, part_bytes, part-scalars}
 use Rattle.lexer.specs.Text.{same}
-use Rattle.lexer.specs.Tokens.{TokenKind, word, number, quoted, str, sign, comment, newline, unterminatedString, unterminatedQuote, Span, span, Token, token_at, Step, gap, tok, step, emit, tokens_from, tokens}
+use Rattle.lexer.specs.Tokens.{TokenKind, word, number, quoted, str, sign, comment, newline, unterminated_string, unterminated_quote, Span, span, Token, token_at, Step, gap, tok, step, emit, tokens_from, tokens}
 use Rattle.lexer.specs.Places.{part, chars_at}
 use Rattle.lexer.proofs.Keywords.{part-inside}
 use Rattle.lexer.proofs.Pieces.{jump, jump_le, jump_scalars, same-encode}
@@ -59,8 +59,8 @@ Shape (number w) p q = q ≡ p
 Shape (quoted c) p q = q ≡ p
 Shape (sign c) p q = q ≡ p
 Shape newline p q = q ≡ p
-Shape unterminatedString p q = q ≡ p
-Shape unterminatedQuote p q = q ≡ p
+Shape unterminated_string p q = q ≡ p
+Shape unterminated_quote p q = q ≡ p
 
 -- the token x of the text t
 pub record Placed (t : List ℕ) (x : Token Span) : Type 0 where
@@ -88,8 +88,8 @@ shaped (number c) o w a b s h = plain o w a b s
 shaped (quoted c) o w a b s h = plain o w a b s
 shaped (sign c) o w a b s h = plain o w a b s
 shaped newline o w a b s h = plain o w a b s
-shaped unterminatedString o w a b s h = plain o w a b s
-shaped unterminatedQuote o w a b s h = plain o w a b s
+shaped unterminated_string o w a b s h = plain o w a b s
+shaped unterminated_quote o w a b s h = plain o w a b s
 
 fit_placed : (t : List ℕ) (o : ℕ) (cs : List ℕ) (k : TokenKind) (w a b n : ℕ) → decode (drop o t) ≡ cs → o ≤ length t → Fit k cs w a b n → Placed t (token_at o k w a b)
 fit_placed t o cs k w a b n p l f =

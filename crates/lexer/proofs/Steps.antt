@@ -15,7 +15,7 @@ use Rattle.chars.specs.declared.Class.{Class}
 use Rattle.chars.specs.declared.Class.TheVariants.{Letter, Digit, Space, Sign, Other}
 use Rattle.chars.proofs.Tests.{and_both}
 use Rattle.chars.proofs.Theorems.{sizes-append}
-use Rattle.lexer.specs.Tokens.{TokenKind, word, number, quoted, str, sign, comment, newline, unterminatedString, unterminatedQuote, is_digit, is_ascii_digit, is_word_continue, is_whitespace, run, line, trim_cons, trim_end, indent, comment_text, escape, Inner, ends, breaks, escapes, stands, inner_of, Inside, closed, unclosed, put, pass, inside, unescape, Step, gap, tok, word_step, number_step, string_step, quoted_step, comment_step, slash_step, other_step, step}
+use Rattle.lexer.specs.Tokens.{TokenKind, word, number, quoted, str, sign, comment, newline, unterminated_string, unterminated_quote, is_digit, is_ascii_digit, is_word_continue, is_whitespace, run, line, trim_cons, trim_end, indent, comment_text, escape, Inner, ends, breaks, escapes, stands, inner_of, Inside, closed, unclosed, put, pass, inside, unescape, Step, gap, tok, word_step, number_step, string_step, quoted_step, comment_step, slash_step, other_step, step}
 use Rattle.lexer.proofs.Scans.{by_test, run_true, run_false, sizes-nil, sizes-cons, inside_quote, inside-slash, inside-plain}
 use Rattle.lexer.proofs.Pieces.{run_prefix, line_prefix, step_class, by_class}
 
@@ -28,8 +28,8 @@ Says (str v) cs = unescape cs ≡ v
 Says (sign c) cs = cs ≡ c ∷ []
 Says (comment s) cs = cs ≡ s
 Says newline cs = Unit {0}
-Says unterminatedString cs = Unit {0}
-Says unterminatedQuote cs = Unit {0}
+Says unterminated_string cs = Unit {0}
+Says unterminated_quote cs = Unit {0}
 
 -- every character is an ASCII digit
 abbrev pub digits : List ℕ → Bool
@@ -47,8 +47,8 @@ Good (str v) = Unit {0}
 Good (sign c) = Unit {0}
 Good (comment s) = Unit {0}
 Good newline = Unit {0}
-Good unterminatedString = Unit {0}
-Good unterminatedQuote = Unit {0}
+Good unterminated_string = Unit {0}
+Good unterminated_quote = Unit {0}
 
 -- the bytes before and behind a token's text: a string's quotes, a comment's slashes; none else
 abbrev pub Sides : TokenKind → ℕ → ℕ → Type 0
@@ -59,8 +59,8 @@ Sides (number w) a b = (a ≡ 0) × (b ≡ 0)
 Sides (quoted c) a b = (a ≡ 0) × (b ≡ 0)
 Sides (sign c) a b = (a ≡ 0) × (b ≡ 0)
 Sides newline a b = (a ≡ 0) × (b ≡ 0)
-Sides unterminatedString a b = (a ≡ 0) × (b ≡ 0)
-Sides unterminatedQuote a b = (a ≡ 0) × (b ≡ 0)
+Sides unterminated_string a b = (a ≡ 0) × (b ≡ 0)
+Sides unterminated_quote a b = (a ≡ 0) × (b ≡ 0)
 
 -- a token of w bytes at the front of cs, a bytes before its text and b behind it, n characters behind its first: how many characters it takes
 pub record Fit (t : TokenKind) (cs : List ℕ) (w a b n : ℕ) : Type 0 where
@@ -116,14 +116,14 @@ number_fits c r e = run_fits (number (c ∷ run is_ascii_digit r)) is_ascii_digi
 -- ---- a quoted character
 quoted_fits : (r : List ℕ) → Fits (0x27 ∷ r) (quoted_step r)
 unfolding quoted_step size sizes
-quoted_fits [] = one_fits unterminatedQuote 0x27 [] 1 refl tt tt (refl, refl)
-quoted_fits (x ∷ []) = one_fits unterminatedQuote 0x27 (x ∷ []) 1 refl tt tt (refl, refl)
+quoted_fits [] = one_fits unterminated_quote 0x27 [] 1 refl tt tt (refl, refl)
+quoted_fits (x ∷ []) = one_fits unterminated_quote 0x27 (x ∷ []) 1 refl tt tt (refl, refl)
 quoted_fits (x ∷ q ∷ r) =
     by_test (not (eqb x 10) && eqb q 0x27)
     (λ e.
     let p = eqb-true q 0x27 (and_both (not (eqb x 10)) (eqb q 0x27) e).1 in
     rw (e, quoted_step) (whole (quoted x) (0x27 ∷ x ∷ q ∷ r) (2 + size x) 3 2 (omega (arith, ap size p)) (omega arith) (ap (λ (y : ℕ). 0x27 ∷ x ∷ y ∷ []) p) tt (refl, refl)))
-    (λ e. rw (e, quoted_step) (one_fits unterminatedQuote 0x27 (x ∷ q ∷ r) 1 refl tt tt (refl, refl)))
+    (λ e. rw (e, quoted_step) (one_fits unterminated_quote 0x27 (x ∷ q ∷ r) 1 refl tt tt (refl, refl)))
 
 -- ---- a string
 -- a string behind its quote, k characters with the closing one: that one, and the same string with nothing behind it
@@ -249,7 +249,7 @@ string_fits r = go (inside false r) refl
     go unclosed e =
         let m : ℕ = length (trim_end (line r)) in
         rw (e, string_step)
-        (whole unterminatedString (0x22 ∷ r) (1 + sizes (trim_end (line r))) (suc m) (length (line r)) (omega (arith, ap sizes (trimmed_prefix r))) (omega (arith, trim_short (line r))) tt tt (refl, refl))
+        (whole unterminated_string (0x22 ∷ r) (1 + sizes (trim_end (line r))) (suc m) (length (line r)) (omega (arith, ap sizes (trimmed_prefix r))) (omega (arith, trim_short (line r))) tt tt (refl, refl))
 
 -- ---- a comment
 -- a beginning t of r: its indent is that many bytes and characters, and its text stands behind them

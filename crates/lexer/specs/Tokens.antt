@@ -15,7 +15,7 @@ pub data TokenKind : Type 0 where
   -- one of ( ) { } , = * or any other character
   sign : ℕ → TokenKind
   comment : List ℕ → TokenKind
-  newline unterminatedString unterminatedQuote : TokenKind
+  newline unterminated_string unterminated_quote : TokenKind
 
 -- a half-open range of byte offsets (paper 01: place): the code's own type, with the fields start and end
 abbrev pub Span : Type 0
@@ -175,16 +175,16 @@ unfolding inside sizes line trim_end
 string_step r =
     elim (inside false r) [
       | closed v n ↦ tok (str v) (1 + sizes (take n r)) 1 1 n
-      | unclosed ↦ let l = line r in tok unterminatedString (1 + sizes (trim_end l)) 0 0 (length l)
+      | unclosed ↦ let l = line r in tok unterminated_string (1 + sizes (trim_end l)) 0 0 (length l)
     ]
 
 -- behind a quote: any character but line feed, and a quote; or the lone quote
 unfoldable pub quoted_step : List ℕ → Step
 unfolding size
-quoted_step [] = tok unterminatedQuote 1 0 0 0
-quoted_step (x ∷ []) = tok unterminatedQuote 1 0 0 0
+quoted_step [] = tok unterminated_quote 1 0 0 0
+quoted_step (x ∷ []) = tok unterminated_quote 1 0 0 0
 quoted_step (x ∷ q ∷ r) =
-    elim (not (eqb x 10) && eqb q 0x27) [ true ↦ tok (quoted x) (2 + size x) 0 0 2 | false ↦ tok unterminatedQuote 1 0 0 0 ]
+    elim (not (eqb x 10) && eqb q 0x27) [ true ↦ tok (quoted x) (2 + size x) 0 0 2 | false ↦ tok unterminated_quote 1 0 0 0 ]
 
 -- behind two slashes: a comment up to the line's end, trimmed
 unfoldable pub comment_step : List ℕ → Step

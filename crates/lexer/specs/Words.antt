@@ -2,7 +2,7 @@
 use Rattle.std.specs.Prelude.{ℕ, zero, suc, ◌+◌, ◌-◌, ◌*◌, min, Bool, true, false, cond, ◌&&◌, List, [], ◌∷◌, ◌++◌, map, eqb, leb, length, drop}
 use Rattle.chars.specs.Utf8.{decode, encode}
 use Rattle.lexer.specs.Text.{codes, same}
-use Rattle.lexer.specs.Tokens.{TokenKind, word, number, quoted, str, sign, comment, newline, unterminatedString, unterminatedQuote, Span, Token, tokens}
+use Rattle.lexer.specs.Tokens.{TokenKind, word, number, quoted, str, sign, comment, newline, unterminated_string, unterminated_quote, Span, Token, tokens}
 
 -- the words with a meaning of their own, in the order of their numbers from 1
 abbrev pub keywords : List (List ℕ)
@@ -66,8 +66,8 @@ kind_number (str s) = 3
 kind_number (sign c) = sign_number c
 kind_number (comment s) = 12
 kind_number newline = 13
-kind_number unterminatedString = 14
-kind_number unterminatedQuote = 15
+kind_number unterminated_string = 14
+kind_number unterminated_quote = 15
 
 -- a word of one character: its code; a longer one: 110000 and its number among the keywords
 unfoldable pub word_value : List ℕ → ℕ
@@ -87,8 +87,8 @@ token_value t = elim t.kind [
   | str s ↦ t.inner.start - t.place.start
   | comment s ↦ t.inner.start - t.place.start
   | newline ↦ 0
-  | unterminatedString ↦ 0
-  | unterminatedQuote ↦ 0
+  | unterminated_string ↦ 0
+  | unterminated_quote ↦ 0
 ]
 
 -- kind, start, end, value

@@ -8,7 +8,7 @@ use native.Mathlib.Omega.{arith}
 use native.Mathlib.Nat.{not-suc-le-zero}
 use lib.ListN.{length, take, replicate, length-replicate, length-map}
 use Rattle.language.specs.Assembly.{diagnostics_of}
-use Rattle.language.specs.Outcome.{logTooShort, refused, diagnosed, refusal_of, zeros, read_machine}
+use Rattle.language.specs.Outcome.{log_too_short, refused, diagnosed, refusal_of, zeros, read_machine}
 use Rattle.diag.specs.declared.Diagnostic.{Diagnostic}
 use Rattle.diag.specs.Sort.{insert_all}
 use Rattle.diag.specs.Log.{sort}
@@ -77,7 +77,7 @@ module _ (t w : List ℕ) (n : ℕ) (sheet : List ℕ) where
     c = s.errors
 
     -- row 5
-    pub opens_too_many : (sheet₁ : List ℕ) → sheet₁ ≡ zeros (length sheet) → 1 ≤ c → n < c → (x : Answer) → R.reply_in x ≡ refused (logTooShort c) → Opens t w n sheet w₁ sheet₁ (opened x s 0)
+    pub opens_too_many : (sheet₁ : List ℕ) → sheet₁ ≡ zeros (length sheet) → 1 ≤ c → n < c → (x : Answer) → R.reply_in x ≡ refused (log_too_short c) → Opens t w n sheet w₁ sheet₁ (opened x s 0)
     opens_too_many sheet₁ z found many x q = record {
       answers = λ log same.
           ap (λ (l : List Diagnostic). read_in x l sheet₁) (sym (nothing-reported (pending t w₁ s) 0 (length log) (omega arith)))

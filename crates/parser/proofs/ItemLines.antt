@@ -10,12 +10,12 @@ use lib.Dec.{eqb}
 use lib.ListN.{length, drop, length-append}
 use lib.Seq.{drop-drop}
 use borrow.Author.Tests.{eq-eqb, ne_eqb}
-use Rattle.lexer.specs.Tokens.{TokenKind, word, number, quoted, str, sign, comment, newline, unterminatedString, unterminatedQuote, Span, Token}
+use Rattle.lexer.specs.Tokens.{TokenKind, word, number, quoted, str, sign, comment, newline, unterminated_string, unterminated_quote, Span, Token}
 use Rattle.lexer.specs.Words.{sign_number, kind_number}
 use Rattle.language.specs.Machine.{Located, Kind, transducer}
 use Rattle.language.specs.Parser.{Result, ok, fail, Parser, unexpected, is_sign, taken, give, ◌>>=◌}
 use Rattle.language.specs.Parser.{then as bind, one as token, expect, set as braced}
-use Rattle.language.specs.Lines.{RawSymbol, raw_blank, RawTransition, Text, Item, machineItem, inputItem, kind_item, output_item, tapes_item, statesItem, finalItem, inputAlphabetItem, tapeAlphabetItem, blank_item, start_item, transition_item, Line, item_line, error_line, state_in, symbol_in, number_in, Spelled, word_in, kinds, outputs, Keyword as Name, machineWord, kindWord, inputWord, outputWord, tapesWord, statesWord, sigmaWord, gammaWord, blankWord, startWord, finalWord, deltaWord, keywords, string, numeral, choice, state, symbol, output as decoder, transition as ruled, item_of as itemBy, item as item_at, Ending, lineFeed, goesBy, remark, ending_of, last_place, finished, empty_line, line_from, covering}
+use Rattle.language.specs.Lines.{RawSymbol, raw_blank, RawTransition, Text, Item, machine_item, input_item, kind_item, output_item, tapes_item, states_item, final_item, input_alphabet_item, tape_alphabet_item, blank_item, start_item, transition_item, Line, item_line, error_line, state_in, symbol_in, number_in, Spelled, word_in, kinds, outputs, Keyword as Name, machine_word, kind_word, input_word, output_word, tapes_word, states_word, sigma_word, gamma_word, blank_word, start_word, final_word, delta_word, keywords, string, numeral, choice, state, symbol, output as decoder, transition as ruled, item_of as item_by, item as item_at, Ending, line_feed, goes_by, remark, ending_of, last_place, finished, empty_line, line_from, covering}
 use Rattle.parser.specs.Row.{peek}
 use Rattle.parser.specs.Views.{is_kind, is_choice, is_state, is_symbol, keyword_of, lead_of}
 use Rattle.parser.specs.declared.Keyword.{Keyword}
@@ -40,7 +40,7 @@ use Rattle.parser.proofs.Transitions.{Gives, Ruled, located-at, transition_gives
 use Rattle.parser.proofs.Outputs.{decoder_fits}
 
 -- a token that ends no line's tokens is no comment and no line feed
-pub goes_kind : (k : TokenKind) → ending_of k ≡ goesBy → (eqb (kind_number k) 12 ≡ false) × (eqb (kind_number k) 13 ≡ false)
+pub goes_kind : (k : TokenKind) → ending_of k ≡ goes_by → (eqb (kind_number k) 12 ≡ false) × (eqb (kind_number k) 13 ≡ false)
 unfolding ending_of kind_number
 goes_kind (word w) e = (refl, refl)
 goes_kind (number w) e = (refl, refl)
@@ -52,10 +52,10 @@ goes_kind (sign c) e = (
 )
 goes_kind (comment s) e = absurd (let z : ◌≡◌ {A = ℕ} 0 1 = cc in omega arith)
 goes_kind newline e = absurd (let z : ◌≡◌ {A = ℕ} 0 1 = cc in omega arith)
-goes_kind unterminatedString e = (refl, refl)
-goes_kind unterminatedQuote e = (refl, refl)
+goes_kind unterminated_string e = (refl, refl)
+goes_kind unterminated_quote e = (refl, refl)
 
-pub feed_kind : (k : TokenKind) → ending_of k ≡ lineFeed → k ≡ newline
+pub feed_kind : (k : TokenKind) → ending_of k ≡ line_feed → k ≡ newline
 unfolding ending_of
 feed_kind newline e = refl
 feed_kind (word w) e = absurd (let z : ◌≡◌ {A = ℕ} 0 1 = cc in omega arith)
@@ -64,8 +64,8 @@ feed_kind (quoted c) e = absurd (let z : ◌≡◌ {A = ℕ} 0 1 = cc in omega a
 feed_kind (str s) e = absurd (let z : ◌≡◌ {A = ℕ} 0 1 = cc in omega arith)
 feed_kind (sign c) e = absurd (let z : ◌≡◌ {A = ℕ} 0 1 = cc in omega arith)
 feed_kind (comment s) e = absurd (let z : ◌≡◌ {A = ℕ} 0 1 = cc in omega arith)
-feed_kind unterminatedString e = absurd (let z : ◌≡◌ {A = ℕ} 0 1 = cc in omega arith)
-feed_kind unterminatedQuote e = absurd (let z : ◌≡◌ {A = ℕ} 0 1 = cc in omega arith)
+feed_kind unterminated_string e = absurd (let z : ◌≡◌ {A = ℕ} 0 1 = cc in omega arith)
+feed_kind unterminated_quote e = absurd (let z : ◌≡◌ {A = ℕ} 0 1 = cc in omega arith)
 
 -- parsers in a row
 bind_bind : {A B C : Type 0} (x : Result Span A) (f : A → Parser Span B) (g : B → Parser Span C) → bind (bind x f) g ≡ bind x (λ a r. bind (f a r) g)
@@ -83,13 +83,13 @@ word_number l (str s) a e = true_false (sym (ap is_some e))
 word_number l (sign c) a e = true_false (sym (ap is_some e))
 word_number l (comment s) a e = true_false (sym (ap is_some e))
 word_number l newline a e = true_false (sym (ap is_some e))
-word_number l unterminatedString a e = true_false (sym (ap is_some e))
-word_number l unterminatedQuote a e = true_false (sym (ap is_some e))
+word_number l unterminated_string a e = true_false (sym (ap is_some e))
+word_number l unterminated_quote a e = true_false (sym (ap is_some e))
 
 -- the comment that ends a line's tokens
 abbrev pub note_of : Ending → Span → Option (Located Span (List ℕ))
-note_of lineFeed p = none
-note_of goesBy p = none
+note_of line_feed p = none
+note_of goes_by p = none
 note_of (remark s) p = some (record { value = s; place = p })
 
 -- a line over the row means a line of the language
@@ -253,54 +253,54 @@ module _ (ts : List (Token Span)) (junk : List Words) (z : Token Span) (more : L
             }))
 
     -- an item by its keyword
-    item_of-means : (n : Name) → kind_number t₀.kind ≡ 0 → Means ts (item_of (kind_of n) ws i₀) (finished whole note (itemBy z.place n l₀))
-    unfolding item_of line_on lead_of value_at value itemBy ◌>>=◌ item_means bind
-    item_of-means machineWord w =
-        bare-means Machine Texts once (λ v. one (is_kind 3) ws v) (string z.place) machineItem (string_fits ts junk z more ends)
-        (λ v l f r a here e o. ap machineItem (text_means v l f r a here e o)) (λ x p. subst (λ (y : ItemKind). CountedAs ts y x) (sym p) tt)
-    item_of-means kindWord w =
+    item_of-means : (n : Name) → kind_number t₀.kind ≡ 0 → Means ts (item_of (kind_of n) ws i₀) (finished whole note (item_by z.place n l₀))
+    unfolding item_of line_on lead_of value_at value item_by ◌>>=◌ item_means bind
+    item_of-means machine_word w =
+        bare-means Machine Texts once (λ v. one (is_kind 3) ws v) (string z.place) machine_item (string_fits ts junk z more ends)
+        (λ v l f r a here e o. ap machine_item (text_means v l f r a here e o)) (λ x p. subst (λ (y : ItemKind). CountedAs ts y x) (sym p) tt)
+    item_of-means kind_word w =
         bare-means KindOf (One (word_in kinds)) once (λ v. one (is_choice 0x110010 0x110013) ws v) (choice z.place kinds) (λ a. kind_item a.value) (kind_fits ts junk z more ends)
         (λ v l f r a here e o. ap (λ (x : Located Span Kind). kind_item x.value) (located-at ts junk z more ends (word_in kinds) transducer v l f r a here e o)) (λ x p. subst (λ (y : ItemKind). CountedAs ts y x) (sym p) tt)
-    item_of-means inputWord w =
-        bare-means Input Texts once (λ v. one (is_kind 3) ws v) (string z.place) inputItem (string_fits ts junk z more ends)
-        (λ v l f r a here e o. ap inputItem (text_means v l f r a here e o)) (λ x p. subst (λ (y : ItemKind). CountedAs ts y x) (sym p) tt)
-    item_of-means outputWord w =
+    item_of-means input_word w =
+        bare-means Input Texts once (λ v. one (is_kind 3) ws v) (string z.place) input_item (string_fits ts junk z more ends)
+        (λ v l f r a here e o. ap input_item (text_means v l f r a here e o)) (λ x p. subst (λ (y : ItemKind). CountedAs ts y x) (sym p) tt)
+    item_of-means output_word w =
         subst (λ (y : Result Span (Item Span)). Means ts (item_of Output ws i₀) (finished whole note y))
         (bind_bind (choice z.place outputs l₀) (λ a. decoder z.place a.value) (λ d. give (output_item d)))
         (plain-means Output (λ f d. d ≡ decoder_at ts (i₀ + 1)) once (i₀ + 1) (t₀ ∷ []) l₀ here₁ refl refl (output ws (i₀ + 1)) (bind (choice z.place outputs l₀) λ a. decoder z.place a.value)
         (decoder_fits ts junk z more ends (i₀ + 1) l₀ here₁) output_item (λ f r a e o. ap output_item o) (λ x p. subst (λ (y : ItemKind). CountedAs ts y x) (sym p) tt))
-    item_of-means tapesWord w =
+    item_of-means tapes_word w =
         equals-means Tapes (One number_in) once (λ v. one (is_kind 1) ws v) (numeral z.place) tapes_item (number_fits ts junk z more ends)
         (λ v l f r a here e o. ap tapes_item (located-at ts junk z more ends number_in 0 v l f r a here e o)) (λ x p. subst (λ (y : ItemKind). CountedAs ts y x) (sym p) tt)
-    item_of-means statesWord w =
-        equals-means States (Says ts junk z more ends state_in) length (λ v. set (one is_state) ws v) (braced z.place (state z.place)) statesItem (states_fits ts junk z more ends)
-        (λ v l f r a here e o. ap statesItem (set-means state_in v l f r a here e o)) (λ x p. subst (λ (y : ItemKind). CountedAs ts y x) (sym p) tt)
-    item_of-means sigmaWord w =
-        equals-means InputAlphabet (Says ts junk z more ends symbol_in) length (λ v. set (one is_symbol) ws v) (braced z.place (symbol z.place)) inputAlphabetItem (symbols_fits ts junk z more ends)
-        (λ v l f r a here e o. ap inputAlphabetItem (set-means symbol_in v l f r a here e o)) (λ x p. subst (λ (y : ItemKind). CountedAs ts y x) (sym p) tt)
-    item_of-means gammaWord w =
-        equals-means TapeAlphabet (Says ts junk z more ends symbol_in) length (λ v. set (one is_symbol) ws v) (braced z.place (symbol z.place)) tapeAlphabetItem (symbols_fits ts junk z more ends)
-        (λ v l f r a here e o. ap tapeAlphabetItem (set-means symbol_in v l f r a here e o)) (λ x p. subst (λ (y : ItemKind). CountedAs ts y x) (sym p) tt)
-    item_of-means blankWord w =
+    item_of-means states_word w =
+        equals-means States (Says ts junk z more ends state_in) length (λ v. set (one is_state) ws v) (braced z.place (state z.place)) states_item (states_fits ts junk z more ends)
+        (λ v l f r a here e o. ap states_item (set-means state_in v l f r a here e o)) (λ x p. subst (λ (y : ItemKind). CountedAs ts y x) (sym p) tt)
+    item_of-means sigma_word w =
+        equals-means InputAlphabet (Says ts junk z more ends symbol_in) length (λ v. set (one is_symbol) ws v) (braced z.place (symbol z.place)) input_alphabet_item (symbols_fits ts junk z more ends)
+        (λ v l f r a here e o. ap input_alphabet_item (set-means symbol_in v l f r a here e o)) (λ x p. subst (λ (y : ItemKind). CountedAs ts y x) (sym p) tt)
+    item_of-means gamma_word w =
+        equals-means TapeAlphabet (Says ts junk z more ends symbol_in) length (λ v. set (one is_symbol) ws v) (braced z.place (symbol z.place)) tape_alphabet_item (symbols_fits ts junk z more ends)
+        (λ v l f r a here e o. ap tape_alphabet_item (set-means symbol_in v l f r a here e o)) (λ x p. subst (λ (y : ItemKind). CountedAs ts y x) (sym p) tt)
+    item_of-means blank_word w =
         equals-means Blank (One symbol_in) once (λ v. one is_symbol ws v) (symbol z.place) (λ a. blank_item a.value) (symbol_fits ts junk z more ends)
         (λ v l f r a here e o. ap (λ (x : Located Span RawSymbol). blank_item x.value) (located-at ts junk z more ends symbol_in raw_blank v l f r a here e o)) (λ x p. subst (λ (y : ItemKind). CountedAs ts y x) (sym p) tt)
-    item_of-means startWord w =
+    item_of-means start_word w =
         equals-means Start (One state_in) once (λ v. one is_state ws v) (state z.place) start_item (state_fits ts junk z more ends)
         (λ v l f r a here e o. ap start_item (located-at ts junk z more ends state_in [] v l f r a here e o)) (λ x p. subst (λ (y : ItemKind). CountedAs ts y x) (sym p) tt)
-    item_of-means finalWord w =
-        equals-means Final (Says ts junk z more ends state_in) length (λ v. set (one is_state) ws v) (braced z.place (state z.place)) finalItem (states_fits ts junk z more ends)
-        (λ v l f r a here e o. ap finalItem (set-means state_in v l f r a here e o)) (λ x p. subst (λ (y : ItemKind). CountedAs ts y x) (sym p) tt)
-    item_of-means deltaWord w = transition-means w
+    item_of-means final_word w =
+        equals-means Final (Says ts junk z more ends state_in) length (λ v. set (one is_state) ws v) (braced z.place (state z.place)) final_item (states_fits ts junk z more ends)
+        (λ v l f r a here e o. ap final_item (set-means state_in v l f r a here e o)) (λ x p. subst (λ (y : ItemKind). CountedAs ts y x) (sym p) tt)
+    item_of-means delta_word w = transition-means w
 
     item_means_lem : Means ts (item ws i₀) (finished whole note (item_at z.place (t₀ ∷ l₀)))
     unfolding item item_from item_at choice token taken bind ◌>>=◌ finished line_means token_of
     item_means_lem =
         let p : peek ws i₀ ≡ token_of t₀ = (at_first ts junk z more i₀ t₀ l₀ row₀).1 in
         let e : keyword_of (peek ws i₀) ≡ start_of (word_in keywords t₀.kind) = ap keyword_of p ∙ keyword_view t₀.kind t₀.place t₀.inner row₀.sound.0 in
-        subst (λ (x : Keyword). Means ts (item_from x ws i₀) (finished whole note (bind (taken (word_in keywords t₀.kind) unexpected t₀ l₀) λ n. itemBy z.place n.value))) (sym e)
+        subst (λ (x : Keyword). Means ts (item_from x ws i₀) (finished whole note (bind (taken (word_in keywords t₀.kind) unexpected t₀ l₀) λ n. item_by z.place n.value))) (sym e)
         (go (word_in keywords t₀.kind) refl)
       where
-        go : (o : Option Name) → word_in keywords t₀.kind ≡ o → Means ts (item_from (start_of o) ws i₀) (finished whole note (bind (taken o unexpected t₀ l₀) λ n. itemBy z.place n.value))
+        go : (o : Option Name) → word_in keywords t₀.kind ≡ o → Means ts (item_from (start_of o) ws i₀) (finished whole note (bind (taken o unexpected t₀ l₀) λ n. item_by z.place n.value))
         go none e =
             rw (at_first ts junk z more i₀ t₀ l₀ row₀).1
             (record { same = ap (λ (c : ℕ). error_line c t₀.place) (code_view t₀.kind t₀.place t₀.inner); counted = tt })

@@ -8,10 +8,10 @@ use mathlib.Core.Option.{Option, none, some}
 use lib.Dec.{eqb, leb, ltb}
 use lib.ListN.{length}
 use borrow.Author.Tests.{eqb-true, eqb-false, leb-true, leb-false, lt-ltb, le-ltb, le-leb, lt-leb}
-use Rattle.lexer.specs.Tokens.{TokenKind, word, number, quoted, str, sign, comment, newline, unterminatedString, unterminatedQuote, Span}
+use Rattle.lexer.specs.Tokens.{TokenKind, word, number, quoted, str, sign, comment, newline, unterminated_string, unterminated_quote, Span}
 use Rattle.lexer.specs.Words.{kind_number, word_value, token_value, keyword, position}
 use Rattle.language.specs.Machine.{Kind, acceptor, transducer, enumerator, beaver, BitOrder, lsb, msb}
-use Rattle.language.specs.Lines.{Spelled, keywords, Keyword as Name, meaning_of, word_in, kinds, outputs, orders, OutputWord, wordOutput, unaryOutput, binaryOutput, machineWord, kindWord, inputWord, outputWord, tapesWord, statesWord, sigmaWord, gammaWord, blankWord, startWord, finalWord, deltaWord}
+use Rattle.language.specs.Lines.{Spelled, keywords, Keyword as Name, meaning_of, word_in, kinds, outputs, orders, OutputWord, word_output, unary_output, binary_output, machine_word, kind_word, input_word, output_word, tapes_word, states_word, sigma_word, gamma_word, blank_word, start_word, final_word, delta_word}
 use Rattle.language.proofs.Every.{by_test}
 use Rattle.parser.specs.Views.{Row as Start, row as start, is_choice, lookup, starts, keyword_of}
 use Rattle.parser.specs.Meaning.{token_of, SoundAs}
@@ -67,8 +67,8 @@ sees_choice l first last r rule range (sign c) p q s =
     sign_rule (λ d. is_choice first last (token_of (tok (sign d) p q))) (λ d. false) refl refl refl refl refl refl refl (λ d u. rw (unnamed_number d u)) c
 sees_choice l first last r rule range (comment t) p q s = refl
 sees_choice l first last r rule range newline p q s = refl
-sees_choice l first last r rule range unterminatedString p q s = refl
-sees_choice l first last r rule range unterminatedQuote p q s = refl
+sees_choice l first last r rule range unterminated_string p q s = refl
+sees_choice l first last r rule range unterminated_quote p q s = refl
 
 -- up to a number, or below the next
 below_next : (v n : ℕ) → ltb v (suc n) ≡ leb v n
@@ -85,14 +85,14 @@ pub sees_kind : Sees (is_choice 0x110010 0x110013) (word_in kinds)
 sees_kind = sees_choice kinds 0x110010 0x110013 kind_rows kind-rule (λ v. in_range 0x110010 (acceptor ∷ transducer ∷ enumerator ∷ beaver ∷ []) v ∙ ap (λ (b : Bool). cond (leb 0x110010 v) b false) (below_next v 0x110013))
 
 abbrev pub output_rows : List (Row OutputWord)
-output_rows = rows_from 0x110014 (wordOutput ∷ unaryOutput ∷ binaryOutput ∷ [])
+output_rows = rows_from 0x110014 (word_output ∷ unary_output ∷ binary_output ∷ [])
 
 pub output-rule : (w : List ℕ) → Codes w → find output_rows (word_value w) ≡ meaning_of outputs w
 unfolding find word_value keyword position meaning_of known member valued
 output-rule = table_rule outputs output_rows refl refl refl refl
 
 pub sees_output : Sees (is_choice 0x110014 0x110016) (word_in outputs)
-sees_output = sees_choice outputs 0x110014 0x110016 output_rows output-rule (λ v. in_range 0x110014 (wordOutput ∷ unaryOutput ∷ binaryOutput ∷ []) v ∙ ap (λ (b : Bool). cond (leb 0x110014 v) b false) (below_next v 0x110016))
+sees_output = sees_choice outputs 0x110014 0x110016 output_rows output-rule (λ v. in_range 0x110014 (word_output ∷ unary_output ∷ binary_output ∷ []) v ∙ ap (λ (b : Bool). cond (leb 0x110014 v) b false) (below_next v 0x110016))
 
 abbrev order_rows : List (Row BitOrder)
 order_rows = rows_from 0x110017 (lsb ∷ msb ∷ [])
@@ -106,18 +106,18 @@ sees_order = sees_choice orders 0x110017 0x110018 order_rows order_rule (λ v. i
 
 -- ---- the word that starts an item
 abbrev pub kind_of : Name → ItemKind
-kind_of machineWord = Machine
-kind_of kindWord = KindOf
-kind_of inputWord = Input
-kind_of outputWord = Output
-kind_of tapesWord = Tapes
-kind_of statesWord = States
-kind_of sigmaWord = InputAlphabet
-kind_of gammaWord = TapeAlphabet
-kind_of blankWord = Blank
-kind_of startWord = StartOf
-kind_of finalWord = Final
-kind_of deltaWord = Transition
+kind_of machine_word = Machine
+kind_of kind_word = KindOf
+kind_of input_word = Input
+kind_of output_word = Output
+kind_of tapes_word = Tapes
+kind_of states_word = States
+kind_of sigma_word = InputAlphabet
+kind_of gamma_word = TapeAlphabet
+kind_of blank_word = Blank
+kind_of start_word = StartOf
+kind_of final_word = Final
+kind_of delta_word = Transition
 
 abbrev pub start_of : Option Name → Keyword
 start_of none = Other
@@ -125,9 +125,9 @@ start_of (some k) = Starts (kind_of k)
 
 abbrev start_rows : List (Row Name)
 start_rows =
-    row 0x110001 machineWord ∷ row 0x110002 kindWord ∷ row 0x110003 inputWord ∷ row 0x110004 outputWord ∷ row 0x110005 tapesWord ∷ row 0x51 statesWord ∷
-    row 0x3A3 sigmaWord ∷ row 0x110008 sigmaWord ∷ row 0x393 gammaWord ∷ row 0x11000A gammaWord ∷ row 0x11000B blankWord ∷ row 0x11000C startWord ∷
-    row 0x46 finalWord ∷ row 0x3B4 deltaWord ∷ row 0x11000F deltaWord ∷ []
+    row 0x110001 machine_word ∷ row 0x110002 kind_word ∷ row 0x110003 input_word ∷ row 0x110004 output_word ∷ row 0x110005 tapes_word ∷ row 0x51 states_word ∷
+    row 0x3A3 sigma_word ∷ row 0x110008 sigma_word ∷ row 0x393 gamma_word ∷ row 0x11000A gamma_word ∷ row 0x11000B blank_word ∷ row 0x11000C start_word ∷
+    row 0x46 final_word ∷ row 0x3B4 delta_word ∷ row 0x11000F delta_word ∷ []
 
 start-rule : (w : List ℕ) → Codes w → find start_rows (word_value w) ≡ meaning_of keywords w
 unfolding find word_value keyword position meaning_of known member valued
@@ -155,5 +155,5 @@ keyword_view (sign c) p q s =
     sign_rule (λ d. keyword_of (token_of (tok (sign d) p q))) (λ d. Other) refl refl refl refl refl refl refl (λ d u. rw (unnamed_number d u)) c
 keyword_view (comment t) p q s = refl
 keyword_view newline p q s = refl
-keyword_view unterminatedString p q s = refl
-keyword_view unterminatedQuote p q s = refl
+keyword_view unterminated_string p q s = refl
+keyword_view unterminated_quote p q s = refl

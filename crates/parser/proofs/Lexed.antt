@@ -11,11 +11,11 @@ use Rattle.chars.specs.Utf8.{size, sizes, decode}
 use Rattle.chars.specs.Class.{class_of}
 use Rattle.chars.specs.declared.Class.{Class}
 use Rattle.chars.specs.declared.Class.TheVariants.{Letter, Digit, Space, Sign, Other}
-use Rattle.lexer.specs.Tokens.{TokenKind, word, number, quoted, str, sign, comment, newline, unterminatedString, unterminatedQuote, Span, Token, Step, gap, tok, Inside, closed, unclosed, line, inside, trim_end, word_step, number_step, string_step, quoted_step, comment_step, slash_step, other_step, step, emit, tokens_from, tokens}
+use Rattle.lexer.specs.Tokens.{TokenKind, word, number, quoted, str, sign, comment, newline, unterminated_string, unterminated_quote, Span, Token, Step, gap, tok, Inside, closed, unclosed, line, inside, trim_end, word_step, number_step, string_step, quoted_step, comment_step, slash_step, other_step, step, emit, tokens_from, tokens}
 use Rattle.lexer.proofs.Pieces.{by_class, step_class}
 use Rattle.lexer.proofs.Placed.{Placed, All, placed}
 use Rattle.tokens.proofs.Views.{digits-sizes, first_below, word-scalars, number_digits, token_width}
-use Rattle.language.specs.Lines.{lineFeed, goesBy, remark, ending_of}
+use Rattle.language.specs.Lines.{line_feed, goes_by, remark, ending_of}
 use Rattle.language.proofs.Every.{by_test}
 use Rattle.lexer.specs.Words.{flat, onto}
 use Rattle.parser.specs.Row.{tokens_in}
@@ -48,8 +48,8 @@ ToEnd (quoted c) n r = Unit {0}
 ToEnd (str s) n r = Unit {0}
 ToEnd (sign c) n r = Unit {0}
 ToEnd newline n r = Unit {0}
-ToEnd unterminatedString n r = Unit {0}
-ToEnd unterminatedQuote n r = Unit {0}
+ToEnd unterminated_string n r = Unit {0}
+ToEnd unterminated_quote n r = Unit {0}
 
 abbrev Ends : List ℕ → Step → Type 0
 Ends r gap = Unit {0}
@@ -64,7 +64,7 @@ string_ends : (r : List ℕ) → Ends r (string_step r)
 unfolding string_step
 string_ends r =
     elim (inside false r) as
-    (λ (x : Inside). Ends r (elim x [ closed v n ↦ tok (str v) (1 + sizes (take n r)) 1 1 n | unclosed ↦ let l = line r in tok unterminatedString (1 + sizes (trim_end l)) 0 0 (length l) ]))
+    (λ (x : Inside). Ends r (elim x [ closed v n ↦ tok (str v) (1 + sizes (take n r)) 1 1 n | unclosed ↦ let l = line r in tok unterminated_string (1 + sizes (trim_end l)) 0 0 (length l) ]))
     [ closed v n ↦ tt | unclosed ↦ tt ]
 
 quoted_ends : (r : List ℕ) → Ends r (quoted_step r)
@@ -73,7 +73,7 @@ quoted_ends [] = tt
 quoted_ends (x ∷ []) = tt
 quoted_ends (x ∷ q ∷ r) =
     elim (not (eqb x 10) && eqb q 0x27) as
-    (λ (b : Bool). Ends (x ∷ q ∷ r) (elim b [ true ↦ tok (quoted x) (2 + size x) 0 0 2 | false ↦ tok unterminatedQuote 1 0 0 0 ]))
+    (λ (b : Bool). Ends (x ∷ q ∷ r) (elim b [ true ↦ tok (quoted x) (2 + size x) 0 0 2 | false ↦ tok unterminated_quote 1 0 0 0 ]))
     [ true ↦ tt | false ↦ tt ]
 
 other_ends : (c : ℕ) (r : List ℕ) → Ends r (other_step c r)
@@ -128,7 +128,7 @@ step_ends c r =
 -- behind the characters of a step up to a line's end stands a line feed
 abbrev Feeds : List (Token Span) → Type 0
 Feeds [] = ⊥
-Feeds (t ∷ ts) = ending_of t.kind ≡ lineFeed
+Feeds (t ∷ ts) = ending_of t.kind ≡ line_feed
 
 feeds : (r : List ℕ) (n o : ℕ) → AtEnd (drop n r) → Feeds (tokens_from n o r)
 unfolding tokens_from ending_of emit
@@ -151,7 +151,7 @@ abbrev AllClosed : List (Token Span) → Type 0
 AllClosed [] = Unit {0}
 AllClosed (t ∷ ts) = Closed (ending_of t.kind) ts × AllClosed ts
 
-passes_by : (l : List (Token Span)) → 1 ≤ length l → Closed goesBy l
+passes_by : (l : List (Token Span)) → 1 ≤ length l → Closed goes_by l
 passes_by [] h = absurd (omega arith)
 passes_by (t ∷ l) h = tt
 
@@ -168,8 +168,8 @@ kind_closed (number w) n o r e = passes_by (tokens_from n o r) (filled r n o)
 kind_closed (quoted c) n o r e = passes_by (tokens_from n o r) (filled r n o)
 kind_closed (str s) n o r e = passes_by (tokens_from n o r) (filled r n o)
 kind_closed (sign c) n o r e = passes_by (tokens_from n o r) (filled r n o)
-kind_closed unterminatedString n o r e = passes_by (tokens_from n o r) (filled r n o)
-kind_closed unterminatedQuote n o r e = passes_by (tokens_from n o r) (filled r n o)
+kind_closed unterminated_string n o r e = passes_by (tokens_from n o r) (filled r n o)
+kind_closed unterminated_quote n o r e = passes_by (tokens_from n o r) (filled r n o)
 
 closed_from : (r : List ℕ) (n o : ℕ) → AllClosed (tokens_from n o r)
 unfolding tokens_from emit ending_of
@@ -196,8 +196,8 @@ sound_by t (str v) p q h = tt
 sound_by t (sign c) p q h = tt
 sound_by t (comment s) p q h = tt
 sound_by t newline p q h = tt
-sound_by t unterminatedString p q h = tt
-sound_by t unterminatedQuote p q h = tt
+sound_by t unterminated_string p q h = tt
+sound_by t unterminated_quote p q h = tt
 
 all_lexed : (t : List ℕ) (l : List (Token Span)) → All (Placed t) l → AllClosed l → AllLexed l
 all_lexed t [] p c = tt

@@ -9,9 +9,9 @@ use mathlib.Core.Option.{some}
 use lib.Dec.{eqb}
 use lib.ListN.{length, drop, length-drop, length-map}
 use lib.Seq.{drop-append-le, drop-drop}
-use Rattle.lexer.specs.Tokens.{TokenKind, word, number, quoted, str, sign, comment, newline, unterminatedString, unterminatedQuote, Span, Token}
+use Rattle.lexer.specs.Tokens.{TokenKind, word, number, quoted, str, sign, comment, newline, unterminated_string, unterminated_quote, Span, Token}
 use Rattle.lexer.specs.Words.{kind_number, token_words, flat}
-use Rattle.language.specs.Lines.{Line, Ending, lineFeed, goesBy, remark, ending_of, in_front, rows, line_from, line_of, lines, covering}
+use Rattle.language.specs.Lines.{Line, Ending, line_feed, goes_by, remark, ending_of, in_front, rows, line_from, line_of, lines, covering}
 use Rattle.language.proofs.Every.{Every}
 use Rattle.parser.specs.Row.{tokens_in}
 use Rattle.parser.specs.Lines.{line, line_length, line_end}
@@ -46,8 +46,8 @@ remark_kind (number w) s e = absurd (let z : ◌≡◌ {A = ℕ} 0 1 = cc in ome
 remark_kind (quoted c) s e = absurd (let z : ◌≡◌ {A = ℕ} 0 1 = cc in omega arith)
 remark_kind (str t) s e = absurd (let z : ◌≡◌ {A = ℕ} 0 1 = cc in omega arith)
 remark_kind (sign c) s e = absurd (let z : ◌≡◌ {A = ℕ} 0 1 = cc in omega arith)
-remark_kind unterminatedString s e = absurd (let z : ◌≡◌ {A = ℕ} 0 1 = cc in omega arith)
-remark_kind unterminatedQuote s e = absurd (let z : ◌≡◌ {A = ℕ} 0 1 = cc in omega arith)
+remark_kind unterminated_string s e = absurd (let z : ◌≡◌ {A = ℕ} 0 1 = cc in omega arith)
+remark_kind unterminated_quote s e = absurd (let z : ◌≡◌ {A = ℕ} 0 1 = cc in omega arith)
 
 -- a token in front of a row
 counts_feed : (t : Token Span) (r : List Words) → t.kind ≡ newline → line_length (token_of t ∷ r) ≡ 0
@@ -64,7 +64,7 @@ cut [] junk a h = absurd (omega arith)
 cut (t ∷ l) junk a h = by (λ h. cut l junk a.1 h) (ending_of t.kind) refl
   where
     by : (1 ≤ length l → Cut l junk) → (e : Ending) → ending_of t.kind ≡ e → Cut (t ∷ l) junk
-    by onward lineFeed e = record {
+    by onward line_feed e = record {
       body = [];
       z = t;
       more = l;
@@ -80,10 +80,10 @@ cut (t ∷ l) junk a h = by (λ h. cut l junk a.1 h) (ending_of t.kind) refl
       short = omega arith;
       counts = counts_feed t (map token_of l ++ junk) (feed_kind t.kind e);
     }
-    by onward goesBy e = goes_on l refl
+    by onward goes_by e = goes_on l refl
       where
         goes_on : (m : List (Token Span)) → l ≡ m → Cut (t ∷ l) junk
-        goes_on [] q = absurd (subst (λ (m : List (Token Span)). Closed goesBy m) q (subst (λ (x : Ending). Closed x l) e a.0.closed))
+        goes_on [] q = absurd (subst (λ (m : List (Token Span)). Closed goes_by m) q (subst (λ (x : Ending). Closed x l) e a.0.closed))
         goes_on (u ∷ m) q =
             let c : Cut l junk = onward (omega (arith, ap length q)) in
             record {
@@ -97,7 +97,7 @@ cut (t ∷ l) junk a h = by (λ h. cut l junk a.1 h) (ending_of t.kind) refl
               goes = (e, c.goes);
               ends = c.ends;
               closed = c.closed;
-              first = ap (λ (x : Ending). in_front x t (rows l)) e ∙ ap (in_front goesBy t) c.first;
+              first = ap (λ (x : Ending). in_front x t (rows l)) e ∙ ap (in_front goes_by t) c.first;
               others = c.others;
               short = omega (arith, c.short);
               counts = counts-on t (map token_of l ++ junk) (goes_kind t.kind e).1 ∙ ap suc c.counts;

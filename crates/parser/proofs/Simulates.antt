@@ -10,11 +10,11 @@ use lib.Dec.{eqb}
 use borrow.Author.Tests.{eqb-true}
 use lib.ListN.{length, get_or, take, drop, length-append, length-drop, length-map, get_or-append, get_or-map}
 use lib.Seq.{get_or-drop, drop-drop, drop-append_seam, take-append_seam}
-use Rattle.lexer.specs.Tokens.{TokenKind, word, number, quoted, str, sign, comment, newline, unterminatedString, unterminatedQuote, Span, Token}
+use Rattle.lexer.specs.Tokens.{TokenKind, word, number, quoted, str, sign, comment, newline, unterminated_string, unterminated_quote, Span, Token}
 use Rattle.language.specs.Machine.{Located}
 use Rattle.language.specs.Parser.{Result, ok, fail, Parser, when, taken, unexpected, sign_in, is_sign, goes_on, branch, go_on, at_most, give, ◌>>=◌}
 use Rattle.language.specs.Parser.{then as bind, one as token, expect, opened, entries as listed, single, tuple as tupled, set as braced}
-use Rattle.language.specs.Lines.{goesBy, ending_of}
+use Rattle.language.specs.Lines.{goes_by, ending_of}
 use Rattle.language.proofs.Every.{by_test, Every}
 use Rattle.parser.specs.Row.{peek}
 use Rattle.parser.specs.Views.{span_of, is_kind, is_direction, is_text}
@@ -107,8 +107,8 @@ goes_on_lem c (sign d) = go (eqb d 0x2C) (eqb d c)
     go false false = refl
 goes_on_lem c (comment t) = refl
 goes_on_lem c newline = refl
-goes_on_lem c unterminatedString = refl
-goes_on_lem c unterminatedQuote = refl
+goes_on_lem c unterminated_string = refl
+goes_on_lem c unterminated_quote = refl
 
 none-some : {A : Type 0} {X : Type 0} (a : A) → none ≡ some a → X
 none-some a e = true_false (sym (ap is_some e))
@@ -122,8 +122,8 @@ is_sign_lem c (str t) e = true_false (sym e)
 is_sign_lem c (sign d) e = by_test (eqb d c) (λ y. ap sign (eqb-true d c y)) (λ n. true_false (sym (sym (ap (λ (b : Bool). is_some {A = Bool} (when b true)) n) ∙ e)))
 is_sign_lem c (comment t) e = true_false (sym e)
 is_sign_lem c newline e = true_false (sym e)
-is_sign_lem c unterminatedString e = true_false (sym e)
-is_sign_lem c unterminatedQuote e = true_false (sym e)
+is_sign_lem c unterminated_string e = true_false (sym e)
+is_sign_lem c unterminated_quote e = true_false (sym e)
 
 goes_comma : (c : ℕ) (k : TokenKind) → goes_on c k ≡ some true → k ≡ sign 0x2C
 unfolding picked
@@ -150,7 +150,7 @@ every_behind p (t ∷ f) r s = every_behind p f r s.1
 
 -- a token that ends no line's tokens
 abbrev pub Goes : Token Span → Type 0
-Goes t = ending_of t.kind ≡ goesBy
+Goes t = ending_of t.kind ≡ goes_by
 
 -- entries put in front of what is read behind them
 abbrev pub pushes : {A X : Type 0} → (A → X → X) → List A → X → X

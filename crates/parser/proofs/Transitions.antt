@@ -10,7 +10,7 @@ use Rattle.lexer.specs.Tokens.{TokenKind, sign, Span, Token}
 use Rattle.language.specs.Machine.{Located}
 use Rattle.language.specs.Parser.{Result, ok, fail, Parser, is_sign, give, ◌>>=◌}
 use Rattle.language.specs.Parser.{then as bind, expect, tuple as tupled}
-use Rattle.language.specs.Lines.{RawSymbol, RawTransition, state_in, symbol_in, bracket, write_in, direction_in, state, direction as directed, read_entry as readOne, write_entry, transition as ruled}
+use Rattle.language.specs.Lines.{RawSymbol, RawTransition, state_in, symbol_in, bracket, write_in, direction_in, state, direction as directed, read_entry as read_one, write_entry, transition as ruled}
 use Rattle.parser.specs.Views.{is_kind, is_state, is_write}
 use Rattle.parser.specs.Lines.{then, one, direction, tuple, read_entry, side, equals, left_parts, on, on_value, left, right, transition}
 use Rattle.parser.specs.Row.{peek}
@@ -214,7 +214,7 @@ module _ (ts : List (Token Span)) (junk : List Words) (z : Token Span) (more : L
       let i₂ : ℕ = i + length f₁ + length f₂ in
       on_gives (One (is_sign 0x2C)) once (Ruled ts) i₂ r₂ at₂ (one (is_kind 8) ws i₂) (expect z.place 0x2C r₂) (sign_fits ts junk z more ends 0x2C 8 names-comma i₂ r₂ at₂) _ _ λ f₃ r₃ a₃ e₃ o₃ at₃.
       let i₃ : ℕ = i₂ + length f₃ in
-      on_gives (Reads ts junk z more ends) length (Ruled ts) i₃ r₃ at₃ (tuple read_entry ws i₃) (tupled z.place (readOne z.place) r₃) (reads_fits ts junk z more ends i₃ r₃ at₃) _ _ λ f₄ r₄ read e₄ w₄ at₄.
+      on_gives (Reads ts junk z more ends) length (Ruled ts) i₃ r₃ at₃ (tuple read_entry ws i₃) (tupled z.place (read_one z.place) r₃) (reads_fits ts junk z more ends i₃ r₃ at₃) _ _ λ f₄ r₄ read e₄ w₄ at₄.
       let i₄ : ℕ = i₃ + length f₄ in
       on_gives (One (is_sign 0x29)) once (Ruled ts) i₄ r₄ at₄ (one (is_kind 5) ws i₄) (expect z.place 0x29 r₄) (sign_fits ts junk z more ends 0x29 5 names_r_paren i₄ r₄ at₄) _ _ λ f₅ r₅ a₅ e₅ o₅ at₅.
       let i₅ : ℕ = i₄ + length f₅ in

@@ -10,7 +10,7 @@ use Rattle.lexer.specs.Tokens.{TokenKind, sign, comment, newline, Span, Token}
 use Rattle.language.specs.Machine.{Located}
 use Rattle.language.specs.Parser.{Result, ok, fail, Parser, unexpected, sign_in, is_sign, ◌>>=◌}
 use Rattle.language.specs.Parser.{one as token, entries as listed, single, tuple as tupled, set as braced, taken}
-use Rattle.language.specs.Lines.{RawSymbol, Text, state_in, symbol_in, bracket, write_in, direction_in, not_direction, string_in, number_in, word_in, kinds, outputs, orders, string_taken, string, numeral, choice, state, symbol, direction as directed, read_entry as readOne, write_entry}
+use Rattle.language.specs.Lines.{RawSymbol, Text, state_in, symbol_in, bracket, write_in, direction_in, not_direction, string_in, number_in, word_in, kinds, outputs, orders, string_taken, string, numeral, choice, state, symbol, direction as directed, read_entry as read_one, write_entry}
 use Rattle.parser.specs.Views.{is_kind, is_choice, is_state, is_symbol, is_write, is_direction, is_text}
 use Rattle.parser.specs.Lines.{then, code_of, one, direction, entries, set, tuple, read_entry}
 use Rattle.parser.specs.Meaning.{seen_on, seen, text_of, ReadPart, opens, closes, passes, reads, read_part, joins, outside, inside, read_sets}
@@ -194,8 +194,8 @@ module _ (ts : List (Token Span)) (junk : List Words) (z : Token Span) (more : L
   abbrev pub Entry : List (Token Span) → List (Located Span RawSymbol) → Type 0
   Entry f a = (g : List (Token Span)) → read_sets false (f ++ g) ≡ a ∷ read_sets false g
 
-  pub read_entry_fits : (i : ℕ) (l : List (Token Span)) → Here i l → Fits i l Entry once (read_entry ws i) (readOne z.place l)
-  unfolding read_entry readOne single ◌>>=◌
+  pub read_entry_fits : (i : ℕ) (l : List (Token Span)) → Here i l → Fits i l Entry once (read_entry ws i) (read_one z.place l)
+  unfolding read_entry read_one single ◌>>=◌
   read_entry_fits i l here =
       opened_fits ts junk z more ends 0x7B 6 names_l_brace Entry once i l here
       (then (entries (one is_symbol) 7 ws (i + 1) 0) λ j _. Done j 1) (one is_symbol ws i) (listed z.place (symbol z.place) 0x7D) (single z.place (symbol z.place))
@@ -257,11 +257,11 @@ module _ (ts : List (Token Span)) (junk : List Words) (z : Token Span) (more : L
   abbrev pub Reads : List (Token Span) → List (List (Located Span RawSymbol)) → Type 0
   Reads f v = (g : List (Token Span)) → read_sets false (f ++ g) ≡ v ++ read_sets false g
 
-  pub reads_fits : (i : ℕ) (l : List (Token Span)) → Here i l → Fits i l Reads length (tuple read_entry ws i) (tupled z.place (readOne z.place) l)
-  unfolding readOne
+  pub reads_fits : (i : ℕ) (l : List (Token Span)) → Here i l → Fits i l Reads length (tuple read_entry ws i) (tupled z.place (read_one z.place) l)
+  unfolding read_one
   reads_fits i l here =
       weaken_fits ts junk z more ends
-      (Reading ts junk z more ends read_entry read_steps (readOne z.place) Entry read_entry_fits refl (read_sets false) (λ a b. a ∷ b) (λ f g a e. e g))
-      Reads length i l (λ f v M g. M g ∙ pushes_append v (read_sets false g)) (tuple read_entry ws i) (tupled z.place (readOne z.place) l)
-      (tuple_fits ts junk z more ends read_entry read_steps (readOne z.place) Entry read_entry_fits refl (read_sets false) (λ a b. a ∷ b) (λ f g a e. e g)
+      (Reading ts junk z more ends read_entry read_steps (read_one z.place) Entry read_entry_fits refl (read_sets false) (λ a b. a ∷ b) (λ f g a e. e g))
+      Reads length i l (λ f v M g. M g ∙ pushes_append v (read_sets false g)) (tuple read_entry ws i) (tupled z.place (read_one z.place) l)
+      (tuple_fits ts junk z more ends read_entry read_steps (read_one z.place) Entry read_entry_fits refl (read_sets false) (λ a b. a ∷ b) (λ f g a e. e g)
       (reads_past 0x2C part-comma) (reads_past 0x28 part_l_paren) (reads_past 0x29 part_r_paren) i l here)

@@ -9,7 +9,7 @@ use lib.Dec.{eqb}
 use lib.ListN.{length}
 use borrow.Author.Tests.{eqb-true, eq-eqb, ne_eqb, lt-ltb, le-ltb}
 use Rattle.lexer.specs.Text.{codes}
-use Rattle.lexer.specs.Tokens.{TokenKind, word, number, quoted, str, sign, comment, newline, unterminatedString, unterminatedQuote, Span, Token}
+use Rattle.lexer.specs.Tokens.{TokenKind, word, number, quoted, str, sign, comment, newline, unterminated_string, unterminated_quote, Span, Token}
 use Rattle.lexer.specs.Words.{sign_number, kind_number, keyword, word_value, token_value}
 use Rattle.language.specs.Machine.{Dir, left, right, stay}
 use Rattle.language.specs.Parser.{when, unexpected, sign_in, is_sign}
@@ -67,8 +67,8 @@ code_view (sign c) p q =
     sign_rule (λ d. cond (eqb (sign_number d) 14) 2 1) (λ d. 1) refl refl refl refl refl refl refl (λ d u. rw (unnamed_number d u)) c
 code_view (comment s) p q = refl
 code_view newline p q = refl
-code_view unterminatedString p q = refl
-code_view unterminatedQuote p q = refl
+code_view unterminated_string p q = refl
+code_view unterminated_quote p q = refl
 
 -- ---- signs
 -- the sign c has the kind of the number n, and no other token has
@@ -138,8 +138,8 @@ sees_sign c n m (str t) p q s = m.others.3
 sees_sign c n m (sign d) p q s = m.alone d ∙ sym (some-when (eqb d c) true)
 sees_sign c n m (comment t) p q s = m.others.4
 sees_sign c n m newline p q s = m.others.5
-sees_sign c n m unterminatedString p q s = m.others.6
-sees_sign c n m unterminatedQuote p q s = m.others.7
+sees_sign c n m unterminated_string p q s = m.others.6
+sees_sign c n m unterminated_quote p q s = m.others.7
 
 -- ---- strings and numbers
 pub sees_string : Sees (is_kind 3) string_in
@@ -151,8 +151,8 @@ sees_string (str t) p q s = refl
 sees_string (sign d) p q s = sign_rule (λ d. eqb (sign_number d) 3) (λ d. false) refl refl refl refl refl refl refl (λ d u. rw (unnamed_number d u)) d
 sees_string (comment t) p q s = refl
 sees_string newline p q s = refl
-sees_string unterminatedString p q s = refl
-sees_string unterminatedQuote p q s = refl
+sees_string unterminated_string p q s = refl
+sees_string unterminated_quote p q s = refl
 
 pub sees_number : Sees (is_kind 1) number_in
 unfolding is_kind token_of kind_number number_in
@@ -163,8 +163,8 @@ sees_number (str t) p q s = refl
 sees_number (sign d) p q s = sign_rule (λ d. eqb (sign_number d) 1) (λ d. false) refl refl refl refl refl refl refl (λ d u. rw (unnamed_number d u)) d
 sees_number (comment t) p q s = refl
 sees_number newline p q s = refl
-sees_number unterminatedString p q s = refl
-sees_number unterminatedQuote p q s = refl
+sees_number unterminated_string p q s = refl
+sees_number unterminated_quote p q s = refl
 
 -- ---- states
 and_false : (b : Bool) → (b && false) ≡ false
@@ -192,8 +192,8 @@ sees_state (str t) p q s = refl
 sees_state (sign d) p q s = sign_rule (λ d. cond (eqb (sign_number d) 0) (not (eqb d 0x5F)) false) (λ d. false) refl refl refl refl refl refl refl (λ d u. rw (unnamed_number d u)) d
 sees_state (comment t) p q s = refl
 sees_state newline p q s = refl
-sees_state unterminatedString p q s = refl
-sees_state unterminatedQuote p q s = refl
+sees_state unterminated_string p q s = refl
+sees_state unterminated_quote p q s = refl
 
 -- ---- symbols
 -- a number is as long as it has digits
@@ -219,8 +219,8 @@ sees_symbol (sign d) p q s =
     (λ d u. rw (unnamed_number d u, u.no_l_paren, u.no_r_paren, u.no_l_brace, u.no_r_brace, u.no_comma, u.no_eq, u.no_star) (sym (some-when (not (eqb d 0x3B)) (bare 0x2423 d)))) d
 sees_symbol (comment t) p q s = refl
 sees_symbol newline p q s = refl
-sees_symbol unterminatedString p q s = refl
-sees_symbol unterminatedQuote p q s = refl
+sees_symbol unterminated_string p q s = refl
+sees_symbol unterminated_quote p q s = refl
 
 pub sees_write : Sees is_write write_in
 unfolding is_write is_kind write_in
@@ -259,8 +259,8 @@ sees_direction (sign d) p q s =
     sign_rule (λ d. is_direction (token_of (tok (sign d) p q))) (λ d. false) refl refl refl refl refl refl refl (λ d u. rw (unnamed_number d u)) d
 sees_direction (comment t) p q s = refl
 sees_direction newline p q s = refl
-sees_direction unterminatedString p q s = refl
-sees_direction unterminatedQuote p q s = refl
+sees_direction unterminated_string p q s = refl
+sees_direction unterminated_quote p q s = refl
 
 -- E008 for what may look like a direction, else as for any token
 pub text_view : (k : TokenKind) (p q : Span) → cond (is_text (token_of (tok k p q))) 8 (code_of (token_of (tok k p q))) ≡ not_direction k
@@ -279,5 +279,5 @@ text_view (sign c) p q =
     rw (unnamed_number d u) (sym (ap (λ (x : Bool). elim x [ true ↦ 1 | false ↦ 8 ]) b))) c
 text_view (comment s) p q = refl
 text_view newline p q = refl
-text_view unterminatedString p q = refl
-text_view unterminatedQuote p q = refl
+text_view unterminated_string p q = refl
+text_view unterminated_quote p q = refl

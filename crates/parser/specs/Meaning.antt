@@ -1,11 +1,11 @@
 -- What a line of the parser means: its tokens, seen through the views of language/specs/Lines.antt.
 use Rattle.std.specs.Prelude.{ℕ, ◌+◌, ◌-◌, ◌<◌, Bool, true, false, cond, List, [], ◌∷◌, ◌≡◌, eqb, length, get_or, take, drop}
 use Rattle.std.proofs.Math.Option.{Option, none, some}
-use Rattle.lexer.specs.Tokens.{TokenKind, word, number, quoted, str, sign, comment, newline, unterminatedString, unterminatedQuote, Span, span, Token}
+use Rattle.lexer.specs.Tokens.{TokenKind, word, number, quoted, str, sign, comment, newline, unterminated_string, unterminated_quote, Span, span, Token}
 use Rattle.lexer.specs.Words.{kind_number, token_value}
 use Rattle.language.specs.Machine.{Located, transducer, lsb}
 use Rattle.language.specs.Parser.{is_sign}
-use Rattle.language.specs.Lines.{RawSymbol, raw_blank, RawDecoder, raw_word, raw_unary, raw_binary, RawTransition, Text, Item, machineItem, inputItem, kind_item, output_item, tapes_item, statesItem, finalItem, inputAlphabetItem, tapeAlphabetItem, blank_item, start_item, transition_item, Line, blank_line, comment_line, item_line, error_line, state_in, symbol_in, write_in, direction_in, string_in, number_in, word_in, kinds, outputs, orders, wordOutput, unaryOutput, binaryOutput, Ending, lineFeed, goesBy, remark, ending_of, lines, covering}
+use Rattle.language.specs.Lines.{RawSymbol, raw_blank, RawDecoder, raw_word, raw_unary, raw_binary, RawTransition, Text, Item, machine_item, input_item, kind_item, output_item, tapes_item, states_item, final_item, input_alphabet_item, tape_alphabet_item, blank_item, start_item, transition_item, Line, blank_line, comment_line, item_line, error_line, state_in, symbol_in, write_in, direction_in, string_in, number_in, word_in, kinds, outputs, orders, word_output, unary_output, binary_output, Ending, line_feed, goes_by, remark, ending_of, lines, covering}
 use Rattle.parser.specs.Lines.{line, line_end}
 use Rattle.tokens.specs.declared.Token.{Token as Words}
 use Rattle.tokens.specs.View.{words_of}
@@ -100,10 +100,10 @@ read_sets true (t ∷ ts) = inside (read_part t.kind) t.place (read_sets false t
 
 -- the output at an index
 unfoldable pub decoder_at : List (Token Span) → ℕ → RawDecoder
-decoder_at ts i = elim (located (word_in outputs) wordOutput (at ts i)).value [
-  | wordOutput ↦ raw_word
-  | unaryOutput ↦ raw_unary (located symbol_in raw_blank (at ts (i + 1))).value
-  | binaryOutput ↦ raw_binary (located (word_in orders) lsb (at ts (i + 1))).value
+decoder_at ts i = elim (located (word_in outputs) word_output (at ts i)).value [
+  | word_output ↦ raw_word
+  | unary_output ↦ raw_unary (located symbol_in raw_blank (at ts (i + 1))).value
+  | binary_output ↦ raw_binary (located (word_in orders) lsb (at ts (i + 1))).value
 ]
 
 -- a rule by its parts, where j is the index behind it
@@ -120,23 +120,23 @@ rule_of ts q j = record {
 -- an item of a kind, whose value stands from the index i to before j
 unfoldable pub item_means : List (Token Span) → ItemKind → ℕ → ℕ → Parts → Item Span
 unfolding seen decoder_at rule_of
-item_means ts Machine i j q = machineItem (text_of (at ts i))
+item_means ts Machine i j q = machine_item (text_of (at ts i))
 item_means ts Kind i j q = kind_item (located (word_in kinds) transducer (at ts i)).value
-item_means ts Input i j q = inputItem (text_of (at ts i))
+item_means ts Input i j q = input_item (text_of (at ts i))
 item_means ts Output i j q = output_item (decoder_at ts i)
 item_means ts Tapes i j q = tapes_item (located number_in 0 (at ts i))
-item_means ts States i j q = statesItem (seen state_in (between ts i j))
-item_means ts InputAlphabet i j q = inputAlphabetItem (seen symbol_in (between ts i j))
-item_means ts TapeAlphabet i j q = tapeAlphabetItem (seen symbol_in (between ts i j))
+item_means ts States i j q = states_item (seen state_in (between ts i j))
+item_means ts InputAlphabet i j q = input_alphabet_item (seen symbol_in (between ts i j))
+item_means ts TapeAlphabet i j q = tape_alphabet_item (seen symbol_in (between ts i j))
 item_means ts BlankSymbol i j q = blank_item (located symbol_in raw_blank (at ts i)).value
 item_means ts Start i j q = start_item (located state_in [] (at ts i))
-item_means ts Final i j q = finalItem (seen state_in (between ts i j))
+item_means ts Final i j q = final_item (seen state_in (between ts i j))
 item_means ts Transition i j q = transition_item (rule_of ts q j)
 
 -- the text of a comment
 unfoldable pub remark_of : Ending → List ℕ
-remark_of lineFeed = []
-remark_of goesBy = []
+remark_of line_feed = []
+remark_of goes_by = []
 remark_of (remark s) = s
 
 abbrev pub comment_of : Token Span → Located Span (List ℕ)
@@ -195,19 +195,19 @@ SoundAs (str s) p = Unit {0}
 SoundAs (sign c) p = Unit {0}
 SoundAs (comment s) p = Unit {0}
 SoundAs newline p = Unit {0}
-SoundAs unterminatedString p = Unit {0}
-SoundAs unterminatedQuote p = Unit {0}
+SoundAs unterminated_string p = Unit {0}
+SoundAs unterminated_quote p = Unit {0}
 
 abbrev pub Sound : Token Span → Type 0
 Sound t = SoundAs t.kind t.place
 
 -- a line feed ends the tokens and follows each comment
 abbrev pub Closed : Ending → List (Token Span) → Type 0
-Closed lineFeed ts = Unit {0}
-Closed goesBy [] = ⊥
-Closed goesBy (t ∷ ts) = Unit {0}
+Closed line_feed ts = Unit {0}
+Closed goes_by [] = ⊥
+Closed goes_by (t ∷ ts) = Unit {0}
 Closed (remark s) [] = ⊥
-Closed (remark s) (t ∷ ts) = ending_of t.kind ≡ lineFeed
+Closed (remark s) (t ∷ ts) = ending_of t.kind ≡ line_feed
 
 pub record Lexed (t : Token Span) (ts : List (Token Span)) : Type 0 where
   pub sound : Sound t

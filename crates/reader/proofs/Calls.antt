@@ -19,7 +19,7 @@ use Rattle.parser.specs.Meaning.{token_of}
 use Rattle.parser.proofs.Lines.{tokens-flat}
 use Rattle.language.specs.Lines.{Line}
 use Rattle.language.specs.Assembly as A
-use Rattle.language.specs.Outcome.{Refusal, textTooLong, workTooShort, invalidUtf8, outsideSet, logTooShort, sheetTooShort, outputTooShort, Reply, machine, diagnosed, refused, reply_number, refusal_of, zeros, words_needed, ReadOutcome, read_machine, read_outcome}
+use Rattle.language.specs.Outcome.{Refusal, text_too_long, work_too_short, invalid_utf8, outside_set, log_too_short, sheet_too_short, output_too_short, Reply, machine, diagnosed, refused, reply_number, refusal_of, zeros, words_needed, ReadOutcome, read_machine, read_outcome}
 use Rattle.diag.specs.declared.Diagnostic.{Diagnostic}
 use Rattle.diag.specs.Log as D
 use Rattle.diag.proofs.Appended.{append_all-length}
@@ -41,7 +41,7 @@ use Rattle.answer.specs.Words.{answer_row}
 use Rattle.admission.specs.Admission.{admission_in}
 use Rattle.report.specs.Report.{report_reply}
 use Rattle.reader.specs.Reading.{given, given_by, leaves_work_number}
-use Rattle.admission.proofs.Admissions.{too_long, work_too_short}
+use Rattle.admission.proofs.Admissions.{too_long, work_too_short_lem}
 use Rattle.reader.proofs.Outcomes.{refused_outcome, reported_outcome, machine_outcome}
 
 -- ---- refusals
@@ -61,7 +61,7 @@ module _ (t : List ℕ) (work : ℕ) (a : refusal_of t work ≡ none) where
   short = by_test_lem (ltb 4194304 (length t)) (λ p. some-none (too_long t work (ltb-true 4194304 (length t) p) ∙ a)) (λ p. ltb-false 4194304 (length t) p)
 
   pub room : 6 * length t + 6 ≤ work
-  room = by_test_lem (ltb work (6 * length t + 6)) (λ p. some-none (work_too_short t work short (ltb-true work (6 * length t + 6) p) ∙ a)) (λ p. ltb-false work (6 * length t + 6) p)
+  room = by_test_lem (ltb work (6 * length t + 6)) (λ p. some-none (work_too_short_lem t work short (ltb-true work (6 * length t + 6) p) ∙ a)) (λ p. ltb-false work (6 * length t + 6) p)
 
 -- ---- what is left of the log and of work
 -- the reply to diagnostics does not leave work untouched
@@ -162,13 +162,13 @@ module _ (t w : List ℕ) (a : refusal_of t (length w) ≡ none) where
 number_leaves : (r : Reply) → leaves_work_number (reply_number r) ≡ true → untouched r ≡ true
 number_leaves (machine h) e = absurd (let o : ◌≡◌ {A = ℕ} 0 1 = cc in omega arith)
 number_leaves (diagnosed n) e = absurd (let o : ◌≡◌ {A = ℕ} 0 1 = cc in omega arith)
-number_leaves (refused textTooLong) e = refl
-number_leaves (refused workTooShort) e = refl
-number_leaves (refused (invalidUtf8 n)) e = absurd (let o : ◌≡◌ {A = ℕ} 0 1 = cc in omega arith)
-number_leaves (refused (outsideSet n)) e = absurd (let o : ◌≡◌ {A = ℕ} 0 1 = cc in omega arith)
-number_leaves (refused (logTooShort n)) e = absurd (let o : ◌≡◌ {A = ℕ} 0 1 = cc in omega arith)
-number_leaves (refused (sheetTooShort n)) e = absurd (let o : ◌≡◌ {A = ℕ} 0 1 = cc in omega arith)
-number_leaves (refused (outputTooShort n)) e = absurd (let o : ◌≡◌ {A = ℕ} 0 1 = cc in omega arith)
+number_leaves (refused text_too_long) e = refl
+number_leaves (refused work_too_short) e = refl
+number_leaves (refused (invalid_utf8 n)) e = absurd (let o : ◌≡◌ {A = ℕ} 0 1 = cc in omega arith)
+number_leaves (refused (outside_set n)) e = absurd (let o : ◌≡◌ {A = ℕ} 0 1 = cc in omega arith)
+number_leaves (refused (log_too_short n)) e = absurd (let o : ◌≡◌ {A = ℕ} 0 1 = cc in omega arith)
+number_leaves (refused (sheet_too_short n)) e = absurd (let o : ◌≡◌ {A = ℕ} 0 1 = cc in omega arith)
+number_leaves (refused (output_too_short n)) e = absurd (let o : ◌≡◌ {A = ℕ} 0 1 = cc in omega arith)
 
 module _ (x : Answer) (n : ℕ) (number : n ≡ reply_number (reply_in x)) where
   pub given_is : (o : ReadOutcome) (row row' log sheet : List ℕ) → read_in x log sheet ≡ o → row' ≡ answer_row (reply_in x) row → given n row' log sheet ≡ given_by o row

@@ -10,7 +10,7 @@ use lib.ListN.{length, drop, replicate, length-map}
 use Rattle.lexer.specs.declared.Span.{Span}
 use Rattle.language.specs.Assembly as A
 use Rattle.language.specs.Layout as L
-use Rattle.language.specs.Outcome.{diagnosed, refused, logTooShort, zeros, filled, ReadOutcome, read_diagnostics}
+use Rattle.language.specs.Outcome.{diagnosed, refused, log_too_short, zeros, filled, ReadOutcome, read_diagnostics}
 use Rattle.diag.specs.declared.Diagnostic.{Diagnostic}
 use Rattle.diag.specs.Sort.{insert_by, insert_all, sort_by}
 use Rattle.diag.specs.Log as D

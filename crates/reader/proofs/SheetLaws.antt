@@ -12,7 +12,7 @@ use Rattle.tokens.specs.declared.Token.{Token}
 use Rattle.language.specs.Layout as L
 use Rattle.language.specs.Lines.{Line}
 use Rattle.language.specs.Infer.{machine_of}
-use Rattle.language.specs.Outcome.{sheetTooShort, refused, machine, zeros, filled, words_needed, ReadOutcome, read_machine}
+use Rattle.language.specs.Outcome.{sheet_too_short, refused, machine, zeros, filled, words_needed, ReadOutcome, read_machine}
 use Rattle.language.proofs.ReadCounts.{rules-within}
 use Rattle.lexer.specs.declared.Span.{Span as Place}
 use Rattle.assembler.specs.Rows.{rows}
@@ -46,7 +46,7 @@ span_from_lem p q e = ap span_from e
 
 -- ---- row 6, and the machine
 module _ (ls : List (Line Place)) (log sheet : ℕ) where
-  short_machine : sheet < words_needed ls → ◌≡◌ {A = ReadOutcome} (record { reply = refused (sheetTooShort (words_needed ls)); log = zeros log; sheet = zeros sheet }) (read_machine ls log sheet)
+  short_machine : sheet < words_needed ls → ◌≡◌ {A = ReadOutcome} (record { reply = refused (sheet_too_short (words_needed ls)); log = zeros log; sheet = zeros sheet }) (read_machine ls log sheet)
   unfolding read_machine
   short_machine h = rw (read_machine, lt-ltb sheet (words_needed ls) h)
 
@@ -155,7 +155,7 @@ module _ (text : List ℕ) (count : ℕ) (w first : List ℕ) (r : Ready text co
       unfolding read_machine
       too_short h o₂ q l =
           let z : o₂ ≡ zeros (length o) = q ∙ ap zeros same_length in
-          (λ j. record { reply = refused (sheetTooShort (needed j)); log = zeros l; sheet = z j }) ∙ short_machine (lines_of text) l (length o) (omega (arith, needed, same_length))
+          (λ j. record { reply = refused (sheet_too_short (needed j)); log = zeros l; sheet = z j }) ∙ short_machine (lines_of text) l (length o) (omega (arith, needed, same_length))
 
     -- what expanding asks
     pub expand-tokens : 4 * count ≤ 4 * (length text + 1)

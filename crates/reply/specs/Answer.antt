@@ -10,7 +10,7 @@ abbrev pub write_reply_in : WriteAnswer → O.WriteReply
 write_reply_in (Written n) = O.written n
 write_reply_in (Diagnostics n) = O.not_written n
 write_reply_in (Refused r) = O.not_read (refusal_in r)
-write_reply_in (OutputTooShort n) = O.not_read (O.outputTooShort n)
+write_reply_in (OutputTooShort n) = O.not_read (O.output_too_short n)
 
 -- the answer, and the log, the sheet and the output that are left with it
 abbrev pub write_in : WriteAnswer → List ℕ → List ℕ → List ℕ → O.WriteOutcome

@@ -5,7 +5,7 @@ use Prim.Native.Nat.{ℕ, ◌-◌, ◌*◌, ◌/◌, ◌≤◌, ◌<◌}
 use native.Mathlib.Omega.{arith}
 use borrow.Author.Tests.{lt-ltb, le-ltb}
 use lib.ListN.{length, take, drop, replicate}
-use Rattle.language.specs.Outcome.{diagnosed, refused, logTooShort}
+use Rattle.language.specs.Outcome.{diagnosed, refused, log_too_short}
 use Rattle.diag.specs.declared.Diagnostic.{Diagnostic}
 use Rattle.diag.specs.Log as D
 use Rattle.diag.proofs.Logs.{log_sorted, log_cleared}
@@ -13,7 +13,7 @@ use Rattle.report.specs.Report.{report_reply}
 
 -- the reply
 module _ (n k : ℕ) where
-  pub reply_refused : n / 5 < k → refused (logTooShort k) ≡ report_reply n k
+  pub reply_refused : n / 5 < k → refused (log_too_short k) ≡ report_reply n k
   unfolding report_reply
   reply_refused h = rw (report_reply, lt-ltb (n / 5) k h)
 

@@ -12,7 +12,7 @@ use Rattle.lexer.specs.declared.Span.{Span as Place}
 use Rattle.tokens.specs.declared.Token.{Token}
 use Rattle.parser.specs.Row.{peek}
 use Rattle.language.specs.Machine.{Located}
-use Rattle.language.specs.Lines.{RawTransition, Item, machineItem, inputItem, kind_item, output_item, tapes_item, statesItem, finalItem, inputAlphabetItem, tapeAlphabetItem, blank_item, start_item, transition_item, Line, blank_line, comment_line, item_line, error_line}
+use Rattle.language.specs.Lines.{RawTransition, Item, machine_item, input_item, kind_item, output_item, tapes_item, states_item, final_item, input_alphabet_item, tape_alphabet_item, blank_item, start_item, transition_item, Line, blank_line, comment_line, item_line, error_line}
 use Rattle.language.specs.Assembly as A
 use Rattle.language.specs.Layout as L
 use Rattle.language.proofs.Counts.{flat_append}
@@ -232,17 +232,17 @@ data Kinded : Item Place → Type 0 where
 
 kinded : (k : Item Place) → Kinded k
 unfolding number A.parts
-kinded (machineItem x) = declares {k = machineItem x} (omega arith) refl
+kinded (machine_item x) = declares {k = machine_item x} (omega arith) refl
 kinded (kind_item x) = declares {k = kind_item x} (omega arith) refl
-kinded (inputItem x) = declares {k = inputItem x} (omega arith) refl
+kinded (input_item x) = declares {k = input_item x} (omega arith) refl
 kinded (output_item x) = declares {k = output_item x} (omega arith) refl
 kinded (tapes_item x) = declares {k = tapes_item x} (omega arith) refl
-kinded (statesItem x) = declares {k = statesItem x} (omega arith) refl
-kinded (inputAlphabetItem x) = declares {k = inputAlphabetItem x} (omega arith) refl
-kinded (tapeAlphabetItem x) = declares {k = tapeAlphabetItem x} (omega arith) refl
+kinded (states_item x) = declares {k = states_item x} (omega arith) refl
+kinded (input_alphabet_item x) = declares {k = input_alphabet_item x} (omega arith) refl
+kinded (tape_alphabet_item x) = declares {k = tape_alphabet_item x} (omega arith) refl
 kinded (blank_item x) = declares {k = blank_item x} (omega arith) refl
 kinded (start_item x) = declares {k = start_item x} (omega arith) refl
-kinded (finalItem x) = declares {k = finalItem x} (omega arith) refl
+kinded (final_item x) = declares {k = final_item x} (omega arith) refl
 kinded (transition_item r) = rule r
 
 -- the header comments of each line
@@ -343,10 +343,10 @@ kept-all n (r ∷ rs) e = go (A.verdict n r.raw) e (λ f. kept-all (n + A.combin
   where
     go : (v : A.Verdict) → ◌≡◌ {A = List (A.Diagnostic Place)} (elim v [
       | A.expands ↦ A.rule_errors (n + A.combinations r.raw.read) false rs
-      | A.wrongArity ↦ A.diagnostic 10 r.line none ∷ A.rule_errors n false rs
-      | A.tooMany ↦ A.diagnostic 9 r.line none ∷ A.rule_errors n true rs
+      | A.wrong_arity ↦ A.diagnostic 10 r.line none ∷ A.rule_errors n false rs
+      | A.too_many ↦ A.diagnostic 9 r.line none ∷ A.rule_errors n true rs
     ]) [] → (A.rule_errors (n + A.combinations r.raw.read) false rs ≡ [] → A.kept (n + A.combinations r.raw.read) rs ≡ rs)
-        → elim v [ A.expands ↦ r ∷ A.kept (n + A.combinations r.raw.read) rs | A.wrongArity ↦ A.kept n rs | A.tooMany ↦ A.kept n rs ] ≡ r ∷ rs
+        → elim v [ A.expands ↦ r ∷ A.kept (n + A.combinations r.raw.read) rs | A.wrong_arity ↦ A.kept n rs | A.too_many ↦ A.kept n rs ] ≡ r ∷ rs
     go A.expands f ih = ap (λ (l : List (A.RuleLine Place)). r ∷ l) (ih f)
-    go A.wrongArity f ih = absurd (let z : ◌≡◌ {A = ℕ} 0 1 = cc in omega arith)
-    go A.tooMany f ih = absurd (let z : ◌≡◌ {A = ℕ} 0 1 = cc in omega arith)
+    go A.wrong_arity f ih = absurd (let z : ◌≡◌ {A = ℕ} 0 1 = cc in omega arith)
+    go A.too_many f ih = absurd (let z : ◌≡◌ {A = ℕ} 0 1 = cc in omega arith)

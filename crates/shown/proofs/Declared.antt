@@ -13,7 +13,7 @@ use Rattle.diag.proofs.Cases.{by_test_lem}
 use Rattle.lexer.specs.declared.Span.{Span as Place}
 use Rattle.tokens.specs.declared.Token.{Token}
 use Rattle.language.specs.Machine.{Located}
-use Rattle.language.specs.Lines.{Item, machineItem, inputItem, kind_item, output_item, tapes_item, statesItem, finalItem, inputAlphabetItem, tapeAlphabetItem, blank_item, start_item, transition_item, Line, blank_line, comment_line, item_line, error_line}
+use Rattle.language.specs.Lines.{Item, machine_item, input_item, kind_item, output_item, tapes_item, states_item, final_item, input_alphabet_item, tape_alphabet_item, blank_item, start_item, transition_item, Line, blank_line, comment_line, item_line, error_line}
 use Rattle.language.specs.Assembly as A
 use Rattle.assembler.specs.Entries.{Entry, entry_at}
 use Rattle.assembler.specs.Declarations.{declares, name_of, undeclared, declare, declarations}
@@ -94,17 +94,17 @@ Filled p n =
 
 pub fills : (i : Item Place) → Filled (A.parts i) (number i)
 unfolding A.parts number
-fills (machineItem x) = (tt, tt, tt, tt, tt, tt, tt, tt, tt, tt, tt)
+fills (machine_item x) = (tt, tt, tt, tt, tt, tt, tt, tt, tt, tt, tt)
 fills (kind_item x) = (tt, tt, tt, tt, tt, tt, tt, tt, tt, tt, tt)
-fills (inputItem x) = (tt, tt, tt, tt, tt, tt, tt, tt, tt, tt, tt)
+fills (input_item x) = (tt, tt, tt, tt, tt, tt, tt, tt, tt, tt, tt)
 fills (output_item x) = (tt, tt, tt, tt, tt, tt, tt, tt, tt, tt, tt)
 fills (tapes_item x) = (tt, tt, tt, tt, tt, tt, tt, tt, tt, tt, tt)
-fills (statesItem x) = (tt, tt, tt, tt, tt, tt, tt, tt, tt, tt, tt)
-fills (inputAlphabetItem x) = (tt, tt, tt, tt, tt, tt, tt, tt, tt, tt, tt)
-fills (tapeAlphabetItem x) = (tt, tt, tt, tt, tt, tt, tt, tt, tt, tt, tt)
+fills (states_item x) = (tt, tt, tt, tt, tt, tt, tt, tt, tt, tt, tt)
+fills (input_alphabet_item x) = (tt, tt, tt, tt, tt, tt, tt, tt, tt, tt, tt)
+fills (tape_alphabet_item x) = (tt, tt, tt, tt, tt, tt, tt, tt, tt, tt, tt)
 fills (blank_item x) = (tt, tt, tt, tt, tt, tt, tt, tt, tt, tt, tt)
 fills (start_item x) = (tt, tt, tt, tt, tt, tt, tt, tt, tt, tt, tt)
-fills (finalItem x) = (tt, tt, tt, tt, tt, tt, tt, tt, tt, tt, tt)
+fills (final_item x) = (tt, tt, tt, tt, tt, tt, tt, tt, tt, tt, tt)
 fills (transition_item x) = (tt, tt, tt, tt, tt, tt, tt, tt, tt, tt, tt)
 
 -- the part of the first declaration at the index f: there is none, or an entry that means an item which has it

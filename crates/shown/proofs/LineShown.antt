@@ -29,7 +29,7 @@ use Rattle.parser.specs.Lines.{one, direction, is_comment, line, newline_at}
 use Rattle.parser.specs.Meaning.{token_of, nothing, at, between, located, or_else, text_of, Sound, seen, read_sets, rule_of, item_means, comment_of, own_comment, line_means, AllLexed}
 use Rattle.parser.proofs.Views.{is_some, sees_symbol, sees_write, sees_direction}
 use Rattle.language.specs.Machine.{Located}
-use Rattle.language.specs.Lines.{RawSymbol, raw_blank, RawTransition, Text, Item, machineItem, inputItem, kind_item, output_item, tapes_item, statesItem, finalItem, inputAlphabetItem, tapeAlphabetItem, blank_item, start_item, transition_item, Line, blank_line, comment_line, item_line, error_line, state_in, symbol_in, write_in, direction_in}
+use Rattle.language.specs.Lines.{RawSymbol, raw_blank, RawTransition, Text, Item, machine_item, input_item, kind_item, output_item, tapes_item, states_item, final_item, input_alphabet_item, tape_alphabet_item, blank_item, start_item, transition_item, Line, blank_line, comment_line, item_line, error_line, state_in, symbol_in, write_in, direction_in}
 use Rattle.language.specs.Assembly as A
 use Rattle.assembler.specs.Rows.{place_of}
 use Rattle.assembler.specs.Entries.{entry_at}
@@ -62,17 +62,17 @@ pub record Expands (r : RawTransition Place) : Type 0 where
 
 abbrev pub ExpandsItem : Item Place → Type 0
 ExpandsItem (transition_item r) = Expands r
-ExpandsItem (machineItem x) = Unit {0}
+ExpandsItem (machine_item x) = Unit {0}
 ExpandsItem (kind_item x) = Unit {0}
-ExpandsItem (inputItem x) = Unit {0}
+ExpandsItem (input_item x) = Unit {0}
 ExpandsItem (output_item x) = Unit {0}
 ExpandsItem (tapes_item x) = Unit {0}
-ExpandsItem (statesItem x) = Unit {0}
-ExpandsItem (inputAlphabetItem x) = Unit {0}
-ExpandsItem (tapeAlphabetItem x) = Unit {0}
+ExpandsItem (states_item x) = Unit {0}
+ExpandsItem (input_alphabet_item x) = Unit {0}
+ExpandsItem (tape_alphabet_item x) = Unit {0}
 ExpandsItem (blank_item x) = Unit {0}
 ExpandsItem (start_item x) = Unit {0}
-ExpandsItem (finalItem x) = Unit {0}
+ExpandsItem (final_item x) = Unit {0}
 
 abbrev pub ExpandsLine : Line Place → Type 0
 ExpandsLine blank_line = Unit {0}

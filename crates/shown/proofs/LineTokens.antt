@@ -26,7 +26,7 @@ use Rattle.parser.specs.Lines.{line, line_length, newline_at}
 use Rattle.parser.specs.Meaning.{token_of, nothing, at, Sound, Closed, AllLexed, comment_of, own_comment}
 use Rattle.parser.proofs.ItemLines.{goes_kind, feed_kind}
 use Rattle.language.specs.Machine.{Located}
-use Rattle.language.specs.Lines.{Ending, lineFeed, goesBy, remark, ending_of}
+use Rattle.language.specs.Lines.{Ending, line_feed, goes_by, remark, ending_of}
 use Rattle.language.specs.Assembly as A
 use Rattle.language.specs.Layout as L
 use Rattle.assembler.specs.Entered.{item_number, item_entry, counts_of, parts_of, entered_from}
@@ -59,8 +59,8 @@ comment-next (t ∷ m) zero a h e = go (ending_of t.kind) refl m a.0.closed
     fed k q = ap (λ (k : TokenKind). eqb (kind_number k) 13) q
 
     go : (x : Ending) → ending_of t.kind ≡ x → (m : Tokens) → Closed (ending_of t.kind) m → eqb (token_of (at (t ∷ m) 1)).kind 13 ≡ true
-    go lineFeed q m c = both_values (eqb (kind_number t.kind) 12) e (ap (λ (k : TokenKind). eqb (kind_number k) 12) (feed_kind t.kind q))
-    go goesBy q m c = both_values (eqb (kind_number t.kind) 12) e (goes_kind t.kind q).0
+    go line_feed q m c = both_values (eqb (kind_number t.kind) 12) e (ap (λ (k : TokenKind). eqb (kind_number k) 12) (feed_kind t.kind q))
+    go goes_by q m c = both_values (eqb (kind_number t.kind) 12) e (goes_kind t.kind q).0
     go (remark s) q m c = last m (subst (λ (x : Ending). Closed x m) q c)
       where
         last : (m : Tokens) → Closed (remark s) m → eqb (token_of (at (t ∷ m) 1)).kind 13 ≡ true

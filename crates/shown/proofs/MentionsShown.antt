@@ -6,7 +6,7 @@ use mathlib.Core.Option.{Option, none, some}
 use Prim.Native.Nat.{ℕ, ◌-◌}
 use native.Mathlib.Omega.{arith}
 use Rattle.lexer.specs.declared.Span.{Span as Place}
-use Rattle.lexer.specs.Tokens.{TokenKind, word, number, quoted, str, sign, comment, newline, unterminatedString, unterminatedQuote, Token as Lexed}
+use Rattle.lexer.specs.Tokens.{TokenKind, word, number, quoted, str, sign, comment, newline, unterminated_string, unterminated_quote, Token as Lexed}
 use Rattle.lexer.proofs.Placed.{Placed, All}
 use Rattle.tokens.specs.declared.Token.{Token}
 use Rattle.parser.specs.Views.{is_kind, is_state, is_symbol}
@@ -132,8 +132,8 @@ module _ (text : List ℕ) where
   string-kind (sign c) v e = none-some v e
   string-kind (comment w) v e = none-some v e
   string-kind newline v e = none-some v e
-  string-kind unterminatedString v e = none-some v e
-  string-kind unterminatedQuote v e = none-some v e
+  string-kind unterminated_string v e = none-some v e
+  string-kind unterminated_quote v e = none-some v e
 
   pub text_shows : (t : Lexed Place) → Sound t → Placed text t → is_kind 3 (token_of t) ≡ true → TextShows text (token_of t) (text_of t)
   text_shows t s p e = go (string_in t.kind) refl (sym (sees_string t.kind t.place t.inner s) ∙ e)

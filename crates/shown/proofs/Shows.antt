@@ -18,7 +18,7 @@ use Rattle.parser.specs.Views.{is_state, is_symbol}
 use Rattle.parser.specs.Lines as P
 use Rattle.parser.specs.Meaning.{token_of, at, item_means, AllLexed}
 use Rattle.language.specs.Machine.{Located, Dir}
-use Rattle.language.specs.Lines.{RawSymbol, RawTransition, Text, Item, machineItem, inputItem, kind_item, output_item, tapes_item, statesItem, finalItem, inputAlphabetItem, tapeAlphabetItem, blank_item, start_item, transition_item, Line, blank_line, comment_line, item_line, error_line}
+use Rattle.language.specs.Lines.{RawSymbol, RawTransition, Text, Item, machine_item, input_item, kind_item, output_item, tapes_item, states_item, final_item, input_alphabet_item, tape_alphabet_item, blank_item, start_item, transition_item, Line, blank_line, comment_line, item_line, error_line}
 use Rattle.language.specs.Assembly as A
 use Rattle.language.specs.Layout as L
 use Rattle.assembler.specs.Rows.{place_of}
@@ -69,17 +69,17 @@ pub record RuleShows (ts : List Token) (i : ℕ) (r : RawTransition Place) : Typ
 
 abbrev pub RuleOf : List Token → ℕ → Item Place → Type 0
 RuleOf ts i (transition_item r) = RuleShows ts i r
-RuleOf ts i (machineItem x) = Unit {0}
+RuleOf ts i (machine_item x) = Unit {0}
 RuleOf ts i (kind_item x) = Unit {0}
-RuleOf ts i (inputItem x) = Unit {0}
+RuleOf ts i (input_item x) = Unit {0}
 RuleOf ts i (output_item x) = Unit {0}
 RuleOf ts i (tapes_item x) = Unit {0}
-RuleOf ts i (statesItem x) = Unit {0}
-RuleOf ts i (inputAlphabetItem x) = Unit {0}
-RuleOf ts i (tapeAlphabetItem x) = Unit {0}
+RuleOf ts i (states_item x) = Unit {0}
+RuleOf ts i (input_alphabet_item x) = Unit {0}
+RuleOf ts i (tape_alphabet_item x) = Unit {0}
 RuleOf ts i (blank_item x) = Unit {0}
 RuleOf ts i (start_item x) = Unit {0}
-RuleOf ts i (finalItem x) = Unit {0}
+RuleOf ts i (final_item x) = Unit {0}
 
 -- ---- what the inference asks
 
@@ -139,15 +139,15 @@ pub record MentionsShow (text : List ℕ) (ts : List Token) (i : ℕ) (r : RawTr
 
 -- what the tokens of the line at the index i say of its item; Σ, Γ: those from its entry to its line feed
 abbrev pub Mentions : List ℕ → List Token → ℕ → Item Place → Type 0
-Mentions text ts i (inputItem x) = TextShows text (peek ts (i + 1)) x
-Mentions text ts i (statesItem q) = AllNames text ts (names_of ts i) q
-Mentions text ts i (finalItem q) = AllNames text ts (names_of ts i) q
-Mentions text ts i (inputAlphabetItem s) = SymbolsShow (range ts (i + 1) (peek ts i).value) s
-Mentions text ts i (tapeAlphabetItem s) = SymbolsShow (range ts (i + 1) (peek ts i).value) s
+Mentions text ts i (input_item x) = TextShows text (peek ts (i + 1)) x
+Mentions text ts i (states_item q) = AllNames text ts (names_of ts i) q
+Mentions text ts i (final_item q) = AllNames text ts (names_of ts i) q
+Mentions text ts i (input_alphabet_item s) = SymbolsShow (range ts (i + 1) (peek ts i).value) s
+Mentions text ts i (tape_alphabet_item s) = SymbolsShow (range ts (i + 1) (peek ts i).value) s
 Mentions text ts i (blank_item s) = (b : ℕ) → resolve b (peek ts (i + 2)) ≡ A.resolve b s
 Mentions text ts i (start_item x) = StateShows text (peek ts (i + 2)) x
 Mentions text ts i (transition_item r) = MentionsShow text ts i r
-Mentions text ts i (machineItem x) = Unit {0}
+Mentions text ts i (machine_item x) = Unit {0}
 Mentions text ts i (kind_item x) = Unit {0}
 Mentions text ts i (output_item x) = Unit {0}
 Mentions text ts i (tapes_item x) = Unit {0}

@@ -15,7 +15,7 @@ use Rattle.parser.specs.Row.{peek}
 use Rattle.parser.specs.Lines.{line}
 use Rattle.parser.specs.Meaning.{token_of, AllLexed}
 use Rattle.language.specs.Machine.{Located}
-use Rattle.language.specs.Lines.{RawTransition, Item, machineItem, inputItem, kind_item, output_item, tapes_item, statesItem, finalItem, inputAlphabetItem, tapeAlphabetItem, blank_item, start_item, transition_item, Line, blank_line, comment_line, item_line, error_line, lines, covering}
+use Rattle.language.specs.Lines.{RawTransition, Item, machine_item, input_item, kind_item, output_item, tapes_item, states_item, final_item, input_alphabet_item, tape_alphabet_item, blank_item, start_item, transition_item, Line, blank_line, comment_line, item_line, error_line, lines, covering}
 use Rattle.language.specs.Assembly as A
 use Rattle.language.proofs.Every.{Every, every_any}
 use Rattle.language.proofs.Counts.{kept_every}
@@ -34,7 +34,7 @@ unfolding A.verdict
 verdict_expands n r e = go (eqb (length r.write) (length r.read)) (eqb (length r.dir) (length r.read)) (leb (n + A.combinations r.read) 262144) refl refl refl e
   where
     go : (a d c : Bool) → eqb (length r.write) (length r.read) ≡ a → eqb (length r.dir) (length r.read) ≡ d → leb (n + A.combinations r.read) 262144 ≡ c
-        → elim (a && d) [ false ↦ A.wrongArity | true ↦ elim c [ true ↦ A.expands | false ↦ A.tooMany ] ] ≡ A.expands → Expands r
+        → elim (a && d) [ false ↦ A.wrong_arity | true ↦ elim c [ true ↦ A.expands | false ↦ A.too_many ] ] ≡ A.expands → Expands r
     go true true true p q s e =
         let f : n + A.combinations r.read ≤ 262144 = leb-true (n + A.combinations r.read) 262144 s in
         record { writes = eqb-true (length r.write) (length r.read) p; dirs = eqb-true (length r.dir) (length r.read) q; few = omega arith }
@@ -57,17 +57,17 @@ item_expands : (k : Item Place) (seen : Bool) (old block : Comments) (p : Place)
     → Every ExpandsRaw (A.attach_item (A.parts k).rule seen old block p c body).rules → ExpandsItem k × Every ExpandsRaw body.rules
 unfolding A.attach_item A.parts A.add_header A.add_rule
 item_expands (transition_item r) seen old block p c body e = e
-item_expands (machineItem x) seen old block p c body e = (tt, e)
+item_expands (machine_item x) seen old block p c body e = (tt, e)
 item_expands (kind_item x) seen old block p c body e = (tt, e)
-item_expands (inputItem x) seen old block p c body e = (tt, e)
+item_expands (input_item x) seen old block p c body e = (tt, e)
 item_expands (output_item x) seen old block p c body e = (tt, e)
 item_expands (tapes_item x) seen old block p c body e = (tt, e)
-item_expands (statesItem x) seen old block p c body e = (tt, e)
-item_expands (inputAlphabetItem x) seen old block p c body e = (tt, e)
-item_expands (tapeAlphabetItem x) seen old block p c body e = (tt, e)
+item_expands (states_item x) seen old block p c body e = (tt, e)
+item_expands (input_alphabet_item x) seen old block p c body e = (tt, e)
+item_expands (tape_alphabet_item x) seen old block p c body e = (tt, e)
 item_expands (blank_item x) seen old block p c body e = (tt, e)
 item_expands (start_item x) seen old block p c body e = (tt, e)
-item_expands (finalItem x) seen old block p c body e = (tt, e)
+item_expands (final_item x) seen old block p c body e = (tt, e)
 
 lines-expand : (ls : List (Line Place)) (seen : Bool) (old block : Comments) → Every ExpandsRaw (A.attach seen old block ls).rules → Every ExpandsLine ls
 unfolding A.attach

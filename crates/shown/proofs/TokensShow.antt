@@ -9,7 +9,7 @@ use native.Mathlib.Nat.{mod-eq_of_lt}
 use lib.Dec.{eqb}
 use lib.ListN.{length}
 use Rattle.lexer.specs.declared.Span.{Span as Place}
-use Rattle.lexer.specs.Tokens.{TokenKind, word, number, quoted, str, sign, comment, newline, unterminatedString, unterminatedQuote, Token as Lexed}
+use Rattle.lexer.specs.Tokens.{TokenKind, word, number, quoted, str, sign, comment, newline, unterminated_string, unterminated_quote, Token as Lexed}
 use Rattle.lexer.specs.Words.{kind_number, token_value, word_value, value, value_from, sign_number}
 use Rattle.lexer.specs.Tokens.{is_ascii_digit}
 use Rattle.lexer.proofs.Scans.{digit_range}
@@ -103,8 +103,8 @@ symbol-code (sign c) p q s b g e =
 symbol-code (str v) p q s b g e = none-some s e
 symbol-code (comment v) p q s b g e = none-some s e
 symbol-code newline p q s b g e = none-some s e
-symbol-code unterminatedString p q s b g e = none-some s e
-symbol-code unterminatedQuote p q s b g e = none-some s e
+symbol-code unterminated_string p q s b g e = none-some s e
+symbol-code unterminated_quote p q s b g e = none-some s e
 
 pub place_shown : (t : Lexed Place) → span_words (place_of (token_of t)) ≡ L.place_words t.place
 unfolding token_of
@@ -157,8 +157,8 @@ move_code (sign c) p q d e = none-some d e
 move_code (str v) p q d e = none-some d e
 move_code (comment v) p q d e = none-some d e
 move_code newline p q d e = none-some d e
-move_code unterminatedString p q d e = none-some d e
-move_code unterminatedQuote p q d e = none-some d e
+move_code unterminated_string p q d e = none-some d e
+move_code unterminated_quote p q d e = none-some d e
 
 pub move_shown : (t : Lexed Place) (d : Dir) → direction_in t.kind ≡ some d → MoveShows (token_of t) (record { value = d; place = t.place })
 move_shown t d e = move_code t.kind t.place t.inner d e
@@ -179,8 +179,8 @@ module _ (text : List ℕ) (short : length text < 2 ^ 32) where
   comment-code (quoted c) p q m e = absurd (let o : ◌≡◌ {A = ℕ} 0 1 = cc in omega arith)
   comment-code (str v) p q m e = absurd (let o : ◌≡◌ {A = ℕ} 0 1 = cc in omega arith)
   comment-code newline p q m e = absurd (let o : ◌≡◌ {A = ℕ} 0 1 = cc in omega arith)
-  comment-code unterminatedString p q m e = absurd (let o : ◌≡◌ {A = ℕ} 0 1 = cc in omega arith)
-  comment-code unterminatedQuote p q m e = absurd (let o : ◌≡◌ {A = ℕ} 0 1 = cc in omega arith)
+  comment-code unterminated_string p q m e = absurd (let o : ◌≡◌ {A = ℕ} 0 1 = cc in omega arith)
+  comment-code unterminated_quote p q m e = absurd (let o : ◌≡◌ {A = ℕ} 0 1 = cc in omega arith)
 
   pub comment_shown : (t : Lexed Place) → Placed text t → eqb (token_of t).kind 12 ≡ true → text_words (token_of t) ≡ L.located_words (comment_of t)
   comment_shown t m e = comment-code t.kind t.place t.inner m e

@@ -43,13 +43,13 @@ module _ (o : WriteOutcome) (a : WriteAnswer) (l s out row row' : List ℕ) (n :
 number_leaves : (r : O.WriteReply) → leaves_work_number (O.write_number r) ≡ true → leaves_work r ≡ true
 number_leaves (O.written k) e = e
 number_leaves (O.not_written k) e = e
-number_leaves (O.not_read O.textTooLong) e = refl
-number_leaves (O.not_read O.workTooShort) e = refl
-number_leaves (O.not_read (O.invalidUtf8 k)) e = e
-number_leaves (O.not_read (O.outsideSet k)) e = e
-number_leaves (O.not_read (O.logTooShort k)) e = e
-number_leaves (O.not_read (O.sheetTooShort k)) e = e
-number_leaves (O.not_read (O.outputTooShort k)) e = e
+number_leaves (O.not_read O.text_too_long) e = refl
+number_leaves (O.not_read O.work_too_short) e = refl
+number_leaves (O.not_read (O.invalid_utf8 k)) e = e
+number_leaves (O.not_read (O.outside_set k)) e = e
+number_leaves (O.not_read (O.log_too_short k)) e = e
+number_leaves (O.not_read (O.sheet_too_short k)) e = e
+number_leaves (O.not_read (O.output_too_short k)) e = e
 
 pub number_keeps : (a : WriteAnswer) (n : ℕ) (w w' : List ℕ) → n ≡ O.write_number (write_reply_in a) → (leaves_work (write_reply_in a) ≡ true → w' ≡ w) → leaves_work_number n ≡ true → w' ≡ w
 number_keeps a n w w' q h e = h (number_leaves (write_reply_in a) (ap leaves_work_number (sym q) ∙ e))

@@ -1,5 +1,5 @@
 -- `admission::refusal` meets its contract: a text that is plain to its end is admitted; else its tests are those of the definition, in their order.
-use Rattle.admission.proofs.Admissions.{too_long, work_too_short, all_plain, not_utf8, outside, all-inside}
+use Rattle.admission.proofs.Admissions.{too_long, work_too_short_lem, all_plain, not_utf8, outside, all-inside}
 use borrow.Author.Rules.{rules}
 use Rattle.admission.proofs.refusal.Statement.{statement}
 use Rattle.admission.proofs.refusal.Tie as tie
@@ -11,7 +11,7 @@ refusal_spec =
     (λ c. search (rules, too_long))
     (λ c. search rules)
     (λ c. search rules)
-    (λ c. search (rules, work_too_short))
+    (λ c. search (rules, work_too_short_lem))
     (λ c κs. search rules)
     (λ c. search (rules, all_plain))
     (λ c κs. search rules)
