@@ -41,4 +41,4 @@ note_string_spec =
     (λ c. spell_invalid c.args.text.now _ _ _ _ _ _ _ (noting_from c.args.text.now _ _ _ _ _ _ _ c.loop-c.invariant _ c.unseen_from-j.ensures) _ c.glyph_at-s.ensures c.in-Invalid.is)
     (λ c. search rules)
     (λ c. search rules)
-    (λ c. spell_stop c.args.text.now _ _ _ _ _ _ _ (noting_from c.args.text.now _ _ _ _ _ _ _ c.loop-c.invariant _ c.unseen_from-j.ensures) _ c.glyph_at-s.ensures c.enum_told-in-End-1.given.1))
+    (λ c. spell_stop c.args.text.now _ _ _ _ _ _ _ (noting_from c.args.text.now _ _ _ _ _ _ _ c.loop-c.invariant _ c.unseen_from-j.ensures) _ c.glyph_at-s.ensures c.in-End.is))
