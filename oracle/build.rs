@@ -1,7 +1,8 @@
 //! Links the static libraries of this repository that exist, and says which through `cfg`.
 //!
-//! They are looked for where `rt staticlib` leaves them, or in the directory that the variable
-//! `PEVZONCS_STATICLIB` names.
+//! They are looked for where `tools/staticlib` leaves them, or in the directory that the variable
+//! `PEVZONCS_STATICLIB` names. Each defines its exported call alone: the layers below stand in each
+//! once more, under names that the linker does not see.
 
 use std::env;
 use std::path::PathBuf;
@@ -16,17 +17,11 @@ fn main() {
     );
     println!("cargo::rerun-if-changed={}", directory.display());
     println!("cargo::rustc-link-search=native={}", directory.display());
-    let mut found = 0;
     for library in LIBRARIES {
         println!("cargo::rustc-check-cfg=cfg(have_{library})");
         if directory.join(format!("lib{library}.a")).is_file() {
             println!("cargo::rustc-cfg=have_{library}");
             println!("cargo::rustc-link-lib=static={library}");
-            found += 1;
         }
-    }
-    if found > 1 {
-        // Each library holds the layers below it once more.
-        println!("cargo::rustc-link-arg=-Wl,--allow-multiple-definition");
     }
 }

@@ -1,6 +1,7 @@
 //! The port's exported functions, as far as their static libraries are linked.
 //!
-//! A slice passes as a pointer and a length. Nothing checks these declarations against the
+//! A slice passes as a pointer and a length, which counts elements; the crates lexer_c, reader_c
+//! and so on export the functions. Nothing checks these declarations against the
 //! port's source, so they stand here alone; the wrappers below are safe, since none of the
 //! functions asks anything of its arguments.
 

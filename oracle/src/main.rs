@@ -237,10 +237,10 @@ fn family(name: &str) -> Result<Family, String> {
     Family::named(name).ok_or_else(|| format!("{name} is no family"))
 }
 
-/// The list program: where `rt check` leaves it, or what the variable `PEVZONCS_LIST` names.
+/// The list program: where `rt run` leaves it, or what the variable `PEVZONCS_LIST` names.
 fn list_program() -> Option<PathBuf> {
     let program = std::env::var_os("PEVZONCS_LIST").map_or_else(
-        || Path::new(env!("CARGO_MANIFEST_DIR")).join("../target/bin/list"),
+        || Path::new(env!("CARGO_MANIFEST_DIR")).join("../crates/list/out/list"),
         PathBuf::from,
     );
     program.is_file().then_some(program)
