@@ -15,8 +15,7 @@ write_answer_spec =
     (λ other. search rules)
     (λ c. search rules)
     (λ c. search rules)
-    (λ c.
-    (
+    (λ c. (
       machine-written _ _ _ _ _ c.a-1.given.1 c.write_form.result _ c.write_form.ensures,
       form_frees _ _ _ c.write_form.result _ _ c.a-1.given.1 c.write_form.ensures,
     ))

@@ -15,8 +15,7 @@ pevzoncs_write_spec =
     (λ c. search rules)
     (λ c. search rules)
     (λ c. search rules)
-    (λ c.
-    (
+    (λ c. (
       given_back _ c.write-a.result _ _ _ _ _ _ c.write-a.ensures.0 c.give.ensures.0 c.give.ensures.1,
       number_keeps c.write-a.result _ _ _ c.give.ensures.0 c.write-a.ensures.1,
     )))

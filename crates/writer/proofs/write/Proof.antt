@@ -15,8 +15,7 @@ write_spec =
     (λ c. search rules)
     (λ c. search rules)
     (λ c. search rules)
-    (λ c.
-    (
+    (λ c. (
       answer-written _ _ _ _ c.read-a.result _ _ c.read-a.ensures.0 c.write_answer.result _ _ c.write_answer.ensures.0,
       λ e. c.read-a.ensures.1 (c.write_answer.ensures.1 e),
     )))

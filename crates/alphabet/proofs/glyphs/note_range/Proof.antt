@@ -34,10 +34,10 @@ note_range_spec =
     (λ c. search laws)
     (λ c. elim c.if-is_new.branch [
       | then-is_new w ↦ ranging_as _ _ c.args.blank _ _ _ _ _ _ _ _ _ _ w.work-is w.last-is w.m-is
-        (ranging_noted _ _ c.args.blank _ _ _ _ _ _ _ c.requires.0 c.loop-i.invariant _ c.loop-i-test.true c.token_at-t.ensures _ c.is_new.ensures
-        _ w.resolve.ensures w.if-is_new.true _ _ w.note-m.ensures)
+          (ranging_noted _ _ c.args.blank _ _ _ _ _ _ _ c.requires.0 c.loop-i.invariant _ c.loop-i-test.true c.token_at-t.ensures _ c.is_new.ensures
+          _ w.resolve.ensures w.if-is_new.true _ _ w.note-m.ensures)
       | else-is_new w ↦ ranging_as _ _ c.args.blank _ _ _ _ _ _ _ _ _ _ w.work-is w.last-is w.m-is
-        (ranging_passed _ _ c.args.blank _ _ _ _ _ _ _ c.requires.0 c.loop-i.invariant _ c.loop-i-test.true c.token_at-t.ensures _ c.is_new.ensures w.if-is_new.false)
+          (ranging_passed _ _ c.args.blank _ _ _ _ _ _ _ c.requires.0 c.loop-i.invariant _ c.loop-i-test.true c.token_at-t.ensures _ c.is_new.ensures w.if-is_new.false)
     ])
     (λ c. search laws)
     (λ c. ranging_end _ _ c.args.blank _ _ _ _ _ _ _ c.requires.0 c.loop-i.invariant c.loop-i-test.false))

@@ -20,8 +20,7 @@ note_rule_spec =
     (λ c κs. search rules)
     (λ c κs. search rules)
     (λ c. search rules)
-    (λ c κs.
-    (
+    (λ c κs. (
       c.requires.0,
       omega (arith, c.requires.0, c.requires.1, c.ranges.base.fits),
       omega (arith, c.wide-w.ensures.1),
