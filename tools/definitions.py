@@ -19,7 +19,8 @@ import subprocess
 import sys
 import tempfile
 
-ROOT = os.path.dirname(os.path.dirname(os.path.abspath(__file__)))
+import kit
+
 ANSWER_WORDS = 36
 CASE_WORDS = 9 + ANSWER_WORDS + 3  # in front of what the calls leave
 UNTOUCHED = 0xFFFFFFFF
@@ -144,16 +145,10 @@ def write_crate(name, folder, cases):
 
 
 def libraries():
-    """The words that pass the crates of DEPENDENCIES as source, and the kit's."""
-    kit = os.path.dirname(os.path.dirname(os.path.realpath(shutil.which("rt"))))
-    words = [os.path.join(kit, "bin", "rattle"), "check", "src/lib.rt", "-L", "dependency=%s/rlibs" % kit]
-    words += ["--antt-project", "%s/rattle/logic/antt-project.json" % kit, "--logic-built", "%s/logic_built" % kit]
-    for name in ("core", "std"):
-        words += ["--extern", "%s=%s/rlibs/%s.rlib" % (name, kit, name)]
-    for i, name in enumerate(DEPENDENCIES):
-        uses = ",".join(["std"] + DEPENDENCIES[:i])
-        words += ["--lib", "%s:%s=%s/crates/%s/src/lib.rt" % (name, uses, ROOT, name)]
-    return words
+    """The words that pass the crates of DEPENDENCIES as source, and the kit's as built."""
+    deps = kit.rows()
+    crates = [name for name in deps if name in DEPENDENCIES]
+    return [os.path.join(kit.HOME, "bin", "rattle"), "check", "src/lib.rt", *kit.extern([]), *kit.LOGIC, *kit.sources(crates, deps)]
 
 
 def check(name, folder, kept):
@@ -171,10 +166,13 @@ def check(name, folder, kept):
 def main():
     count = sys.argv[1] if len(sys.argv) > 1 else "600"
     seed = sys.argv[2] if len(sys.argv) > 2 else "1"
-    oracle = os.path.join(ROOT, "oracle")
+    oracle = os.path.join(kit.ROOT, "oracle")
     subprocess.run(["cargo", "build", "--release", "--offline", "--quiet", "-j1"], cwd=oracle, check=True)
-    data = subprocess.run([os.path.join(oracle, "target", "release", "oracle"), "store", count, seed],
-                          capture_output=True, check=True).stdout
+    store = [os.path.join(oracle, "target", "release", "oracle"), "store", count, seed]
+    stored_cases = subprocess.run(store, stdout=subprocess.PIPE, check=False)
+    if stored_cases.returncode:
+        sys.exit("tools/definitions.py: of so few texts `oracle store` misses a kind of answer: ask for more")
+    data = stored_cases.stdout
     cases, texts, machines = [], set(), 0
     for head, rest in stored(data):
         for number, call, expected in calls(head, rest):
