@@ -1,48 +1,40 @@
 #!/usr/bin/env python3
-"""Folds a finished proof file: each need's answer goes into `tie.spec` as a λ, under one `unfolding` line.
+"""Makes finished proof files shorter: today `rt tidy` does, which this calls.
 
-tools/fold.py PROOF_FILE..: rewrites each file in place. A file of some 180 lines becomes one of some 40. Check the
-crate again afterwards. Invariants, measures, laws and the first comment are kept as they are.
+tools/fold.py PROOF_FILE..: tidies the crate of each file, and says how many lines each had and has. A proof's answers stood once in one file with a line for
+each goal, and this folded them into one term; today `Answers.antt` answers only the goals that Rattle leaves, and what can still go is imports that nothing
+uses. `rt tidy` drops those, lays the files out and checks the crate again; where that fails, it puts the files back. The crate must be proved.
 """
-import re
+import os
+import subprocess
 import sys
 
 
-def answer(text, name, unfolded):
-    """The answer of a need as a λ, or its name where it is no need."""
-    match = re.search(
-        r"^" + re.escape(name) + r" : tie\.Need[^\n]*\n(?:unfolding ([^\n]*)\n)?"
-        + re.escape(name) + r" (c(?: κs)?) =\s*(.*?)\n(?=\n|$)",
-        text, re.M | re.S)
-    if not match:
-        return name
-    unfolded.update((match.group(1) or "").split())
-    return "(λ %s. %s)" % (match.group(2), " ".join(match.group(3).split()))
+def lines(path):
+    """How many lines a file has."""
+    with open(path, encoding="utf-8") as f:
+        return len(f.read().split("\n"))
 
 
-def folded(text):
-    spec = re.search(r"pub (\S+-spec) : .*\n(?:unfolding [^\n]*\n)?\1 =\s*\n?\s*tie\.close\s*\(tie\.spec([^)]*)\)", text)
-    name, needs = spec.group(1), spec.group(2).split()
-    unfolded = set()
-    answers = [answer(text, need, unfolded) for need in needs]
-    blocks = re.split(r"\n\n+", text[:spec.start()].strip("\n"))
-    kept = [b for b in blocks if not re.search(r"^\S+ : tie\.Need", b, re.M)]
-    kept = ["\n".join(l for l in b.split("\n") if not re.search(r"( as reads| as lts|-reads)$", l)) for b in kept]
-    lines = ["pub %s : {M : Type 1} → statement M" % name]
-    if unfolded:
-        lines.append("unfolding " + " ".join(sorted(unfolded)))
-    lines += ["%s =" % name, "    tie.close", "    (tie.spec"] + ["    " + a for a in answers]
-    return "\n\n".join(k for k in kept if k.strip()) + "\n\n" + "\n".join(lines) + ")\n"
+def crate(path):
+    """The folder of the crate that a proof file belongs to."""
+    folder = os.path.abspath(path)
+    while folder != "/" and os.path.basename(folder) != "proofs":
+        folder = os.path.dirname(folder)
+    return os.path.dirname(folder)
 
 
 def main():
-    for path in sys.argv[1:]:
-        with open(path, encoding="utf-8") as f:
-            text = f.read()
-        short = folded(text)
-        with open(path, "w", encoding="utf-8") as f:
-            f.write(short)
-        print(path, len(text.split("\n")), "->", len(short.split("\n")), "lines")
+    files = sys.argv[1:]
+    if not files or any(not os.path.isfile(path) for path in files):
+        sys.exit(__doc__)
+    before = {path: lines(path) for path in files}
+    status = 0
+    for folder in sorted(set(map(crate, files))):
+        status |= subprocess.run(["rt", "tidy"], cwd=folder, check=False).returncode
+    for path in files:
+        print(path, before[path], "->", lines(path), "lines")
+    sys.exit(1 if status else 0)
 
 
 main()

@@ -1,40 +1,32 @@
 #!/usr/bin/env python3
-"""Writes the proof files that a check offers.
+"""Writes the proof files that a check offers: today `rt check --start FUNCTION` does, which this calls.
 
-tools/offered.py [target/dev.out]: for each `help: write .../Proof.antt with these lines` in the output of
-`rt dev`, the file with those lines, where there is none yet. Holes stay holes.
+tools/offered.py CRATE [FUNCTION..]: for each FUNCTION, and if none is given for each that has no proof in target/dev.out, which `tools/dev CRATE` wrote. Files
+that are there stay as they are. Holes stay holes.
 """
 import os
 import re
+import subprocess
 import sys
 
+ROOT = os.path.dirname(os.path.dirname(os.path.abspath(__file__)))
 
-def offers(lines):
-    """The path and the text of each offered file."""
-    i = 0
-    while i < len(lines):
-        match = re.match(r"help: write (\S+/Proof\.antt) with these lines", lines[i])
-        i += 1
-        if not match:
-            continue
-        text = []
-        while i < len(lines) and (lines[i].startswith("    ") or not lines[i].strip()):
-            text.append(lines[i][4:])
-            i += 1
-        yield match.group(1), "\n".join(text).rstrip() + "\n"
+
+def unproved(crate):
+    """The functions of the crate that the last check of tools/dev found no proof of, by their paths below the crate."""
+    with open(f"{ROOT}/target/dev.out", encoding="utf-8") as f:
+        text = f.read()
+    return re.findall(rf"^fn {crate}::(\S+): no proof: expected", text, re.M)
 
 
 def main():
-    out = sys.argv[1] if len(sys.argv) > 1 else "target/dev.out"
-    with open(out, encoding="utf-8") as f:
-        lines = f.read().split("\n")
-    for path, text in offers(lines):
-        if os.path.exists(path):
-            continue
-        os.makedirs(os.path.dirname(path), exist_ok=True)
-        with open(path, "w", encoding="utf-8") as f:
-            f.write(text)
-        print("wrote", path)
+    if len(sys.argv) < 2:
+        sys.exit(__doc__)
+    crate, *functions = sys.argv[1:]
+    words = [w for name in functions or unproved(crate) for w in ("--start", name)]
+    if not words:
+        sys.exit("tools/offered.py: no function without a proof in target/dev.out")
+    sys.exit(subprocess.run(["rt", "check", *words], cwd=f"{ROOT}/crates/{crate}", check=False).returncode)
 
 
 main()
