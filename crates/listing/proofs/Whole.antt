@@ -1,10 +1,9 @@
 -- What is printed for an answer, whole.
 use mathlib.Core.Option.{Option, none, some}
 use mathlib.Core.Path.{◌≡◌, refl, sym, ap, ◌∙◌}
-use Prim.Native.Nat.{ℕ, ◌<◌, ◌≤◌, min}
-use native.Mathlib.Omega.{arith}
+use Prim.Native.Nat.{ℕ, ◌<◌, ◌≤◌}
 use mathlib.Core.List.{List, []}
-use lib.ListN.{length, take, replicate, length-take, length-replicate}
+use lib.ListN.{length, replicate, length-replicate}
 use borrow.Author.Tests.{lt-ltb, le-ltb}
 use Rattle.language.specs.Outcome as L
 use Rattle.language.specs.Outcome.{ReadOutcome, read_outcome, refusal_of, reply_number, reply_value}
@@ -65,7 +64,3 @@ module _ (text : List ℕ) (work : ℕ) (log sheet : List ℕ) (o r : Output) wh
       let z : ℕ = 0 in
       let same : listing text outcome ≡ listing text (read_outcome text work log sheet) = ap (listing text) e ∙ same-listing text work (replicate 5120 z) log sheet (length-replicate 5120 z ∙ sym n) in
       rw (listed, le-ltb 2048 (length text) h) (w ∙ ap (appended o) same)
-
--- the front of a row, cut to its length
-pub front_length : (m n : ℕ) (l : List ℕ) → m ≡ min n (length l) → m ≡ length (take m l)
-front_length m n l e = omega (arith, length-take m l)

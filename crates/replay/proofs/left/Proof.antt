@@ -1,5 +1,5 @@
 -- `replay::left` meets its contract: the invariant: what is left of the row is as stored exactly where the whole is.
-use Rattle.std.proofs.Common.{◌≡◌, ◌-◌, ◌≤◌, length, drop, arith, rules}
+use Rattle.std.proofs.Common.{◌≡◌, ◌-◌, ◌≤◌, length, drop, refl, arith, rules}
 use Rattle.replay.specs.Case.{left_from}
 use Rattle.replay.proofs.Laws.{left_short, left-on, left_off, left_end}
 use Rattle.replay.proofs.left.Statement.{statement}
@@ -25,7 +25,7 @@ left_spec =
     (λ c. search laws)
     (λ c. search laws)
     (λ c κs. search laws)
-    (λ c. search laws)
+    (λ c. left_off _ _ _ _ _ _ _ c.loop-i.invariant.1 c.loop-i-test.true _ c.wanted.ensures _ c.marked.ensures.0 c.if-row-marked.false c.if-row-i.true refl)
     (λ c. search laws)
     (λ c. search laws)
     (λ c. (omega arith, left-on _ _ _ _ _ _ _ c.loop-i.invariant.1 c.loop-i-test.true _ c.wanted.ensures c.if-row-i.false))

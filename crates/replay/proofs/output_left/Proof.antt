@@ -1,5 +1,5 @@
 -- `replay::output_left` meets its contract: the invariant: what is left of the output is as stored exactly where the whole is.
-use Rattle.std.proofs.Common.{◌≡◌, ◌-◌, ◌≤◌, length, drop, arith, rules}
+use Rattle.std.proofs.Common.{◌≡◌, ◌-◌, ◌≤◌, length, drop, refl, arith, rules}
 use Rattle.replay.specs.Case.{output_from}
 use Rattle.replay.proofs.Laws.{output_short, output_on, output_off, output-end}
 use Rattle.replay.proofs.output_left.Statement.{statement}
@@ -23,7 +23,7 @@ output_left_spec =
     (λ c. search rules)
     (λ c. search rules)
     (λ c κs. search rules)
-    (λ c. search laws)
+    (λ c. output_off _ _ _ _ _ _ c.loop-i.invariant.1 c.loop-i-test.true _ c.byte_wanted.ensures c.if-output-n.false c.if-output-i.true refl)
     (λ c. search rules)
     (λ c. search rules)
     (λ c. (omega arith, output_on _ _ _ _ _ _ c.loop-i.invariant.1 c.loop-i-test.true _ c.byte_wanted.ensures c.if-output-i.false))

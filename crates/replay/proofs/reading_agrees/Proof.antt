@@ -1,6 +1,5 @@
 -- `replay::reading_agrees` meets its contract: the parts that are lent are within their buffers, and the text is the end of the case.
 use Rattle.std.proofs.Common.{arith, length-take, rules}
-use borrow.Author.Tests.{not-false, not-true}
 use Rattle.replay.proofs.Laws.{read_unfit, case_read}
 use Rattle.replay.proofs.reading_agrees.Statement.{statement}
 use Rattle.replay.proofs.reading_agrees.Tie as tie
@@ -10,23 +9,23 @@ reading_agrees_spec =
     tie.close
     (tie.spec
     (λ c κs. search rules)
-    (λ c. search (rules, read_unfit, not-true))
+    (λ c. search (rules, read_unfit))
     (λ c κs. search rules)
     (λ c κs. search rules)
     (λ c κs. search rules)
     (λ c κs. search rules)
-    (λ c. let k = c.lengths_fit.ensures.1 (not-false _ c.if-not-lengths_fit.false) in omega (arith, k.work-1, k.log-1, k.sheet-1, k.text, c.size_at-w.ensures.0, c.size_at-l.ensures.0, c.size_at-s.ensures.0, c.size_at-n.ensures.0))
-    (λ c. let k = c.lengths_fit.ensures.1 (not-false _ c.if-not-lengths_fit.false) in omega (arith, k.work-1, k.log-1, k.sheet-1, k.text, c.size_at-w.ensures.0, c.size_at-l.ensures.0, c.size_at-s.ensures.0, c.size_at-n.ensures.0))
-    (λ c. let k = c.lengths_fit.ensures.1 (not-false _ c.if-not-lengths_fit.false) in omega (arith, k.work-1, k.log-1, k.sheet-1, k.text, c.size_at-w.ensures.0, c.size_at-l.ensures.0, c.size_at-s.ensures.0, c.size_at-n.ensures.0))
-    (λ c. let k = c.lengths_fit.ensures.1 (not-false _ c.if-not-lengths_fit.false) in omega (arith, k.work-1, k.log-1, k.sheet-1, k.text, c.size_at-w.ensures.0, c.size_at-l.ensures.0, c.size_at-s.ensures.0, c.size_at-n.ensures.0))
-    (λ c. let k = c.lengths_fit.ensures.1 (not-false _ c.if-not-lengths_fit.false) in omega (arith, k.work-1, k.log-1, k.sheet-1, k.text, c.size_at-w.ensures.0, c.size_at-l.ensures.0, c.size_at-s.ensures.0, c.size_at-n.ensures.0, c.requires.work-1, c.requires.log-1, c.requires.sheet-1))
-    (λ c. let k = c.lengths_fit.ensures.1 (not-false _ c.if-not-lengths_fit.false) in simp length-take (omega (arith, k.work-1, k.log-1, k.sheet-1, k.text, c.size_at-w.ensures.0, c.size_at-l.ensures.0, c.size_at-s.ensures.0, c.size_at-n.ensures.0)))
-    (λ c. let k = c.lengths_fit.ensures.1 (not-false _ c.if-not-lengths_fit.false) in omega (arith, k.work-1, k.log-1, k.sheet-1, k.text, c.size_at-w.ensures.0, c.size_at-l.ensures.0, c.size_at-s.ensures.0, c.size_at-n.ensures.0, c.requires.work-1, c.requires.log-1, c.requires.sheet-1))
-    (λ c. let k = c.lengths_fit.ensures.1 (not-false _ c.if-not-lengths_fit.false) in simp length-take (omega (arith, k.work-1, k.log-1, k.sheet-1, k.text, c.size_at-w.ensures.0, c.size_at-l.ensures.0, c.size_at-s.ensures.0, c.size_at-n.ensures.0)))
-    (λ c. let k = c.lengths_fit.ensures.1 (not-false _ c.if-not-lengths_fit.false) in omega (arith, k.work-1, k.log-1, k.sheet-1, k.text, c.size_at-w.ensures.0, c.size_at-l.ensures.0, c.size_at-s.ensures.0, c.size_at-n.ensures.0, c.requires.work-1, c.requires.log-1, c.requires.sheet-1))
-    (λ c. let k = c.lengths_fit.ensures.1 (not-false _ c.if-not-lengths_fit.false) in simp length-take (omega (arith, k.work-1, k.log-1, k.sheet-1, k.text, c.size_at-w.ensures.0, c.size_at-l.ensures.0, c.size_at-s.ensures.0, c.size_at-n.ensures.0)))
-    (λ c κs. let k = c.lengths_fit.ensures.1 (not-false _ c.if-not-lengths_fit.false) in simp length-take (omega (arith, k.work-1, k.log-1, k.sheet-1, k.text, c.size_at-w.ensures.0, c.size_at-l.ensures.0, c.size_at-s.ensures.0, c.size_at-n.ensures.0)))
+    (λ c. let k = c.lengths_fit.ensures.1 c.if-not-lengths_fit.false in omega (arith, k.work, k.log, k.sheet, k.text, c.size_at-w.ensures.0, c.size_at-l.ensures.0, c.size_at-s.ensures.0, c.size_at-n.ensures.0))
+    (λ c. let k = c.lengths_fit.ensures.1 c.if-not-lengths_fit.false in omega (arith, k.work, k.log, k.sheet, k.text, c.size_at-w.ensures.0, c.size_at-l.ensures.0, c.size_at-s.ensures.0, c.size_at-n.ensures.0))
+    (λ c. let k = c.lengths_fit.ensures.1 c.if-not-lengths_fit.false in omega (arith, k.work, k.log, k.sheet, k.text, c.size_at-w.ensures.0, c.size_at-l.ensures.0, c.size_at-s.ensures.0, c.size_at-n.ensures.0))
+    (λ c. let k = c.lengths_fit.ensures.1 c.if-not-lengths_fit.false in omega (arith, k.work, k.log, k.sheet, k.text, c.size_at-w.ensures.0, c.size_at-l.ensures.0, c.size_at-s.ensures.0, c.size_at-n.ensures.0))
+    (λ c. let k = c.lengths_fit.ensures.1 c.if-not-lengths_fit.false in omega (arith, k.work, k.log, k.sheet, k.text, c.size_at-w.ensures.0, c.size_at-l.ensures.0, c.size_at-s.ensures.0, c.size_at-n.ensures.0, c.requires.work, c.requires.log, c.requires.sheet))
+    (λ c. let k = c.lengths_fit.ensures.1 c.if-not-lengths_fit.false in simp length-take (omega (arith, k.work, k.log, k.sheet, k.text, c.size_at-w.ensures.0, c.size_at-l.ensures.0, c.size_at-s.ensures.0, c.size_at-n.ensures.0)))
+    (λ c. let k = c.lengths_fit.ensures.1 c.if-not-lengths_fit.false in omega (arith, k.work, k.log, k.sheet, k.text, c.size_at-w.ensures.0, c.size_at-l.ensures.0, c.size_at-s.ensures.0, c.size_at-n.ensures.0, c.requires.work, c.requires.log, c.requires.sheet))
+    (λ c. let k = c.lengths_fit.ensures.1 c.if-not-lengths_fit.false in simp length-take (omega (arith, k.work, k.log, k.sheet, k.text, c.size_at-w.ensures.0, c.size_at-l.ensures.0, c.size_at-s.ensures.0, c.size_at-n.ensures.0)))
+    (λ c. let k = c.lengths_fit.ensures.1 c.if-not-lengths_fit.false in omega (arith, k.work, k.log, k.sheet, k.text, c.size_at-w.ensures.0, c.size_at-l.ensures.0, c.size_at-s.ensures.0, c.size_at-n.ensures.0, c.requires.work, c.requires.log, c.requires.sheet))
+    (λ c. let k = c.lengths_fit.ensures.1 c.if-not-lengths_fit.false in simp length-take (omega (arith, k.work, k.log, k.sheet, k.text, c.size_at-w.ensures.0, c.size_at-l.ensures.0, c.size_at-s.ensures.0, c.size_at-n.ensures.0)))
+    (λ c κs. let k = c.lengths_fit.ensures.1 c.if-not-lengths_fit.false in simp length-take (omega (arith, k.work, k.log, k.sheet, k.text, c.size_at-w.ensures.0, c.size_at-l.ensures.0, c.size_at-s.ensures.0, c.size_at-n.ensures.0)))
     (λ c. search rules)
     (λ c. search rules)
     (λ c. search rules)
-    (λ c. let k = c.lengths_fit.ensures.1 (not-false _ c.if-not-lengths_fit.false) in case_read _ _ _ c.lengths_fit.ensures.0 (not-false _ c.if-not-lengths_fit.false) _ _ _ _ c.size_at-w.ensures.0 c.size_at-l.ensures.0 c.size_at-s.ensures.0 c.size_at-n.ensures.0 k _ _ _ _ (omega (arith, k.work-1, c.size_at-w.ensures.0, c.size_at-l.ensures.0, c.size_at-s.ensures.0, c.size_at-n.ensures.0, c.requires.work-1)) (omega (arith, k.log-1, c.size_at-w.ensures.0, c.size_at-l.ensures.0, c.size_at-s.ensures.0, c.size_at-n.ensures.0, c.requires.log-1)) (omega (arith, k.sheet-1, c.size_at-w.ensures.0, c.size_at-l.ensures.0, c.size_at-s.ensures.0, c.size_at-n.ensures.0, c.requires.sheet-1)) c.read_agrees.ensures))
+    (λ c. let k = c.lengths_fit.ensures.1 c.if-not-lengths_fit.false in case_read _ _ _ c.lengths_fit.ensures.0 c.if-not-lengths_fit.false _ _ _ _ c.size_at-w.ensures.0 c.size_at-l.ensures.0 c.size_at-s.ensures.0 c.size_at-n.ensures.0 k _ _ _ _ (omega (arith, k.work, c.size_at-w.ensures.0, c.size_at-l.ensures.0, c.size_at-s.ensures.0, c.size_at-n.ensures.0, c.requires.work)) (omega (arith, k.log, c.size_at-w.ensures.0, c.size_at-l.ensures.0, c.size_at-s.ensures.0, c.size_at-n.ensures.0, c.requires.log)) (omega (arith, k.sheet, c.size_at-w.ensures.0, c.size_at-l.ensures.0, c.size_at-s.ensures.0, c.size_at-n.ensures.0, c.requires.sheet)) c.read_agrees.ensures))
