@@ -11,13 +11,13 @@ write_answer_spec =
     (tie.spec
     (λ c. search rules)
     (λ c κs.
-    c.requires _ c.a-1.given.1)
+    c.requires _ c.in-Machine.is)
     (λ other. search rules)
     (λ c. search rules)
     (λ c. search rules)
     (λ c. (
-      machine-written _ _ _ _ _ c.a-1.given.1 c.write_form.result _ c.write_form.ensures,
-      form_frees _ _ _ c.write_form.result _ _ c.a-1.given.1 c.write_form.ensures,
+      machine-written _ _ _ _ _ c.in-Machine.is c.write_form.result _ c.write_form.ensures,
+      form_frees _ _ _ c.write_form.result _ _ c.in-Machine.is c.write_form.ensures,
     ))
-    (λ c. (diagnostics_handed _ _ _ _ _ c.a-in-Diagnostics-1.given.1, λ e. absurd (false≢true e)))
-    (λ c. (refusal_handed _ _ _ _ _ c.a-in-Refused-1.given.1, refusal_leaves _ _ c.a-in-Refused-1.given.1)))
+    (λ c. (diagnostics_handed _ _ _ _ _ c.in-Diagnostics.is, λ e. absurd (false≢true e)))
+    (λ c. (refusal_handed _ _ _ _ _ c.in-Refused.is, refusal_leaves _ _ c.in-Refused.is)))

@@ -21,8 +21,8 @@ Start = lts.Start (plain-form-reads.Asked, plain-form-reads.Learnt, least-reads.
 -- the counts of the head are words of 32 bits, and so are those of the sheet
 fits : (s : Start) → length (form_of s.args.text.now) < 18446744073709551615
 fits s =
-    let counts = s.well-formed.0.1.1.1.1.1.1.1.1.1.1.1.0.1.1 in
-    form_fits s.args.text.now (head_in s.args.head) s.args.sheet.now s.requires counts.0.1 counts.1.0.1 counts.1.1.0.1 counts.1.1.1.1.0.1 counts.1.1.1.1.1.0.1 s.well-formed.1.1.0.1
+    let counts = s.well_formed.0.1.1.1.1.1.1.1.1.1.1.1.0.1.1 in
+    form_fits s.args.text.now (head_in s.args.head) s.args.sheet.now s.requires counts.0.1 counts.1.0.1 counts.1.1.0.1 counts.1.1.1.1.0.1 counts.1.1.1.1.1.0.1 s.well_formed.1.1.0.1
 
 pub write_form_spec : {M : Type 1} → statement M
 write_form_spec =
@@ -35,13 +35,13 @@ write_form_spec =
     (λ c κs. search rules)
     (λ c. search rules)
     (λ c.
-    let s = c.before in
-    too_short s.args.text.now s.args.head s.args.sheet.now s.requires (fits s) _ _ c.Plain-Form.ensures s.args.output.now _ c.least-room.ensures c.if-room-n.true)
+    let s = c.before.before.before.before.before.before.before.before.before in
+    too_short s.args.text.now s.args.head s.args.sheet.now s.requires (fits s) _ _ c.plain_form-n.ensures s.args.output.now _ c.least-room.ensures c.if-room-n.true)
     (λ c. search rules)
     (λ c. search (rules, front-count))
     (λ c κs.
     read-formed c.args.text.now c.args.head c.args.sheet.now c.requires)
     (λ c. search rules)
     (λ c.
-    let s = c.before in
-    form_stands s.args.text.now s.args.head s.args.sheet.now s.requires (fits s) _ _ c.Plain-Form.ensures s.args.output.now _ c.least-room.ensures c.if-room-n.false _ _ c.plain_form-m.ensures s.well-formed.1.1.1.0.0))
+    let s = c.before.before.before.before.before.before.before.before.before.before.before.before.before in
+    form_stands s.args.text.now s.args.head s.args.sheet.now s.requires (fits s) _ _ c.plain_form-n.ensures s.args.output.now _ c.least-room.ensures c.if-room-n.false _ _ c.plain_form-m.ensures s.well_formed.1.1.1.0.0))
