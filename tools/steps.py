@@ -1,81 +1,102 @@
 #!/usr/bin/env python3
-"""steps.py TREE NAMESDIR [CRATE..]: renames loops, steps and places in Proof.antt files by names.json."""
-import os,re,sys,json
-tree,nd=sys.argv[1],sys.argv[2]; only=sys.argv[3:]
-WORD=re.compile(r"[^\s(){}.;,@\"«»:]+")
-norm=lambda s:s.replace('-','_')
-for crate in sorted(os.listdir(f'{tree}/crates')):
-    if only and crate not in only: continue
-    nf=f'{nd}/{crate}/names.json'
-    if not os.path.exists(nf): continue
-    d=json.load(open(nf))
-    for key,v in d.items():
-        m=re.fullmatch(rf'Rattle-{crate}-proofs\.(.*)\.Lts',key)
-        if not m: continue
-        p=f'{tree}/crates/{crate}/proofs/'+m.group(1).replace('.','/')+'/Proof.antt'
-        if not os.path.exists(p): continue
-        t=open(p).read()
-        if 'Tie as tie' not in t: continue
-        st={}; bad=set()
-        for (pl,par,(o,n),callee,_) in v['places']:
-            if not o: continue
-            o=norm(o)
-            if o in st and st[o]!=n: bad.add((o,st[o],n))
-            st.setdefault(o,n)
-        lp={}
-        for (o,n),vs in v['loops']:
-            st.setdefault(norm(o),n); st.setdefault(norm(o)+'_test',n+'-test')
-            for k in ('invariant','decreases'):
-                lp[norm(f'{k}-{o}')]=f'{k}-{n}'
-        pl={norm(x[0]):y for x,y in zip(v['places'],v['places_by_name'])}
-        pl={norm(x[0]):y for x,y in zip(v['places'],v['places_by_name'])}
-        # the order of a need
-        out=[];at=0
-        for w in WORD.finditer(t):
-            s=w.group(0); b=t[w.start()-1] if w.start() else ''
-            new=None
-            if norm(s) in lp: new=lp[norm(s)]
-            elif b=='.':
-                pre=t[max(0,w.start()-4):w.start()]
-                if pre=='tie.':
-                    k=norm(s)
-                    new=pl.get(k)
-                elif re.search(r'(use|open) [^\n]*$',t[:w.start()]): new=None
-                elif norm(s) in st: new=st[norm(s)]
-            if new and new!=s:
-                out+=[t[at:w.start()],new]; at=w.end()
-        t2=''.join(out)+t[at:]
-        if bad: print('ambiguous',p,bad)
-        if t2!=t: open(p,'w').write(t2)
+"""Names loops, steps and places in Proof.antt files as today's check does.
 
-# second pass: chains of .before before a named field go; lets that are pure chains and used only with a field become the base
-for crate in sorted(os.listdir(f'{tree}/crates')):
-    if only and crate not in only: continue
-    for dd,_,fs in os.walk(f'{tree}/crates/{crate}/proofs'):
-        for f in fs:
-            if f!='Proof.antt': continue
-            p=os.path.join(dd,f); t=open(p).read(); o=t
-            if 'Tie as tie' not in t: continue
-            t=re.sub(r"(?<![\w.])([\w']+)((?:\.before)+)(?=\.(?!before\b))",r"\1",t)
-            # lets
-            for m in list(re.finditer(r"let (\w+) = (\w+)((?:\.before)+) in",t)):
-                n,b=m.group(1),m.group(2)
-                # scope: rest of text until next '(λ c' line; check uses
-                end=t.find("\n    (λ c",m.end()); end=len(t) if end<0 else end
-                scope=t[m.end():end]
-                uses=re.findall(rf"(?<![\w.]){n}(?![\w'-])(.?)",scope)
-                if all(u=='.' for u in uses):
-                    t=t[:m.start()]+f"let {n} = {b} in"+t[m.end():]
-                    # length changed; recompute by restarting
-                    break
-            # repeat until stable
-            while True:
-                done=True
-                for m in re.finditer(r"let (\w+) = (\w+)((?:\.before)+) in",t):
-                    n,b=m.group(1),m.group(2)
-                    end=t.find("\n    (λ c",m.end()); end=len(t) if end<0 else end
-                    uses=re.findall(rf"(?<![\w.]){n}(?![\w'-])(.?)",t[m.end():end])
-                    if all(u=='.' for u in uses):
-                        t=t[:m.start()]+f"let {n} = {b} in"+t[m.end():]; done=False; break
-                if done: break
-            if t!=o: open(p,'w').write(t)
+usage: tools/steps.py NAMES [CRATE..]     at the top of the repository, once, on proofs of the older Rattle
+
+NAMES/CRATE/names.json is what `rattle check --generated NAMES/CRATE --old-names` writes for a crate: for each function the older and today's name of each
+loop, step and place, in the order of the code. A chain of `.before` in front of a named step goes, since a record has the steps of all places before it.
+It was run once for the port (docs/PORT.md). What it got wrong was mended by hand: a field of a record that is spelled as a step, and a `let` for a place
+that is handed on whole.
+"""
+
+import json
+import os
+import re
+import sys
+
+WORD = re.compile(r"[^\s(){}.;,@\"«»:]+")
+LET = re.compile(r"let ([\w'-]+) = ([\w'-]+)((?:\.before)+) in")
+
+
+def read(path):
+    with open(path, encoding="utf-8") as f:
+        return f.read()
+
+
+def write(path, text):
+    with open(path, "w", encoding="utf-8") as f:
+        f.write(text)
+
+
+def key(name):
+    """A name with its dashes as underscores, by which the older names are found."""
+    return name.replace("-", "_")
+
+
+def tables(function):
+    """The older names of a function's invariants and measures, of its steps and of its places, each with today's."""
+    loops, steps, places = {}, {}, {}
+    for place, now in zip(function["places"], function["places_by_name"]):
+        places[key(place[0])] = now
+        old, new = place[2]
+        if old:
+            steps.setdefault(key(old), new)
+    for (old, new), _ in function["loops"]:
+        steps.setdefault(key(old), new)
+        steps.setdefault(key(old) + "_test", new + "-test")
+        for kind in ("invariant", "decreases"):
+            loops[key(f"{kind}-{old}")] = f"{kind}-{new}"
+    return loops, steps, places
+
+
+def named(text, function):
+    """The text with today's names."""
+    loops, steps, places = tables(function)
+    out, at = [], 0
+    for m in WORD.finditer(text):
+        word = m.group(0)
+        new = loops.get(key(word))
+        if new is None and m.start() and text[m.start() - 1] == ".":
+            line = text[text.rfind("\n", 0, m.start()) + 1 : m.start()]
+            if text[: m.start()].endswith("tie."):
+                new = places.get(key(word))
+            elif not re.search(r"\b(use|open) ", line):
+                new = steps.get(key(word))
+        if new and new != word:
+            out += [text[at : m.start()], new]
+            at = m.end()
+    return "".join(out) + text[at:]
+
+
+def direct(text):
+    """The text with each step cited from `c`: a `let` for an earlier place that is used only with a field becomes its base."""
+    text = re.sub(r"(?<![\w.])([\w']+)((?:\.before)+)(?=\.(?!before\b))", r"\1", text)
+    found = True
+    while found:
+        found = False
+        for m in LET.finditer(text):
+            name, base = m.group(1), m.group(2)
+            end = text.find("\n    (λ c", m.end())
+            scope = text[m.end() : len(text) if end < 0 else end]
+            if all(after == "." for after in re.findall(rf"(?<![\w.'-]){re.escape(name)}(?![\w'-])(.?)", scope)):
+                text = text[: m.start()] + f"let {name} = {base} in" + text[m.end() :]
+                found = True
+                break
+    return text
+
+
+def main():
+    names, only = sys.argv[1], sys.argv[2:]
+    for crate in sorted(os.listdir("crates")):
+        listed = f"{names}/{crate}/names.json"
+        if (only and crate not in only) or not os.path.exists(listed):
+            continue
+        for module, function in json.loads(read(listed)).items():
+            m = re.fullmatch(rf"Rattle-{crate}-proofs\.(.*)\.Lts", module)
+            path = m and f"crates/{crate}/proofs/" + m.group(1).replace(".", "/") + "/Proof.antt"
+            if path and os.path.exists(path) and "Tie as tie" in read(path):
+                write(path, direct(named(read(path), function)))
+
+
+if __name__ == "__main__":
+    main()
