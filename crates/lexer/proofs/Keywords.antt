@@ -7,6 +7,7 @@ use mathlib.Core.Logic.{◌⊎◌, inl, inr, ⊎_elim}
 use mathlib.Core.Bool.{Bool, true, false, cond, ◌&&◌}
 use mathlib.Core.List.{List, [], ◌∷◌, ◌++◌, map}
 use lib.Dec.{eqb, leb}
+use lib.Pointwise.{pointwise}
 use lib.ListN.{length, get_or, take, drop, drop_of_length-le}
 use lib.Seq.{drop-cons}
 use borrow.Author.Tests.{eq-eqb, ne_eqb, eqb-true, eqb-false, leb-true, le-leb, lt-leb}
@@ -99,17 +100,31 @@ unfolding position
 position_false n w ws x e = rw (e, position)
 
 -- ---- the keywords of a length
-pub number_hit : (n : ℕ) (k w : List ℕ) (ks : List (ℕ × List ℕ)) (b : Bool) → b ≡ same k w → b ≡ true → n ≡ number_in ((n, k) ∷ ks) w
-unfolding number_in
-number_hit n k w ks b e p = rw (← e, p)
+same_pointwise : (a b : List ℕ) → same a b ≡ pointwise eqb a b
+same_pointwise [] [] = refl
+same_pointwise [] (y ∷ ys) = refl
+same_pointwise (x ∷ xs) [] = refl
+same_pointwise (x ∷ xs) (y ∷ ys) = ap (λ (b : Bool). eqb x y && b) (same_pointwise xs ys)
 
-pub number_miss : (x n : ℕ) (k w : List ℕ) (ks : List (ℕ × List ℕ)) (b : Bool) → b ≡ same k w → b ≡ false → x ≡ number_in ks w → x ≡ number_in ((n, k) ∷ ks) w
-unfolding number_in
-number_miss x n k w ks b e p q = rw (← e, p) q
+-- the loop of `number_among`: the number n is that of what is left from place i on, where x stands
+module _ (ks : List (ℕ × List ℕ)) (i : ℕ) (x : ℕ × List ℕ) (k w : List ℕ) (n : ℕ) (inv : number_in (drop i ks) w ≡ n) (h : i < length ks) (at : x ≡ get_or ks i x) (key : k ≡ x.1) where
+  tested : (b : Bool) → b ≡ pointwise eqb k w → cond b x.0 (number_in (drop (suc i) ks) w) ≡ n
+  unfolding number_in
+  tested b e =
+      ap (λ (c : Bool). cond c x.0 (number_in (drop (suc i) ks) w)) (e ∙ sym (same_pointwise k w) ∙ ap (λ (l : List ℕ). same l w) key)
+      ∙ ap (λ (y : ℕ × List ℕ). number_in (y ∷ drop (suc i) ks) w) at
+      ∙ sym (ap (λ (l : List (ℕ × List ℕ)). number_in l w) (drop-cons ks i x h))
+      ∙ inv
 
-pub number-none : (w : List ℕ) → 0 ≡ number_in [] w
+  pub number_here : true ≡ pointwise eqb k w → x.0 ≡ n
+  number_here = tested true
+
+  pub number_behind : false ≡ pointwise eqb k w → number_in (drop (i + 1) ks) w ≡ n
+  number_behind e = rw add-one (tested false e)
+
+pub number_nowhere : (ks : List (ℕ × List ℕ)) (i : ℕ) (w : List ℕ) (n : ℕ) → number_in (drop i ks) w ≡ n → length ks ≤ i → 0 ≡ n
 unfolding number_in
-number-none w = refl
+number_nowhere ks i w n inv h = sym (ap (λ (l : List (ℕ × List ℕ)). number_in l w) (drop_of_length-le ks h)) ∙ inv
 
 -- of another length, a keyword is not the name
 numbered_is : (ks : List (List ℕ)) (n : ℕ) (w : List ℕ) → number_in (numbered (length w) n ks) w ≡ position n ks w

@@ -8,170 +8,24 @@ ghost use Rattle.lexer.specs.Places.{part};
 pub fn part_of(text: &[u8], start: usize, end: usize) -> &[u8]
     ensures { result.now ≡ part text.now start end }
 {
-    if end < start {
-        return &text[0..0];
-    }
-    if text.len() < end {
-        return &text[0..0];
-    }
-    &text[start..end]
+    text.get(start..end).unwrap_or(&[])
 }
 
 // Whether two parts are equal.
 pub fn same_part(a: &[u8], b: &[u8]) -> bool
     ensures { result ≡ same a.now b.now }
 {
-    if a.len() != b.len() {
-        return false;
-    }
-    let mut i = 0;
-    while i < a.len() {
-        if a[i] != b[i] {
-            return false;
+    a == b
+}
+
+// The number that a table of keywords of N bytes gives a name; 0 if it is none of them.
+fn number_among<const N: usize>(keywords: &[(u32, [u8; N])], name: &[u8]) -> u32
+    ensures { result ≡ number_in keywords.now name.now }
+{
+    for (number, keyword) in keywords {
+        if keyword.as_slice() == name {
+            return *number;
         }
-        i += 1;
-    }
-    true
-}
-
-// A word's number among the keywords of one byte, or 0.
-fn of_one(name: &[u8]) -> u32
-    ensures { result ≡ number_in (keywords_of 1) name.now }
-{
-    if same_part(b"Q", name) {
-        return 6;
-    }
-    if same_part(b"F", name) {
-        return 13;
-    }
-    0
-}
-
-// A word's number among the keywords of two bytes, or 0.
-fn of_two(name: &[u8]) -> u32
-    ensures { result ≡ number_in (keywords_of 2) name.now }
-{
-    if same_part(b"\xCE\xA3", name) {
-        return 7;
-    }
-    if same_part(b"\xCE\x93", name) {
-        return 9;
-    }
-    if same_part(b"\xCE\xB4", name) {
-        return 14;
-    }
-    0
-}
-
-// A word's number among the keywords of three bytes, or 0.
-fn of_three(name: &[u8]) -> u32
-    ensures { result ≡ number_in (keywords_of 3) name.now }
-{
-    if same_part(b"lsb", name) {
-        return 23;
-    }
-    if same_part(b"msb", name) {
-        return 24;
-    }
-    0
-}
-
-// A word's number among the keywords of four bytes, or 0.
-fn of_four(name: &[u8]) -> u32
-    ensures { result ≡ number_in (keywords_of 4) name.now }
-{
-    if same_part(b"kind", name) {
-        return 2;
-    }
-    if same_part(b"word", name) {
-        return 20;
-    }
-    0
-}
-
-// The same of the keywords of five bytes from the fifth on.
-fn of_five_more(name: &[u8]) -> u32
-    ensures { result ≡ number_in (drop 4 (keywords_of 5)) name.now }
-{
-    if same_part(b"blank", name) {
-        return 11;
-    }
-    if same_part(b"start", name) {
-        return 12;
-    }
-    if same_part(b"delta", name) {
-        return 15;
-    }
-    if same_part(b"unary", name) {
-        return 21;
-    }
-    0
-}
-
-// A word's number among the keywords of five bytes, or 0.
-fn of_five(name: &[u8]) -> u32
-    ensures { result ≡ number_in (keywords_of 5) name.now }
-{
-    if same_part(b"input", name) {
-        return 3;
-    }
-    if same_part(b"tapes", name) {
-        return 5;
-    }
-    if same_part(b"Sigma", name) {
-        return 8;
-    }
-    if same_part(b"Gamma", name) {
-        return 10;
-    }
-    of_five_more(name)
-}
-
-// A word's number among the keywords of six bytes, or 0.
-fn of_six(name: &[u8]) -> u32
-    ensures { result ≡ number_in (keywords_of 6) name.now }
-{
-    if same_part(b"output", name) {
-        return 4;
-    }
-    if same_part(b"beaver", name) {
-        return 19;
-    }
-    if same_part(b"binary", name) {
-        return 22;
-    }
-    0
-}
-
-// A word's number among the keywords of seven bytes, or 0.
-fn of_seven(name: &[u8]) -> u32
-    ensures { result ≡ number_in (keywords_of 7) name.now }
-{
-    if same_part(b"machine", name) {
-        return 1;
-    }
-    0
-}
-
-// A word's number among the keywords of eight bytes, or 0.
-fn of_eight(name: &[u8]) -> u32
-    ensures { result ≡ number_in (keywords_of 8) name.now }
-{
-    if same_part(b"acceptor", name) {
-        return 16;
-    }
-    0
-}
-
-// A word's number among the keywords of ten bytes, or 0.
-fn of_ten(name: &[u8]) -> u32
-    ensures { result ≡ number_in (keywords_of 10) name.now }
-{
-    if same_part(b"transducer", name) {
-        return 17;
-    }
-    if same_part(b"enumerator", name) {
-        return 18;
     }
     0
 }
@@ -180,17 +34,28 @@ fn of_ten(name: &[u8]) -> u32
 pub(crate) fn keyword_of(name: &[u8]) -> u32
     ensures { result ≡ position 1 keyword_bytes name.now }
 {
-    let n = name.len();
-    match n {
-        1 => of_one(name),
-        2 => of_two(name),
-        3 => of_three(name),
-        4 => of_four(name),
-        5 => of_five(name),
-        6 => of_six(name),
-        7 => of_seven(name),
-        8 => of_eight(name),
-        10 => of_ten(name),
+    match name.len() {
+        1 => number_among(&[(6, *b"Q"), (13, *b"F")], name),
+        2 => number_among(&[(7, *b"\xCE\xA3"), (9, *b"\xCE\x93"), (14, *b"\xCE\xB4")], name),
+        3 => number_among(&[(23, *b"lsb"), (24, *b"msb")], name),
+        4 => number_among(&[(2, *b"kind"), (20, *b"word")], name),
+        5 => number_among(
+            &[
+                (3, *b"input"),
+                (5, *b"tapes"),
+                (8, *b"Sigma"),
+                (10, *b"Gamma"),
+                (11, *b"blank"),
+                (12, *b"start"),
+                (15, *b"delta"),
+                (21, *b"unary"),
+            ],
+            name,
+        ),
+        6 => number_among(&[(4, *b"output"), (19, *b"beaver"), (22, *b"binary")], name),
+        7 => number_among(&[(1, *b"machine")], name),
+        8 => number_among(&[(16, *b"acceptor")], name),
+        10 => number_among(&[(17, *b"transducer"), (18, *b"enumerator")], name),
         _ => 0,
     }
 }
