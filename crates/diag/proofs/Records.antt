@@ -5,7 +5,7 @@ use Prim.Native.Nat.{ℕ, zero, suc, ◌+◌, ◌-◌, ◌*◌, ◌≤◌, ◌<�
 use native.Mathlib.Nat.{le_of_suc-le-suc, sub-zero, add_assoc}
 use native.Mathlib.Omega.{arith}
 use lib.ListN.{length, get_or, take, drop, length-drop, take-append-drop}
-use lib.Seq.{drop-drop, get_or-drop}
+use lib.Seq.{drop-drop, get_or-drop, get_or-take, ext_get_or}
 use Rattle.diag.specs.declared.Diagnostic.{Diagnostic}
 use Rattle.diag.specs.Log.{words, flat, record_from, records, appended}
 
@@ -80,3 +80,15 @@ unfolding records
 take-records zero n w h = refl
 take-records (suc m) zero w h = absurd (omega arith)
 take-records (suc m) (suc n) w h = ap (λ (ds : List Diagnostic). record_from w 0 ∷ ds) (take-records m n (drop 5 w) (le_of_suc-le-suc h))
+
+-- ---- records of the first k words
+from_take : (k : ℕ) (w : List ℕ) (o : ℕ) → o + 5 ≤ k → record_from (take k w) o ≡ record_from w o
+from_take k w o h =
+    cc (get_or-take k w o 0 (omega arith), get_or-take k w (o + 1) 0 (omega arith), get_or-take k w (o + 2) 0 (omega arith), get_or-take k w (o + 3) 0 (omega arith), get_or-take k w (o + 4) 0 (omega arith))
+
+pub records-take : (n k : ℕ) (w : List ℕ) → 5 * n ≤ k → records n (take k w) ≡ records n w
+records-take n k w h =
+    let d : Diagnostic = record_from w 0 in
+    let len : length (records n (take k w)) ≡ n = length-records n (take k w) in
+    ext_get_or d (records n (take k w)) (records n w) (len ∙ sym (length-records n w))
+    (λ i g. get_d_records n (take k w) i d (omega arith) ∙ from_take k w (5 * i) (omega arith) ∙ sym (get_d_records n w i d (omega arith)))

@@ -1,3 +1,0 @@
-pub mod Fronts
-pub mod Merges
-pub mod Pairs
