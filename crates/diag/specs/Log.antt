@@ -1,5 +1,5 @@
 -- Paper 01, "The records": the log as plain words, five to a record.
-use Rattle.std.specs.Prelude.{ℕ, zero, suc, ◌+◌, ◌-◌, ◌*◌, cond, List, [], ◌∷◌, ◌++◌, leb, length, get_or, drop, replicate}
+use Rattle.std.specs.Prelude.{ℕ, zero, suc, ◌+◌, ◌-◌, ◌*◌, ◌/◌, cond, List, [], ◌∷◌, ◌++◌, leb, length, get_or, drop, replicate}
 use Rattle.std.proofs.lemmas.List.Edits.{sets}
 use Rattle.diag.specs.Sort.{sort_by}
 use Rattle.diag.specs.declared.Span.{Span}
@@ -16,6 +16,10 @@ error c p = record { code = c; span = p; related = none }
 -- the same diagnostic with a related place
 abbrev pub with_related : Diagnostic → Span → Diagnostic
 with_related d p = record { code = d.code; span = d.span; related = p }
+
+-- the record that is all zero
+abbrev pub unused : Diagnostic
+unused = record { code = 0; span = record { start = 0; end = 0 }; related = record { start = 0; end = 0 } }
 
 -- a record: code, place, related place
 abbrev pub words : Diagnostic → List ℕ
@@ -38,6 +42,13 @@ record_from w o = record {
 unfoldable pub records : ℕ → List ℕ → List Diagnostic
 records zero w = []
 records (suc n) w = record_from w 0 ∷ records n (drop 5 w)
+
+-- the diagnostics that all whole records of a row of words hold, and the words behind these records
+abbrev pub whole : List ℕ → List Diagnostic
+whole w = records (length w / 5) w
+
+abbrev pub behind : List ℕ → List ℕ
+behind w = drop (5 * (length w / 5)) w
 
 -- where a diagnostic starts
 abbrev pub start_of : Diagnostic → ℕ

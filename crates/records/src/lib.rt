@@ -7,6 +7,13 @@ ghost use Rattle.records.specs.Unused.{unused};
 
 use diag::{Diagnostic, Span};
 
+// The record that is all zero.
+pub const UNUSED: Diagnostic = Diagnostic {
+    code: 0,
+    span: Span { start: 0, end: 0 },
+    related: Span { start: 0, end: 0 },
+};
+
 // Stores a diagnostic behind the `count` before it if there is room for it, and counts it in any case.
 pub fn append(log: &mut [Diagnostic], count: usize, d: Diagnostic) -> usize
     requires { count + 1 < 2 ^ 64 }
@@ -21,17 +28,7 @@ pub fn append(log: &mut [Diagnostic], count: usize, d: Diagnostic) -> usize
 pub fn clear(log: &mut [Diagnostic])
     ensures { log.new ≡ replicate (length log.old) unused }
 {
-    let none = Span { start: 0, end: 0 };
-    let zero = Diagnostic {
-        code: 0,
-        span: none,
-        related: none,
-    };
-    let mut i = 0;
-    while i < log.len() {
-        log[i] = zero;
-        i += 1;
-    }
+    log.fill(UNUSED);
 }
 
 // The record at an index.
@@ -47,11 +44,7 @@ pub fn take(log: &mut [Diagnostic], words: &[u32], count: usize)
     requires { (count ≤ length log.old) × (5 * count ≤ length words.now) }
     ensures { log.new ≡ records count words.now ++ drop count log.old }
 {
-    let mut i = 0;
-    while i < count {
-        log[i] = diag::record_at(words, i);
-        i += 1;
-    }
+    diag::copy_records(words, log, 0, count);
 }
 
 // Copies the first `count` records to the front of a row of words.
@@ -59,18 +52,13 @@ pub fn spill(log: &[Diagnostic], words: &mut [u32], count: usize)
     requires { (count ≤ length log.now) × (5 * count ≤ length words.old) }
     ensures { words.new ≡ flat (take count log.now) ++ drop (5 * count) words.old }
 {
-    let mut i = 0;
-    while i < count {
-        i = diag::append(words, i, log[i]);
-    }
+    diag::copy_records(log, words, 0, count);
 }
 
-// Sorts the first `count` records by where they start, equal starts in their order. They are sorted as words, in a row with room for twice as many.
+// Sorts the first `count` records by where they start, equal starts in their order; `words` has room for as many.
 pub fn sort(log: &mut [Diagnostic], count: usize, words: &mut [u32])
-    requires { (count ≤ length log.old) × (10 * count ≤ length words.old) }
+    requires { (count ≤ length log.old) × (5 * count ≤ length words.old) }
     ensures { log.new ≡ sort (take count log.old) ++ drop count log.old }
 {
-    spill(log, words, count);
-    sorted::sort(words, count);
-    take(log, words, count);
+    diag::sort_records(log, count, words);
 }

@@ -15,10 +15,10 @@ pub fn report(log: &mut [u32], errors: usize, scratch: &mut [u32]) -> Answer
     ensures { (reply_in result ≡ report_reply (length log.old) errors) × ((row : List ℕ) (ds : List Diagnostic) → logged log.old errors ≡ append_all (logged row 0) ds → log.new ≡ log_after (length log.old) (sort ds)) }
 {
     if log.len() / 5 < errors {
-        diag::clear(log);
+        log.fill(0);
         return Answer::Refused(Refusal::LogTooShort(errors));
     }
-    diag::clear_from(log, 5 * errors);
+    log[5 * errors..].fill(0);
     diag::sort(log, errors, scratch);
     Answer::Diagnostics(errors)
 }

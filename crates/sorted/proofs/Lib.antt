@@ -1,3 +1,1 @@
 pub mod Fronts
-pub mod Merges
-pub mod Pairs

@@ -1,10 +1,12 @@
--- At the end the first `count` records are written.
-use Rattle.std.proofs.Common.{◌≡◌, ◌*◌, ℕ, ap, ◌∙◌, arith}
-use Rattle.diag.specs.Log.{record_from}
-use Rattle.records.proofs.Written.{written, written-records}
+-- `records::take` meets its contract: the whole records of the words begin with the first `count`.
+use native.Mathlib.Omega.{arith}
+use borrow.Author.Rules.{rules}
+use Rattle.diag.proofs.Records.{length-whole}
+use Rattle.records.proofs.Copied.{taken}
 use Rattle.records.proofs.take.Goals as goal
 
+pub copy_records-requires : goal.copy_records-requires
+copy_records-requires c = let size = length-whole c.args.words.now in record { within = (omega arith, omega arith, omega arith) }
+
 pub returns : goal.returns
-returns c =
-    let all : c.loop-i.i ≡ c.args.count = omega arith in
-    c.loop-i.invariant.taken ∙ ap (λ (k : ℕ). written (λ j. record_from c.args.words.now (5 * j)) k c.args.log.now) all ∙ written-records c.args.words.now c.args.count c.args.log.now (omega arith)
+returns c = search (rules, taken)
