@@ -154,6 +154,9 @@ value_ends Start ts i = plain_ends ts i (one is_state ts i) (state_steps.within 
 value_ends Final ts i = plain_ends ts i (set (one is_state) ts i) ((set_steps (one is_state) state_steps).within ts i)
 value_ends Transition ts i = transition_ends ts i
 
+pub value_high : (k : ItemKind) (ts : List Token) (v j : ℕ) (q : Parts) (y : Parsed Parts) → y ≡ value k ts v → y ≡ Done j q → 0 < j
+value_high k ts v j q y e d = let a : Ends ts v (Done j q) = subst (Ends ts v) (sym e ∙ d) (value_ends k ts v) in omega arith
+
 pub value_by : (k x : ItemKind) (ts : List Token) (i : ℕ) (v : Parsed Parts) → k ≡ x → v ≡ value x ts i → v ≡ value k ts i
 value_by k x ts i v e f = f ∙ ap (λ (y : ItemKind). value y ts i) (sym e)
 

@@ -8,6 +8,7 @@ use crate::{Failure, Item, ItemKind, Lead, Line, Parsed, Parts, elements, view};
 use lexer::{Span, kind};
 
 // `(`, a state and a comma.
+#[tactic(auto, unfolding(crate::specs::Lines::then, crate::specs::Lines::side))]
 fn side(work: &[u32], at: usize) -> Parsed<usize>
     ensures { result ≡ side (tokens_in work.now) at }
 {
@@ -17,6 +18,7 @@ fn side(work: &[u32], at: usize) -> Parsed<usize>
 }
 
 // `)` and `=`.
+#[tactic(auto, unfolding(crate::specs::Lines::then, crate::specs::Lines::equals))]
 fn equals(work: &[u32], at: usize) -> Parsed<usize>
     ensures { result ≡ equals (tokens_in work.now) at }
 {
@@ -25,6 +27,7 @@ fn equals(work: &[u32], at: usize) -> Parsed<usize>
 }
 
 // A value without parts.
+#[tactic(auto, unfolding(crate::specs::Lines::then, crate::specs::Lines::plain))]
 fn plain(p: Parsed<usize>) -> Parsed<Parts>
     ensures { result ≡ plain p }
 {
@@ -33,6 +36,7 @@ fn plain(p: Parsed<usize>) -> Parsed<Parts>
 }
 
 // `δ(FROM, READ) =`.
+#[tactic(auto, unfolding(crate::specs::Lines::then, crate::specs::Lines::left))]
 fn left(work: &[u32], at: usize) -> Parsed<Parts>
     ensures { result ≡ left (tokens_in work.now) at }
 {
@@ -50,6 +54,7 @@ fn left(work: &[u32], at: usize) -> Parsed<Parts>
 }
 
 // `(TO, WRITE, MOVE)`, behind a left side with its parts.
+#[tactic(auto, unfolding(crate::specs::Lines::then, crate::specs::Lines::right))]
 fn right(work: &[u32], at: usize, left: Parts) -> Parsed<Parts>
     ensures { result ≡ right left (tokens_in work.now) at }
 {
@@ -70,6 +75,7 @@ fn right(work: &[u32], at: usize, left: Parts) -> Parsed<Parts>
 }
 
 // A rule, with `δ`.
+#[tactic(auto, unfolding(crate::specs::Lines::then, crate::specs::Lines::transition))]
 fn transition(work: &[u32], at: usize) -> Parsed<Parts>
     ensures { result ≡ transition (tokens_in work.now) at }
 {
@@ -78,6 +84,7 @@ fn transition(work: &[u32], at: usize) -> Parsed<Parts>
 }
 
 // The value of an item.
+#[tactic(auto, unfolding(crate::specs::Lines::value))]
 fn value(work: &[u32], at: usize, kind: ItemKind) -> Parsed<Parts>
     ensures { result ≡ value kind (tokens_in work.now) at }
 {
@@ -106,6 +113,7 @@ fn spanning(work: &[u32], i: usize, j: usize) -> Span
 }
 
 // The index of what ends the line behind an item, a comment passed over.
+#[tactic(auto, unfolding(crate::specs::Lines::newline_at))]
 fn newline_at(work: &[u32], at: usize) -> usize
     ensures { result ≡ newline_at (tokens_in work.now) at }
 {
@@ -117,6 +125,7 @@ fn newline_at(work: &[u32], at: usize) -> usize
 }
 
 // The line of an item from the index at on, with a value from the index first to end.
+#[tactic(auto, unfolding(crate::specs::Lines::finish))]
 fn finish(
     work: &[u32],
     at: usize,
@@ -145,6 +154,7 @@ fn finish(
 }
 
 // Where the value of an item begins.
+#[tactic(auto, unfolding(crate::specs::Lines::value_at))]
 fn value_at(work: &[u32], at: usize, lead: Lead) -> Parsed<usize>
     requires { at < length (tokens_in work.now) }
     ensures { result ≡ value_at lead (tokens_in work.now) at }
@@ -157,6 +167,7 @@ fn value_at(work: &[u32], at: usize, lead: Lead) -> Parsed<usize>
 }
 
 // An item whose keyword stands at an index.
+#[tactic(auto, unfolding(crate::specs::Lines::then, crate::specs::Lines::item_of))]
 fn item_of(work: &[u32], at: usize, kind: ItemKind) -> Result<Line, Failure>
     requires { at < length (tokens_in work.now) }
     ensures { result ≡ item_of kind (tokens_in work.now) at }
@@ -167,6 +178,7 @@ fn item_of(work: &[u32], at: usize, kind: ItemKind) -> Result<Line, Failure>
 }
 
 // An item, with its comment and the line's end.
+#[tactic(auto, unfolding(crate::specs::Lines::item, crate::specs::Lines::item_from))]
 fn item(work: &[u32], at: usize) -> Result<Line, Failure>
     ensures { result ≡ item (tokens_in work.now) at }
 {
@@ -178,6 +190,7 @@ fn item(work: &[u32], at: usize) -> Result<Line, Failure>
 }
 
 // A comment with nothing behind it.
+#[tactic(auto, unfolding(crate::specs::Lines::is_comment))]
 fn is_comment(work: &[u32], at: usize) -> bool
     ensures { result ≡ is_comment (tokens_in work.now) at }
 {
@@ -185,6 +198,7 @@ fn is_comment(work: &[u32], at: usize) -> bool
 }
 
 // The line that begins at an index, or why it is refused.
+#[tactic(auto, unfolding(crate::specs::Lines::line))]
 pub fn line(work: &[u32], at: usize) -> Result<Line, Failure>
     ensures { result ≡ line (tokens_in work.now) at }
 {
