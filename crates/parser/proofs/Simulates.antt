@@ -243,7 +243,7 @@ module _ (ts : List (Token Span)) (junk : List Words) (z : Token Span) (more : L
           subst (λ (x : Parsed ℕ). Fits {A = Located Span Bool} i [] (One (goes_on c)) follows x (fail 1 z.place)) (sym (e₀ ∙ quietly z.kind ends)) (refl, refl)
         where
           quietly : (k : TokenKind) → Stops k
-              → cond (is_some (is_sign 0x2C k)) (Done {A = ℕ} (i + 1) 1) (cond (is_some (is_sign c k)) (Done (i + 1) 0) (Failed (unexpected k) (span_of (token_of z)))) ≡ Failed {A = ℕ} 1 (span_of (token_of z))
+              → cond (is_some (is_sign 0x2C k)) (Done {A = ℕ} (i + 1) 1) (cond (is_some (is_sign c k)) (Done (i + 1) 0) (Failed (unexpected k) (span_of (token_of z)))) ≡ Failed {A = ℕ × ℕ} 1 (span_of (token_of z))
           quietly k (inl e) = rw e
           quietly k (inr (s, e)) = rw e
       separator_fits i (t ∷ r) a =
