@@ -1,4 +1,5 @@
 -- The braces of what a rule reads open and close by turns.
+use Rattle.std.specs.Prelude.{Err}
 use mathlib.Core.Path.{◌≡◌, refl, sym, ap, subst, ◌∙◌}
 use mathlib.Core.Bool.{Bool, true, false, cond, not}
 use mathlib.Core.List.{List, [], ◌∷◌, ◌++◌}
@@ -10,11 +11,9 @@ use lib.ListN.{length, take, drop}
 use lib.Seq.{drop-cons, drop-drop, take-add}
 use Rattle.diag.proofs.Cases.{by_test_lem}
 use Rattle.tokens.specs.declared.Token.{Token}
-use Rattle.parser.specs.declared.Parsed.{Parsed}
-use Rattle.parser.specs.declared.Parsed.TheVariants.{Done, Failed}
 use Rattle.parser.specs.Row.{peek, ended}
 use Rattle.parser.specs.Views.{is_kind, is_symbol}
-use Rattle.parser.specs.Lines.{Parser, then, code_of, unexpected, one, separator, entries_from, entries, tuple, read_entry}
+use Rattle.parser.specs.Lines.{Parsed, Done, Failed, Parser, then, code_of, unexpected, one, separator, entries_from, entries, tuple, read_entry}
 use Rattle.parser.proofs.Laws.{inside}
 use Rattle.parser.proofs.Lists.{Within, Steps, on_test, separator_steps, symbol_steps, read_steps, entries-within}
 
@@ -121,23 +120,23 @@ separator_done close ts i j n e =
 
 -- ---- the parsers of what is read
 -- what was read from the index i on is balanced; `true`: a brace was open
-abbrev pub Even : Bool → List Token → ℕ → Parsed → Type 0
+abbrev pub Even : Bool → List Token → ℕ → Parsed ℕ → Type 0
 Even b ts i (Done j n) = (i ≤ j) × (balanced b (between ts i j) ≡ true)
-Even b ts i (Failed c s) = Unit {0}
+Even b ts i (Err bad) = Unit {0}
 
-then_even : (b : Bool) (ts : List Token) (i : ℕ) (r : Parsed) (f : ℕ → ℕ → Parsed) → ((j n : ℕ) → r ≡ Done j n → Even b ts i (f j n)) → Even b ts i (then r f)
+then_even : (b : Bool) (ts : List Token) (i : ℕ) (r : Parsed ℕ) (f : ℕ → ℕ → Parsed ℕ) → ((j n : ℕ) → r ≡ Done j n → Even b ts i (f j n)) → Even b ts i (then r f)
 unfolding then
 then_even b ts i (Done j n) f g = g j n refl
-then_even b ts i (Failed c s) f g = tt
+then_even b ts i (Err bad) f g = tt
 
-even_plain : (b : Bool) (ts : List Token) (i : ℕ) (r : Parsed) → i < length ts → eqb (peek ts i).kind 6 ≡ false → eqb (peek ts i).kind 7 ≡ false → Even b ts (i + 1) r → Even b ts i r
+even_plain : (b : Bool) (ts : List Token) (i : ℕ) (r : Parsed ℕ) → i < length ts → eqb (peek ts i).kind 6 ≡ false → eqb (peek ts i).kind 7 ≡ false → Even b ts (i + 1) r → Even b ts i r
 even_plain b ts i (Done j n) h a c e = (omega (arith, e.0), balanced_plain ts b i j (omega (arith, e.0)) h a c e.1)
-even_plain b ts i (Failed c s) h a d e = tt
+even_plain b ts i (Err bad) h a d e = tt
 
 -- behind what is balanced
-even_on : (ts : List Token) (i j : ℕ) (r : Parsed) → i ≤ j → balanced false (between ts i j) ≡ true → Even false ts j r → Even false ts i r
+even_on : (ts : List Token) (i j : ℕ) (r : Parsed ℕ) → i ≤ j → balanced false (between ts i j) ≡ true → Even false ts j r → Even false ts i r
 even_on ts i j (Done k n) h e f = (omega (arith, f.0), balanced_on ts false i j k h f.0 e f.1)
-even_on ts i j (Failed c s) h e f = tt
+even_on ts i j (Err bad) h e f = tt
 
 pub within_row : (ts : List Token) (i n : ℕ) → n < 13 → eqb (peek ts i).kind n ≡ true → i < length ts
 unfolding is_kind
@@ -155,14 +154,14 @@ symbols_from ts (suc k) i n =
     then_even true ts i (separator 7 ts j) (λ next more. elim (eqb more 0) [ true ↦ Done next (n + 1) | false ↦ entries_from (one is_symbol) 7 ts k next (n + 1) ]) λ next more d.
     let p = separator_done 7 ts j next more d in
     let v : (j < next) × (next ≤ length ts) = subst (Within ts j) d ((separator_steps 7 (omega arith)).within ts j) in
-    let from : (r : Parsed) → Even true ts j r → Even true ts i r = λ r x. even_plain true ts i r (omega arith) s.0 s.1 (subst (λ (n : ℕ). Even true ts n r) o.0 x) in
+    let from : (r : Parsed ℕ) → Even true ts j r → Even true ts i r = λ r x. even_plain true ts i r (omega arith) s.0 s.1 (subst (λ (n : ℕ). Even true ts n r) o.0 x) in
     by_test_lem (eqb more 0)
     (λ y.
     let c : balanced true (between ts j next) ≡ true = ap (λ (n : ℕ). balanced true (between ts j n)) p.next ∙ balanced_close ts j (omega arith) (p.closing (eqb-true more 0 y)) in
     rw y (from (Done next (n + 1)) (omega arith, c)))
     (λ x.
     let c = not_brace (peek ts j) 8 (p.comma (λ z. eqb-false more 0 x z)) (λ z. omega arith) (λ z. omega arith) in
-    let r : Parsed = entries_from (one is_symbol) 7 ts k next (n + 1) in
+    let r : Parsed ℕ = entries_from (one is_symbol) 7 ts k next (n + 1) in
     rw x (from r (even_plain true ts j r (omega arith) c.0 c.1 (subst (λ (n : ℕ). Even true ts n r) p.next (symbols_from ts k next (n + 1))))))
 
 -- a symbol, or a set
@@ -176,13 +175,13 @@ read_even ts i =
     (omega (arith, s.0), balanced_open ts i j (omega (arith, s.0)) (within_row ts i 6 (omega arith) y) y s.1))
     (λ x. single (one is_symbol ts i) refl)
   where
-    single : (r : Parsed) → one is_symbol ts i ≡ r → Even false ts i r
+    single : (r : Parsed ℕ) → one is_symbol ts i ≡ r → Even false ts i r
     single (Done j n) e =
         let o = one_done is_symbol ts i j n e in
         let w : (i < j) × (j ≤ length ts) = subst (Within ts i) e (symbol_steps.within ts i) in
         let s = symbol_brace (peek ts i) o.1 in
         (omega arith, ap (λ (k : ℕ). balanced false (between ts i k)) o.0 ∙ balanced_one ts i (omega arith) s.0 s.1)
-    single (Failed c s) e = tt
+    single (Err bad) e = tt
 
 -- entries up to `)`
 reads_from : (ts : List Token) (k i n : ℕ) → Even false ts i (entries_from read_entry 5 ts k i n)
@@ -201,7 +200,7 @@ reads_from ts (suc k) i n =
     rw y (even_on ts i j (Done next (n + 1)) r₀.0 r₀.1 (omega arith, last)))
     (λ x.
     let c = not_brace (peek ts j) 8 (p.comma (λ z. eqb-false more 0 x z)) (λ z. omega arith) (λ z. omega arith) in
-    let r : Parsed = entries_from read_entry 5 ts k next (n + 1) in
+    let r : Parsed ℕ = entries_from read_entry 5 ts k next (n + 1) in
     rw x (even_on ts i j r r₀.0 r₀.1 (even_plain false ts j r (omega arith) c.0 c.1 (subst (λ (n : ℕ). Even false ts n r) p.next (reads_from ts k next (n + 1))))))
 
 pub reads_even : (ts : List Token) (i : ℕ) → Even false ts i (tuple read_entry ts i)

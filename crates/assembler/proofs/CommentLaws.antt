@@ -1,4 +1,5 @@
 -- A line feed stands behind each comment of an entered row: it does in the tokens of a text, entering puts a comment nowhere, and nothing over a line feed.
+use Rattle.std.specs.Prelude.{Err}
 use mathlib.Core.Path.{◌≡◌, refl, sym, subst}
 use mathlib.Core.Bool.{Bool, true, false, cond}
 use mathlib.Core.List.{List, [], ◌∷◌, map}
@@ -14,10 +15,8 @@ use Rattle.tokens.specs.declared.Token.{Token}
 use Rattle.parser.specs.declared.Parts.{Parts}
 use Rattle.parser.specs.declared.ItemKind.{ItemKind}
 use Rattle.parser.specs.declared.ItemKind.TheVariants.{Machine, Kind, Input, Output, Tapes, States, InputAlphabet, TapeAlphabet, Blank, Start, Final, Transition}
-use Rattle.parser.specs.declared.Line.{Line}
-use Rattle.parser.specs.declared.Line.TheVariants.{Blank as Empty, Comment, Item as Read, Error}
 use Rattle.parser.specs.Row.{peek, ended}
-use Rattle.parser.specs.Lines.{line, line_end}
+use Rattle.parser.specs.Lines.{Failed, Answer, Empty, Comment, Read, line, line_end}
 use Rattle.parser.specs.Meaning.{token_of, Closed, AllLexed}
 use Rattle.language.specs.Lines.{line_feed, goes_by, remark, ending_of}
 use Rattle.assembler.specs.Entries.{behind}
@@ -128,7 +127,7 @@ parts_like Transition i q us ws l h =
     let p = h refl in
     like_set us (set ws 1 (counts_of q)) 3 (parts_of i q) (like_set us ws 1 (counts_of q) l p.0 refl) p.1 refl
 
-as_like : (l : Line) (i : ℕ) (t : Token) (ts : List Token) → LineIn (t ∷ ts) l → eqb t.kind 13 ≡ false → Like (t ∷ ts) (enter_as l i (t ∷ ts))
+as_like : (l : Answer) (i : ℕ) (t : Token) (ts : List Token) → LineIn (t ∷ ts) l → eqb t.kind 13 ≡ false → Like (t ∷ ts) (enter_as l i (t ∷ ts))
 unfolding enter_as
 as_like Empty i t ts h e = like_refl (t ∷ ts)
 as_like (Comment k) i t ts h e = like_refl (t ∷ ts)
@@ -139,7 +138,7 @@ as_like (Read x) i t ts h e =
   where
     high : (item_entry i x).kind ≡ 12 → ⊥
     high z = omega arith
-as_like (Error c s) i t ts h e =
+as_like (Err bad) i t ts h e =
     like_set (t ∷ ts) (t ∷ ts) 0 (failed_entry i c s (line_end (t ∷ ts) 0)) (like_refl (t ∷ ts)) e (ne_eqb (failed_entry i c s (line_end (t ∷ ts) 0)).kind 12 (λ z. high z))
   where
     high : (failed_entry i c s (line_end (t ∷ ts) 0)).kind ≡ 12 → ⊥
@@ -148,7 +147,7 @@ as_like (Error c s) i t ts h e =
 enter_like : (i : ℕ) (t : Token) (ts : List Token) → Like (t ∷ ts) (enter_line i (t ∷ ts))
 unfolding enter_line line
 enter_like i t ts =
-    by_test_lem (eqb t.kind 13) (λ y. subst (λ (l : Line). Like (t ∷ ts) (enter_as l i (t ∷ ts))) (sym (blank y)) (like_refl (t ∷ ts)))
+    by_test_lem (eqb t.kind 13) (λ y. subst (λ (l : Answer). Like (t ∷ ts) (enter_as l i (t ∷ ts))) (sym (blank y)) (like_refl (t ∷ ts)))
     (λ n. as_like (line (t ∷ ts) 0) i t ts (line_in (t ∷ ts)) n)
   where
     blank : eqb t.kind 13 ≡ true → line (t ∷ ts) 0 ≡ Empty

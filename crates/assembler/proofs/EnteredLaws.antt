@@ -1,4 +1,5 @@
 -- Laws of the row as its lines are entered one after another.
+use Rattle.std.specs.Prelude.{Err}
 use mathlib.Core.Path.{◌≡◌, refl, sym, ap, subst, ◌∙◌}
 use mathlib.Core.Bool.{Bool, true, false, cond}
 use mathlib.Core.List.{List, [], ◌∷◌, ◌++◌, append-nil, append_assoc}
@@ -16,10 +17,8 @@ use Rattle.parser.specs.declared.Parts.{Parts}
 use Rattle.parser.specs.declared.ItemKind.{ItemKind}
 use Rattle.parser.specs.declared.ItemKind.TheVariants.{Machine, Kind, Input, Output, Tapes, States, InputAlphabet, TapeAlphabet, Blank, Start, Final, Transition}
 use Rattle.parser.specs.declared.Item.{Item}
-use Rattle.parser.specs.declared.Line.{Line}
-use Rattle.parser.specs.declared.Line.TheVariants.{Blank as Empty, Comment, Item as Read, Error}
 use Rattle.parser.specs.Row.{peek, ended}
-use Rattle.parser.specs.Lines.{line, line_end}
+use Rattle.parser.specs.Lines.{Failed, Answer, Empty, Comment, Read, line, line_end}
 use Rattle.assembler.specs.Rows.{rows}
 use Rattle.assembler.specs.Entries.{behind}
 use Rattle.assembler.specs.Entered.{flat, item_entry, item_number, failed_entry, counts_of, parts_of, with_parts, enter_as, enter_line, enter_at, entered_from, entered}
@@ -43,12 +42,12 @@ parts-length Start i q ts = refl
 parts-length Final i q ts = refl
 parts-length Transition i q ts = length-set (set ts 1 (counts_of q)) 3 (parts_of i q) ∙ length-set ts 1 (counts_of q)
 
-as_length : (l : Line) (i : ℕ) (ts : List Token) → length (enter_as l i ts) ≡ length ts
+as_length : (l : Answer) (i : ℕ) (ts : List Token) → length (enter_as l i ts) ≡ length ts
 unfolding enter_as
 as_length Empty i ts = refl
 as_length (Comment k) i ts = refl
 as_length (Read x) i ts = parts-length x.kind i x.parts (set ts 0 (item_entry i x)) ∙ length-set ts 0 (item_entry i x)
-as_length (Error c s) i ts = length-set ts 0 (failed_entry i c s (line_end ts 0))
+as_length (Err bad) i ts = length-set ts 0 (failed_entry i bad.code bad.span (line_end ts 0))
 
 pub enter-length : (i : ℕ) (ts : List Token) → length (enter_line i ts) ≡ length ts
 unfolding enter_line
@@ -94,7 +93,7 @@ pub entry_behind : (i : ℕ) (x : Item) → behind i (item_entry i x) ≡ x.newl
 unfolding behind item_entry
 entry_behind i x = rw (le-leb 16 (16 + item_number x.kind) (omega arith)) (omega arith)
 
-as_drop : (l : Line) (i : ℕ) (t : Token) (ts : List Token) → LineIn (t ∷ ts) l
+as_drop : (l : Answer) (i : ℕ) (t : Token) (ts : List Token) → LineIn (t ∷ ts) l
     → drop (behind i (peek (enter_as l i (t ∷ ts)) 0)) (drop 1 (enter_as l i (t ∷ ts))) ≡ drop (behind i (peek (enter_as l i (t ∷ ts)) 0)) ts
 unfolding enter_as
 as_drop Empty i t ts h = refl
@@ -110,7 +109,7 @@ as_drop (Read x) i t ts h =
     dropped [] zero = refl
     dropped [] (suc n) = refl
     dropped (t ∷ l) n = refl
-as_drop (Error c s) i t ts h = refl
+as_drop (Err bad) i t ts h = refl
 
 pub enter-drop : (i : ℕ) (t : Token) (ts : List Token)
     → drop (behind i (peek (enter_line i (t ∷ ts)) 0)) (drop 1 (enter_line i (t ∷ ts))) ≡ drop (behind i (peek (enter_line i (t ∷ ts)) 0)) ts

@@ -1,4 +1,5 @@
 -- The entries of a row, once the lines of a text are entered in it, mean the language's lines.
+use Rattle.std.specs.Prelude.{Err}
 use mathlib.Core.Path.{◌≡◌, refl, sym, ap, subst, ◌∙◌}
 use mathlib.Core.Bool.{Bool, true, false, cond}
 use mathlib.Core.List.{List, [], ◌∷◌, ◌++◌, map, append-nil, append_assoc}
@@ -21,11 +22,9 @@ use Rattle.parser.specs.declared.ItemKind.{ItemKind}
 use Rattle.parser.specs.declared.ItemKind.TheVariants.{Machine, Kind, Input, Output, Tapes, States, InputAlphabet, TapeAlphabet, Blank, Start, Final, Transition}
 use Rattle.parser.specs.declared.Lead.TheVariants.{Equals}
 use Rattle.parser.specs.declared.Item.{Item as Found}
-use Rattle.parser.specs.declared.Line.{Line as Parsed}
-use Rattle.parser.specs.declared.Line.TheVariants.{Blank as Empty, Comment, Item as Read, Error}
 use Rattle.parser.specs.Row.{peek, ended}
 use Rattle.parser.specs.Views.{is_kind, lead_of}
-use Rattle.parser.specs.Lines.{line, line_end, line_length, newline_at}
+use Rattle.parser.specs.Lines.{Failed, Answer, Empty, Comment, Read, line, line_end, line_length, newline_at}
 use Rattle.parser.specs.Meaning.{token_of, nothing, at, between, located, or_else, Sound, seen, read_sets, rule_of, item_means, line_means, Counted, CountedAs, LineCounted, Closed, AllLexed, LineAt}
 use Rattle.parser.proofs.Lines.{line_at}
 use Rattle.parser.proofs.Views.{is_some, tok, sees_number}
@@ -151,7 +150,7 @@ pub end_is : (ws : List Token) → line_end ws 0 ≡ line_length ws
 unfolding line_end
 end_is ws = omega arith
 
-pub line-behind : (i : ℕ) (w : Token) (ws : List Token) (x : Parsed) → LineIn (w ∷ ws) x → behind i (peek (enter_as x i (w ∷ ws)) 0) ≡ line_end (w ∷ ws) 0
+pub line-behind : (i : ℕ) (w : Token) (ws : List Token) (x : Answer) → LineIn (w ∷ ws) x → behind i (peek (enter_as x i (w ∷ ws)) 0) ≡ line_end (w ∷ ws) 0
 unfolding enter_as line_length
 line-behind i w ws Empty h = behind-kind i w 13 (eqb-true w.kind 13 h) (omega arith) ∙ sym (end_is (w ∷ ws) ∙ length_by w ws true h)
 line-behind i w ws (Comment k) h =
@@ -162,7 +161,7 @@ line-behind i w ws (Comment k) h =
     second [] e = refl
     second (u ∷ us) e = length_by u us true e
 line-behind i w ws (Read x) h = ap (behind i) (parts_first x.kind i x.parts (item_entry i x) ws) ∙ entry_behind i x ∙ sym h.feeds
-line-behind i w ws (Error c s) h = failed-behind i c (line_end (w ∷ ws) 0) s
+line-behind i w ws (Err bad) h = failed-behind i bad.code (line_end (w ∷ ws) 0) bad.span
 
 tail_of : (n : ℕ) (l r : List Token) → 0 < length l → drop 1 (take (suc n) l ++ r) ≡ take n (drop 1 l) ++ r
 tail_of n [] r h = absurd (omega arith)
@@ -289,7 +288,7 @@ module _ (text : List ℕ) (E : List Token) (i : ℕ) (t : Lexed Place) (l' : To
 
     pub L-is : L ≡ with_parts x.kind i x.parts (item_entry i x ∷ map token_of l')
     unfolding enter_line enter_as
-    L-is = ap (λ (y : Parsed). enter_as y i W) read
+    L-is = ap (λ (y : Answer). enter_as y i W) read
 
     pub b_is : b ≡ x.newline
     b_is = ends ∙ inside.feeds
@@ -544,20 +543,20 @@ module _ (text : List ℕ) (E : List Token) (i : ℕ) (t : Lexed Place) (l' : To
     }
 
   -- ---- what the line's entry means
-  pub line_means_lem : (X : Entry → Item Place → Type 0) → ((x : Found) → line W 0 ≡ Read x → X entry (item_means l x.kind x.value x.end x.parts)) → (y : Parsed) → line W 0 ≡ y
+  pub line_means_lem : (X : Entry → Item Place → Type 0) → ((x : Found) → line W 0 ≡ Read x → X entry (item_means l x.kind x.value x.end x.parts)) → (y : Answer) → line W 0 ≡ y
       → Means X entry (line_means l y)
   unfolding line_means enter_line enter_as failed_entry
   line_means_lem X of Empty e =
       let h : eqb (peek W 0).kind 13 ≡ true = subst (LineIn W) e (line_in W) in
-      let w : peek E i ≡ token_of t = first_is ∙ ap (λ (y : Parsed). peek (enter_as y i W) 0) e in
+      let w : peek E i ≡ token_of t = first_is ∙ ap (λ (y : Answer). peek (enter_as y i W) 0) e in
       omega (arith, ap (λ (w : Token). w.kind) w, eqb-true (token_of t).kind 13 h)
   line_means_lem X of (Comment k) e =
       let h : (eqb (peek W 0).kind 12 ≡ true) × (eqb (peek W 1).kind 13 ≡ true) = subst (LineIn W) e (line_in W) in
-      let w : peek E i ≡ token_of t = first_is ∙ ap (λ (y : Parsed). peek (enter_as y i W) 0) e in
+      let w : peek E i ≡ token_of t = first_is ∙ ap (λ (y : Answer). peek (enter_as y i W) 0) e in
       omega (arith, ap (λ (w : Token). w.kind) w, eqb-true (token_of t).kind 12 h.0)
   line_means_lem X of (Read x) e = item_means_lem x e X (of x e)
-  line_means_lem X of (Error c s) e =
-      let w : peek E i ≡ failed_entry i c s (line_end W 0) = first_is ∙ ap (λ (y : Parsed). peek (enter_as y i W) 0) e in
+  line_means_lem X of (Err bad) e =
+      let w : peek E i ≡ failed_entry i c s (line_end W 0) = first_is ∙ ap (λ (y : Answer). peek (enter_as y i W) 0) e in
       (ap (λ (w : Token). w.kind) w, ap place_of w)
 
 -- ---- all lines

@@ -1,4 +1,5 @@
 -- Each line of an entered row ends at the first line feed from its first token on: entering puts a line feed nowhere, and over none.
+use Rattle.std.specs.Prelude.{Err}
 use mathlib.Core.Path.{◌≡◌, refl, sym, ap, subst, ◌∙◌}
 use mathlib.Core.Bool.{Bool, true, false, cond}
 use mathlib.Core.List.{List, [], ◌∷◌, ◌++◌}
@@ -13,10 +14,8 @@ use Rattle.tokens.specs.declared.Token.{Token}
 use Rattle.parser.specs.declared.Parts.{Parts}
 use Rattle.parser.specs.declared.ItemKind.{ItemKind}
 use Rattle.parser.specs.declared.ItemKind.TheVariants.{Machine, Kind, Input, Output, Tapes, States, InputAlphabet, TapeAlphabet, Blank, Start, Final, Transition}
-use Rattle.parser.specs.declared.Line.{Line}
-use Rattle.parser.specs.declared.Line.TheVariants.{Blank as Empty, Comment, Item as Read, Error}
 use Rattle.parser.specs.Row.{peek, ended}
-use Rattle.parser.specs.Lines.{line, line_end, line_length}
+use Rattle.parser.specs.Lines.{Failed, Answer, Empty, Comment, Read, line, line_end, line_length}
 use Rattle.assembler.specs.Entries.{Entry, behind, entries_from, entries}
 use Rattle.assembler.specs.Feeds.{AllFed, Fed}
 use Rattle.assembler.specs.Entered.{item_entry, failed_entry, counts_of, parts_of, with_parts, enter_as, enter_line, entered_from, entered}
@@ -51,7 +50,7 @@ parts_feeds Transition i q ws h =
     set_feeds (set ws 1 (counts_of q)) 3 (parts_of i q) (ap (λ (t : Token). eqb t.kind 13) three ∙ p.1) refl ∙ set_feeds ws 1 (counts_of q) p.0 refl
 
 -- ---- a line that is entered
-as_feeds : (l : Line) (i : ℕ) (t : Token) (ts : List Token) → LineIn (t ∷ ts) l → eqb t.kind 13 ≡ false → line_length (enter_as l i (t ∷ ts)) ≡ line_length (t ∷ ts)
+as_feeds : (l : Answer) (i : ℕ) (t : Token) (ts : List Token) → LineIn (t ∷ ts) l → eqb t.kind 13 ≡ false → line_length (enter_as l i (t ∷ ts)) ≡ line_length (t ∷ ts)
 unfolding enter_as
 as_feeds Empty i t ts h e = refl
 as_feeds (Comment k) i t ts h e = refl
@@ -61,7 +60,7 @@ as_feeds (Read x) i t ts h e =
   where
     high : (item_entry i x).kind ≡ 13 → ⊥
     high z = omega arith
-as_feeds (Error c s) i t ts h e = set_feeds (t ∷ ts) 0 (failed_entry i c s (line_end (t ∷ ts) 0)) e (ne_eqb (failed_entry i c s (line_end (t ∷ ts) 0)).kind 13 (λ z. high z))
+as_feeds (Err bad) i t ts h e = set_feeds (t ∷ ts) 0 (failed_entry i bad.code bad.span (line_end (t ∷ ts) 0)) e (ne_eqb (failed_entry i bad.code bad.span (line_end (t ∷ ts) 0)).kind 13 (λ z. high z))
   where
     high : (failed_entry i c s (line_end (t ∷ ts) 0)).kind ≡ 13 → ⊥
     high z = omega arith
@@ -69,7 +68,7 @@ as_feeds (Error c s) i t ts h e = set_feeds (t ∷ ts) 0 (failed_entry i c s (li
 enter_feeds : (i : ℕ) (t : Token) (ts : List Token) → line_length (enter_line i (t ∷ ts)) ≡ line_length (t ∷ ts)
 unfolding enter_line line
 enter_feeds i t ts =
-    by_test_lem (eqb t.kind 13) (λ y. ap (λ (l : Line). line_length (enter_as l i (t ∷ ts))) (blank y)) (λ n. as_feeds (line (t ∷ ts) 0) i t ts (line_in (t ∷ ts)) n)
+    by_test_lem (eqb t.kind 13) (λ y. ap (λ (l : Answer). line_length (enter_as l i (t ∷ ts))) (blank y)) (λ n. as_feeds (line (t ∷ ts) 0) i t ts (line_in (t ∷ ts)) n)
   where
     blank : eqb t.kind 13 ≡ true → line (t ∷ ts) 0 ≡ Empty
     blank y = rw y

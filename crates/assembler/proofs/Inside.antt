@@ -1,4 +1,5 @@
 -- What the line parser answers lies in the row: codes are small, counts and indices at most the number of tokens.
+use Rattle.std.specs.Prelude.{Err, None, Option, Some}
 use mathlib.Core.Path.{◌≡◌, refl, sym, ap, subst, ◌∙◌}
 use mathlib.Core.Bool.{Bool, true, false, cond}
 use mathlib.Core.List.{List, [], ◌∷◌}
@@ -10,24 +11,16 @@ use lib.Dec.{eqb, ltb}
 use lib.ListN.{length, drop}
 use Rattle.tokens.specs.declared.Token.{Token}
 use Rattle.lexer.specs.declared.Span.{Span}
-use Rattle.parser.specs.declared.Parsed.{Parsed}
-use Rattle.parser.specs.declared.Parsed.TheVariants.{Done, Failed}
 use Rattle.parser.specs.declared.Parts.{Parts}
-use Rattle.parser.specs.declared.Value.{Value}
-use Rattle.parser.specs.declared.Value.TheVariants.{Done as Ended, Failed as Broken}
 use Rattle.parser.specs.declared.ItemKind.{ItemKind}
 use Rattle.parser.specs.declared.ItemKind.TheVariants.{Machine, Kind, Input, Output, Tapes, States, InputAlphabet, TapeAlphabet, Blank, Start, Final, Transition}
-use Rattle.parser.specs.declared.Keyword.{Keyword}
-use Rattle.parser.specs.declared.Keyword.TheVariants.{Starts, Other}
 use Rattle.parser.specs.declared.Lead.{Lead}
 use Rattle.parser.specs.declared.Lead.TheVariants.{Equals, Nothing, Whole}
 use Rattle.parser.specs.declared.Item.{Item}
-use Rattle.parser.specs.declared.Line.{Line}
-use Rattle.parser.specs.declared.Line.TheVariants.{Blank as Empty, Comment, Item as Read, Error}
 use Rattle.diag.proofs.Cases.{by_test_lem}
 use Rattle.parser.specs.Row.{peek, ended}
 use Rattle.parser.specs.Views.{is_kind, is_choice, is_state, is_symbol, is_write, is_direction, is_text, keyword_of, lead_of}
-use Rattle.parser.specs.Lines.{Parser, then, code_of, unexpected, one, direction, separator, entries_from, entries, set, tuple, read_entry, output, side, equals, left_parts, no_parts, on, on_value, left, right, transition, plain, value, newline_at, finish, value_at, line_on, line_of, item_of, item_from, item, is_comment, line, line_length, line_end}
+use Rattle.parser.specs.Lines.{Parsed, Done, Failed, Answer, Empty, Comment, Read, Parser, then, code_of, unexpected, one, direction, separator, entries_from, entries, set, tuple, read_entry, output, side, equals, left_parts, no_parts, left, right, transition, plain, value, newline_at, finish, value_at, item_of, item_from, item, is_comment, line, line_length, line_end}
 use Rattle.parser.proofs.Laws.{inside}
 use Rattle.assembler.proofs.Braces.{balanced, between, Even, one_done, reads_even, balanced_sign}
 use Rattle.parser.proofs.Lists.{Within, Steps, on_test, one_steps, direction_steps, separator_steps, entries-within, state_steps, symbol_steps, write_steps, read_steps}
@@ -85,17 +78,17 @@ solid_direction t e =
     by_test_lem (eqb t.kind 2) (λ y. kind_solid t 2 (omega arith) y) λ n₂. off (rw (n₀, n₂) at e)
 
 -- ---- a parser's answer: no more entries than the index behind them, no line feed among them, and a code that fits an entry
-abbrev pub Fair : List Token → ℕ → Parsed → Type 0
+abbrev pub Fair : List Token → ℕ → Parsed ℕ → Type 0
 Fair ts i (Done j n) = (n ≤ j) × Free ts i j
-Fair ts i (Failed c s) = c ≤ 8
+Fair ts i (Err bad) = bad.code ≤ 8
 
 pub record Fairly (p : Parser) : Type 0 where
   pub fair : (ts : List Token) (i : ℕ) → Fair ts i (p ts i)
 
 -- from an earlier index on
-fair_from : (ts : List Token) (i j : ℕ) (r : Parsed) → Free ts i j → Fair ts j r → Fair ts i r
+fair_from : (ts : List Token) (i j : ℕ) (r : Parsed ℕ) → Free ts i j → Fair ts j r → Fair ts i r
 fair_from ts i j (Done k n) f h = (h.0, free_on ts i j k f h.1)
-fair_from ts i j (Failed c s) f h = h
+fair_from ts i j (Err bad) f h = h
 
 code_low : (t : Token) → code_of t ≤ 8
 unfolding code_of
@@ -129,10 +122,10 @@ separator_fair close h = record {
 }
 
 -- one parser, and then another
-then_fair : (ts : List Token) (i : ℕ) (r : Parsed) (f : ℕ → ℕ → Parsed) → Fair ts i r → ((j n : ℕ) → r ≡ Done j n → Fair ts j (f j n)) → Fair ts i (then r f)
+then_fair : (ts : List Token) (i : ℕ) (r : Parsed ℕ) (f : ℕ → ℕ → Parsed ℕ) → Fair ts i r → ((j n : ℕ) → r ≡ Done j n → Fair ts j (f j n)) → Fair ts i (then r f)
 unfolding then
 then_fair ts i (Done j n) f h g = fair_from ts i j (f j n) h.1 (g j n refl)
-then_fair ts i (Failed c s) f h g = h
+then_fair ts i (Err bad) f h g = h
 
 -- what an answer that is done says
 pub done_within : (p : Parser) (ts : List Token) (i j n : ℕ) → Steps p → p ts i ≡ Done j n → (i < j) × (j ≤ length ts)
@@ -217,10 +210,10 @@ equals_fair = record {
 }
 
 -- ---- what the small parsers gave
-pub then_done : (r : Parsed) (f : ℕ → ℕ → Parsed) (j n : ℕ) {X : Type 0} → then r f ≡ Done j n → ((i m : ℕ) → r ≡ Done i m → f i m ≡ Done j n → X) → X
+pub then_done : (r : Parsed ℕ) (f : ℕ → ℕ → Parsed ℕ) (j n : ℕ) {X : Type 0} → then r f ≡ Done j n → ((i m : ℕ) → r ≡ Done i m → f i m ≡ Done j n → X) → X
 unfolding then
 then_done (Done i m) f j n e g = g i m refl e
-then_done (Failed c s) f j n e g = absurd (let z : ◌≡◌ {A = ℕ} 0 1 = cc in omega arith)
+then_done (Err bad) f j n e g = absurd (let z : ◌≡◌ {A = ℕ} 0 1 = cc in omega arith)
 
 pub kind_done : (ts : List Token) (k i j n : ℕ) → one (is_kind k) ts i ≡ Done j n → (j ≡ i + 1) × (eqb (peek ts i).kind k ≡ true)
 unfolding is_kind
@@ -245,14 +238,14 @@ equals_done ts i j n e =
     (omega arith, u.1, ap (λ (k : ℕ). eqb (peek ts k).kind 9) (sym u.0) ∙ v.1)
 
 -- ---- the value of an item: where it fails the code fits, where it ends a property holds
-abbrev Gives : (ℕ → Parts → Type 0) → Value → Type 0
-Gives Q (Ended j q) = Q j q
-Gives Q (Broken c s) = c ≤ 8
+abbrev Gives : (ℕ → Parts → Type 0) → Parsed Parts → Type 0
+Gives Q (Done j q) = Q j q
+Gives Q (Err bad) = bad.code ≤ 8
 
-on_gives : (Q : ℕ → Parts → Type 0) (ts : List Token) (i : ℕ) (r : Parsed) (f : ℕ → ℕ → Value) → Fair ts i r → ((j n : ℕ) → r ≡ Done j n → Gives Q (f j n)) → Gives Q (on r f)
-unfolding on
+on_gives : (Q : ℕ → Parts → Type 0) (ts : List Token) (i : ℕ) (r : Parsed ℕ) (f : ℕ → ℕ → Parsed Parts) → Fair ts i r → ((j n : ℕ) → r ≡ Done j n → Gives Q (f j n)) → Gives Q (then r f)
+unfolding then
 on_gives Q ts i (Done j n) f h g = g j n refl
-on_gives Q ts i (Failed c s) f h g = h
+on_gives Q ts i (Err bad) f h g = h
 
 -- what a rule reads, n entries, up to before the index j: `)` and `=` stand behind it
 pub record Reading (ts : List Token) (j n : ℕ) : Type 0 where
@@ -328,10 +321,10 @@ left_gives : (ts : List Token) → Gives (LeftIn ts) (left ts 0)
 unfolding left
 left_gives ts =
     on_gives (LeftIn ts) ts 0 (one (is_kind 0) ts 0)
-    (λ j _. on (side ts j) λ read _. on (tuple read_entry ts read) λ k reads. on (equals ts k) λ end _. Ended end (left_parts (j + 1) read reads)) ((kind_fair 0 (omega arith)).fair ts 0) λ j o a.
-    on_gives (LeftIn ts) ts j (side ts j) (λ read _. on (tuple read_entry ts read) λ k reads. on (equals ts k) λ end _. Ended end (left_parts (j + 1) read reads)) (side_fair.fair ts j) λ read m b.
-    on_gives (LeftIn ts) ts read (tuple read_entry ts read) (λ k reads. on (equals ts k) λ end _. Ended end (left_parts (j + 1) read reads)) (reads_fair.fair ts read) λ k reads c.
-    on_gives (LeftIn ts) ts k (equals ts k) (λ end _. Ended end (left_parts (j + 1) read reads)) (equals_fair.fair ts k) λ end n d.
+    (λ j _. then (side ts j) λ read _. then (tuple read_entry ts read) λ k reads. then (equals ts k) λ end _. Done end (left_parts (j + 1) read reads)) ((kind_fair 0 (omega arith)).fair ts 0) λ j o a.
+    on_gives (LeftIn ts) ts j (side ts j) (λ read _. then (tuple read_entry ts read) λ k reads. then (equals ts k) λ end _. Done end (left_parts (j + 1) read reads)) (side_fair.fair ts j) λ read m b.
+    on_gives (LeftIn ts) ts read (tuple read_entry ts read) (λ k reads. then (equals ts k) λ end _. Done end (left_parts (j + 1) read reads)) (reads_fair.fair ts read) λ k reads c.
+    on_gives (LeftIn ts) ts k (equals ts k) (λ end _. Done end (left_parts (j + 1) read reads)) (equals_fair.fair ts k) λ end n d.
     let a₁ = kind_done ts 0 0 j o a in
     let b₁ = side_done ts j read m b in
     let d₁ = equals_done ts k end n d in
@@ -364,13 +357,13 @@ unfolding right
 right_gives l ts i h =
     let R : ℕ → ℕ → ℕ → ℕ → Parts = λ write writes dir dirs. record { from = l.from; read = l.read; reads = l.reads; to = i + 1; write = write; writes = writes; dir = dir; dirs = dirs } in
     on_gives (PartsIn ts) ts i (side ts i)
-    (λ write _. on (tuple (one is_write) ts write) λ j writes. on (one (is_kind 8) ts j) λ dir _. on (tuple direction ts dir) λ k dirs. on (one (is_kind 5) ts k) λ end _. Ended end (R write writes dir dirs))
+    (λ write _. then (tuple (one is_write) ts write) λ j writes. then (one (is_kind 8) ts j) λ dir _. then (tuple direction ts dir) λ k dirs. then (one (is_kind 5) ts k) λ end _. Done end (R write writes dir dirs))
     (side_fair.fair ts i) λ write m a.
     on_gives (PartsIn ts) ts write (tuple (one is_write) ts write)
-    (λ j writes. on (one (is_kind 8) ts j) λ dir _. on (tuple direction ts dir) λ k dirs. on (one (is_kind 5) ts k) λ end _. Ended end (R write writes dir dirs)) (writes_fair.fair ts write) λ j writes b.
-    on_gives (PartsIn ts) ts j (one (is_kind 8) ts j) (λ dir _. on (tuple direction ts dir) λ k dirs. on (one (is_kind 5) ts k) λ end _. Ended end (R write writes dir dirs)) ((kind_fair 8 (omega arith)).fair ts j) λ dir n c.
-    on_gives (PartsIn ts) ts dir (tuple direction ts dir) (λ k dirs. on (one (is_kind 5) ts k) λ end _. Ended end (R write writes dir dirs)) (dirs_fair.fair ts dir) λ k dirs d.
-    on_gives (PartsIn ts) ts k (one (is_kind 5) ts k) (λ end _. Ended end (R write writes dir dirs)) ((kind_fair 5 (omega arith)).fair ts k) λ end o e.
+    (λ j writes. then (one (is_kind 8) ts j) λ dir _. then (tuple direction ts dir) λ k dirs. then (one (is_kind 5) ts k) λ end _. Done end (R write writes dir dirs)) (writes_fair.fair ts write) λ j writes b.
+    on_gives (PartsIn ts) ts j (one (is_kind 8) ts j) (λ dir _. then (tuple direction ts dir) λ k dirs. then (one (is_kind 5) ts k) λ end _. Done end (R write writes dir dirs)) ((kind_fair 8 (omega arith)).fair ts j) λ dir n c.
+    on_gives (PartsIn ts) ts dir (tuple direction ts dir) (λ k dirs. then (one (is_kind 5) ts k) λ end _. Done end (R write writes dir dirs)) (dirs_fair.fair ts dir) λ k dirs d.
+    on_gives (PartsIn ts) ts k (one (is_kind 5) ts k) (λ end _. Done end (R write writes dir dirs)) ((kind_fair 5 (omega arith)).fair ts k) λ end o e.
     let a₁ = side_done ts i write m a in
     let a₂ = done_fair side ts i write m side_fair a in
     let a₃ = done_within side ts i write m side_steps a in
@@ -415,12 +408,12 @@ right_gives l ts i h =
     }
 
 transition_gives : (ts : List Token) → Gives (PartsIn ts) (transition ts 0)
-unfolding transition on_value
+unfolding transition then
 transition_gives ts = go (left ts 0) (left_gives ts)
   where
-    go : (v : Value) → Gives (LeftIn ts) v → Gives (PartsIn ts) (on_value v λ j l. right l ts j)
-    go (Ended j l) g = right_gives l ts j g
-    go (Broken c s) g = g
+    go : (v : Parsed Parts) → Gives (LeftIn ts) v → Gives (PartsIn ts) (then v λ j l. right l ts j)
+    go (Done j l) g = right_gives l ts j g
+    go (Err bad) g = g
 
 -- ---- lines
 -- the line feed of an item is the line's; it follows the item, or the item's comment; `=` stands behind a keyword that takes it
@@ -434,11 +427,11 @@ pub record ItemIn (ts : List Token) (x : Item) : Type 0 where
   pub tapes : x.kind ≡ Tapes → eqb (peek ts 2).kind 1 ≡ true
   pub parts : x.kind ≡ Transition → PartsIn ts x.end x.parts
 
-abbrev pub LineIn : List Token → Line → Type 0
+abbrev pub LineIn : List Token → Answer → Type 0
 LineIn ts Empty = eqb (peek ts 0).kind 13 ≡ true
 LineIn ts (Comment i) = (eqb (peek ts 0).kind 12 ≡ true) × (eqb (peek ts 1).kind 13 ≡ true)
 LineIn ts (Read x) = ItemIn ts x
-LineIn ts (Error c s) = c ≤ 8
+LineIn ts (Err bad) = bad.code ≤ 8
 
 -- the first line feed
 feed_at : (ts : List Token) (n : ℕ) → n ≤ length ts → Free ts 0 n → eqb (peek ts n).kind 13 ≡ true → line_length ts ≡ n
@@ -478,39 +471,39 @@ module _ (k : ItemKind) (ts : List Token) (v j : ℕ) (q : Parts) (h : j ≤ len
         parts = p;
       }) (λ _. code_low (peek ts (newline_at ts j)))
 
-line_on_in : (ts : List Token) (i : ℕ) (r : Parsed) (f : ℕ → ℕ → Line) → Fair ts i r → ((v n : ℕ) → r ≡ Done v n → LineIn ts (f v n)) → LineIn ts (line_on r f)
-unfolding line_on
+line_on_in : (ts : List Token) (i : ℕ) (r : Parsed ℕ) (f : ℕ → ℕ → Answer) → Fair ts i r → ((v n : ℕ) → r ≡ Done v n → LineIn ts (f v n)) → LineIn ts (then r f)
+unfolding then
 line_on_in ts i (Done v n) f h g = g v n refl
-line_on_in ts i (Failed c s) f h g = h
+line_on_in ts i (Err bad) f h g = h
 
 -- an item whose value has no parts
-plain_in : (k : ItemKind) (ts : List Token) (v : ℕ) (r : Parsed) → (k ≡ Transition → ⊥) → Fair ts v r → Within ts v r → Free ts 0 v
+plain_in : (k : ItemKind) (ts : List Token) (v : ℕ) (r : Parsed ℕ) → (k ≡ Transition → ⊥) → Fair ts v r → Within ts v r → Free ts 0 v
     → (lead_of k ≡ Equals → (v ≡ 2) × (eqb (peek ts 1).kind 9 ≡ true)) → (k ≡ Tapes → (j n : ℕ) → r ≡ Done j n → eqb (peek ts 2).kind 1 ≡ true)
-    → LineIn ts (line_of (plain r) λ j q. finish k ts 0 v j q)
-unfolding plain on line_of
+    → LineIn ts (then (plain r) λ j q. finish k ts 0 v j q)
+unfolding plain then
 plain_in k ts v (Done j n) rule f w free a t =
     finish_in k ts v j no_parts w.1 (free_on ts 0 v j free f.1) (λ e. let x = a e in (x.0, x.1, omega (arith, x.0, w.0))) (λ e. t e j n refl) (λ e. absurd (rule e))
-plain_in k ts v (Failed c s) rule f w free a t = f
+plain_in k ts v (Err bad) rule f w free a t = f
 
-rule_in_lem : (ts : List Token) → LineIn ts (line_of (transition ts 0) λ j q. finish Transition ts 0 0 j q)
-unfolding line_of value lead_of
+rule_in_lem : (ts : List Token) → LineIn ts (then (transition ts 0) λ j q. finish Transition ts 0 0 j q)
+unfolding then value lead_of
 rule_in_lem ts = go (transition ts 0) (value_ends Transition ts 0) (transition_gives ts)
   where
-    go : (v : Value) → Ends ts 0 v → Gives (PartsIn ts) v → LineIn ts (line_of v λ j q. finish Transition ts 0 0 j q)
-    go (Ended j q) e g = finish_in Transition ts 0 j q e.1 g.free (λ z. absurd (let z : ◌≡◌ {A = ℕ} 0 1 = cc in omega arith)) (λ z. absurd (let z : ◌≡◌ {A = ℕ} 0 1 = cc in omega arith)) (λ _. g)
-    go (Broken c s) e g = g
+    go : (v : Parsed Parts) → Ends ts 0 v → Gives (PartsIn ts) v → LineIn ts (then v λ j q. finish Transition ts 0 0 j q)
+    go (Done j q) e g = finish_in Transition ts 0 j q e.1 g.free (λ z. absurd (let z : ◌≡◌ {A = ℕ} 0 1 = cc in omega arith)) (λ z. absurd (let z : ◌≡◌ {A = ℕ} 0 1 = cc in omega arith)) (λ _. g)
+    go (Err bad) e g = g
 
 -- the kinds of declarations, by the parser of their values; `=` comes first or not
 module _ (ts : List Token) (first : eqb (peek ts 0).kind 0 ≡ true) (k : ItemKind) (p : Parser) (rule : k ≡ Transition → ⊥) (steps : Steps p) (fairly : Fairly p) where
   key : Free ts 0 1
   key = free_one ts 0 (kind_solid (peek ts 0) 0 (omega arith) first)
 
-  straight_in : (lead_of k ≡ Equals → ⊥) → (k ≡ Tapes → ⊥) → LineIn ts (line_of (plain (p ts 1)) λ j q. finish k ts 0 1 j q)
+  straight_in : (lead_of k ≡ Equals → ⊥) → (k ≡ Tapes → ⊥) → LineIn ts (then (plain (p ts 1)) λ j q. finish k ts 0 1 j q)
   straight_in lead tapes = plain_in k ts 1 (p ts 1) rule (fairly.fair ts 1) (steps.within ts 1) key (λ e. absurd (lead e)) (λ e. absurd (tapes e))
 
-  assigned_in : (k ≡ Tapes → (j n : ℕ) → p ts 2 ≡ Done j n → eqb (peek ts 2).kind 1 ≡ true) → LineIn ts (line_on (one (is_kind 9) ts 1) λ v _. line_of (plain (p ts v)) λ j q. finish k ts 0 v j q)
+  assigned_in : (k ≡ Tapes → (j n : ℕ) → p ts 2 ≡ Done j n → eqb (peek ts 2).kind 1 ≡ true) → LineIn ts (then (one (is_kind 9) ts 1) λ v _. then (plain (p ts v)) λ j q. finish k ts 0 v j q)
   assigned_in tapes =
-      line_on_in ts 1 (one (is_kind 9) ts 1) (λ v _. line_of (plain (p ts v)) λ j q. finish k ts 0 v j q) ((kind_fair 9 (omega arith)).fair ts 1) λ v n e.
+      line_on_in ts 1 (one (is_kind 9) ts 1) (λ v _. then (plain (p ts v)) λ j q. finish k ts 0 v j q) ((kind_fair 9 (omega arith)).fair ts 1) λ v n e.
       let d = kind_done ts 9 1 v n e in
       let two : v ≡ 2 = omega arith in
       let g = done_fair (one (is_kind 9)) ts 1 v n (kind_fair 9 (omega arith)) e in
@@ -527,7 +520,7 @@ states_fair : Fairly (one is_state)
 states_fair = one_fair is_state solid_state
 
 item_of_in : (k : ItemKind) (ts : List Token) → eqb (peek ts 0).kind 0 ≡ true → LineIn ts (item_of k ts 0)
-unfolding item_of lead_of value_at line_on value
+unfolding item_of lead_of value_at then value
 item_of_in Machine ts f = straight_in ts f Machine (one (is_kind 3)) (λ e. apart (cc)) (kind_steps 3 (omega arith)) (kind_fair 3 (omega arith)) (λ e. apart (cc)) (λ e. apart (cc))
 item_of_in Kind ts f =
     straight_in ts f Kind (one (is_choice 0x110010 0x110013)) (λ e. apart (cc)) (choice_steps 0x110010 0x110013) (one_fair (is_choice 0x110010 0x110013) (solid_choice 0x110010 0x110013)) (λ e. apart (cc)) (λ e. apart (cc))
@@ -543,17 +536,17 @@ item_of_in Final ts f = assigned_in ts f Final (set (one is_state)) (λ e. apart
 item_of_in Transition ts f = rule_in_lem ts
 
 -- a keyword is a word
-keyword-word : (t : Token) (k : ItemKind) → keyword_of t ≡ Starts k → eqb t.kind 0 ≡ true
+keyword-word : (t : Token) (k : ItemKind) → keyword_of t ≡ Some k → eqb t.kind 0 ≡ true
 unfolding keyword_of
-keyword-word t k e = by_test_lem (eqb t.kind 0) (λ y. y) (λ n. let z : Other ≡ Starts k = rw n at e in apart (cc))
+keyword-word t k e = by_test_lem (eqb t.kind 0) (λ y. y) (λ n. let z : None ≡ Some k = rw n at e in apart (cc))
 
 item_in : (ts : List Token) → LineIn ts (item ts 0)
 unfolding item item_from
 item_in ts = go (keyword_of (peek ts 0)) refl
   where
-    go : (k : Keyword) → keyword_of (peek ts 0) ≡ k → LineIn ts (item_from k ts 0)
-    go (Starts k) e = item_of_in k ts (keyword-word (peek ts 0) k e)
-    go Other e = code_low (peek ts 0)
+    go : (k : Option ItemKind) → keyword_of (peek ts 0) ≡ k → LineIn ts (item_from k ts 0)
+    go (Some k) e = item_of_in k ts (keyword-word (peek ts 0) k e)
+    go None e = code_low (peek ts 0)
 
 comment_in : (ts : List Token) → is_comment ts 0 ≡ true → (eqb (peek ts 0).kind 12 ≡ true) × (eqb (peek ts 1).kind 13 ≡ true)
 unfolding is_comment

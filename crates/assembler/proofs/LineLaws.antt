@@ -16,10 +16,8 @@ use Rattle.parser.specs.declared.Parts.{Parts}
 use Rattle.parser.specs.declared.ItemKind.{ItemKind}
 use Rattle.parser.specs.declared.ItemKind.TheVariants.{Machine, Kind, Input, Output, Tapes, States, InputAlphabet, TapeAlphabet, Blank, Start, Final, Transition}
 use Rattle.parser.specs.declared.Item.{Item}
-use Rattle.parser.specs.declared.Line.{Line}
-use Rattle.parser.specs.declared.Line.TheVariants.{Blank as Empty, Comment, Item as Read, Error}
 use Rattle.parser.specs.Row.{tokens_in}
-use Rattle.parser.specs.Lines.{line, line_end}
+use Rattle.parser.specs.Lines.{Failed, Answer, Empty, Comment, Read, line, line_end}
 use Rattle.assembler.specs.Rows.{rows}
 use Rattle.assembler.specs.Entered.{words_of, flat, item_number, item_entry, failed_entry, counts_of, parts_of, PartsFit, with_parts, enter_as, enter_line, enter_at}
 use Rattle.assembler.proofs.Rows.{length-rows}
@@ -30,7 +28,7 @@ use Rattle.assembler.proofs.Inside.{PartsIn, ItemIn, LineIn, line_in, line_end_i
 pub number_by : (k x : ItemKind) (n : ℕ) → k ≡ x → n ≡ item_number x → n ≡ item_number k
 number_by k x n e h = h ∙ ap item_number (sym e)
 
-pub line_part : (n i : ℕ) (w : List ℕ) (l : Line) → 4 * n ≤ length w → i < n → l ≡ line (tokens_in (take (4 * n - 4 * i) (drop (4 * i) w))) 0 → l ≡ line (drop i (rows n w)) 0
+pub line_part : (n i : ℕ) (w : List ℕ) (l : Answer) → 4 * n ≤ length w → i < n → l ≡ line (tokens_in (take (4 * n - 4 * i) (drop (4 * i) w))) 0 → l ≡ line (drop i (rows n w)) 0
 line_part n i w l h g e = e ∙ ap (λ (ts : List Token). line ts 0) (part-tokens n i w h (omega arith))
 
 pub size-part : (n i : ℕ) (w : List ℕ) (l : ℕ) → 4 * n ≤ length w → i < n → l ≡ line_end (tokens_in (take (4 * n - 4 * i) (drop (4 * i) w))) 0 → l ≡ line_end (drop i (rows n w)) 0
@@ -171,7 +169,7 @@ module _ (n i : ℕ) (w : List ℕ) (room : 4 * n ≤ length w) (low : i < n) (f
             let e : i + 0 ≡ i = omega arith in
             let h' : item_number x.kind ≡ 11 → ⊥ = λ z. h (number ∙ z) in
             let one : enter_at i (rows n w) ≡ set (rows n w) i (item_entry i x) =
-            ap (λ (l : Line). take i (rows n w) ++ enter_as l i (drop i (rows n w))) read
+            ap (λ (l : Answer). take i (rows n w) ++ enter_as l i (drop i (rows n w))) read
             ∙ ap (λ (ts : List Token). take i (rows n w) ++ ts) (parts-other x.kind i x.parts (set (drop i (rows n w)) 0 (item_entry i x)) h')
             ∙ behind-first (rows n w) i 0 (item_entry i x) ∙ ap (λ (k : ℕ). set (rows n w) k (item_entry i x)) e in
             with_entry ∙ ap (λ (ts : List Token). onto (flat ts) w) (sym one)
@@ -193,13 +191,13 @@ module _ (n i : ℕ) (w : List ℕ) (room : 4 * n ≤ length w) (low : i < n) (f
             let front : take i ts ≡ take i b =
             sym (take-set-le i (set a (i + 1) (counts_of q)) (i + 3) (parts_of i q) (omega arith) ∙ take-set-le i a (i + 1) (counts_of q) (omega arith) ∙ take-set-le i ts i (item_entry i x) (omega arith)) in
             let all : enter_at i ts ≡ b =
-            ap (λ (l : Line). take i ts ++ enter_as l i (drop i ts)) read ∙ ap (λ (k : ItemKind). take i ts ++ with_parts k i q (set (drop i ts) 0 (item_entry i x))) (is_rule m number rule)
+            ap (λ (l : Answer). take i ts ++ enter_as l i (drop i ts)) read ∙ ap (λ (k : ItemKind). take i ts ++ with_parts k i q (set (drop i ts) 0 (item_entry i x))) (is_rule m number rule)
             ∙ ap (λ (l : List Token). take i ts ++ l) three ∙ ap (λ (l : List Token). l ++ drop i b) front ∙ take-append-drop i b in
             p ∙ ap (λ (l : List Token). onto (flat (set (set l (i + 1) (counts_of q)) (i + 3) (parts_of i q))) v) now
             ∙ ap (onto (flat b)) with_entry ∙ onto-onto b a w size ∙ ap (λ (l : List Token). onto (flat l) w) (sym all)
 
   -- of a failure
-  module _ (c : ℕ) (s : Span) (read : line (drop i (rows n w)) 0 ≡ Error c s) where
+  module _ (c : ℕ) (s : Span) (read : line (drop i (rows n w)) 0 ≡ Failed c s) where
     pub code_fits : Fits w32 (32 + c)
     code_fits = let z : c ≤ 8 = subst (LineIn rest) read (line_in rest) in record { fits = omega arith }
 
@@ -216,24 +214,24 @@ module _ (n i : ℕ) (w : List ℕ) (room : 4 * n ≤ length w) (low : i < n) (f
           let t : Token = record { kind = 32 + c; start = s.start; end = s.end; value = i + m } in
           let e : i + 0 ≡ i = omega arith in
           let one : enter_at i (rows n w) ≡ set (rows n w) i t =
-          ap (λ (l : Line). take i (rows n w) ++ enter_as l i (drop i (rows n w))) read
+          ap (λ (l : Answer). take i (rows n w) ++ enter_as l i (drop i (rows n w))) read
           ∙ ap (λ (k : ℕ). take i (rows n w) ++ set (drop i (rows n w)) 0 (failed_entry i c s k)) (sym size)
           ∙ behind-first (rows n w) i 0 t ∙ ap (λ (k : ℕ). set (rows n w) k t) e in
           put_row n i w v t room low stored ∙ ap (λ (ts : List Token). onto (flat ts) w) (sym one)
 
 -- ---- a line with nothing to enter
-module _ (n i : ℕ) (w : List ℕ) (l : Line) (read : l ≡ line (drop i (rows n w)) 0) (room : 4 * n ≤ length w) where
+module _ (n i : ℕ) (w : List ℕ) (l : Answer) (read : l ≡ line (drop i (rows n w)) 0) (room : 4 * n ≤ length w) where
   pub blank_entered : l ≡ Empty → w ≡ onto (flat (enter_at i (rows n w))) w
   unfolding enter_line enter_as
   blank_entered e =
-      sym (ap (λ (x : Line). onto (flat (take i (rows n w) ++ enter_as x i (drop i (rows n w)))) w) (sym read ∙ e)
+      sym (ap (λ (x : Answer). onto (flat (take i (rows n w) ++ enter_as x i (drop i (rows n w)))) w) (sym read ∙ e)
       ∙ ap (λ (ts : List Token). onto (flat ts) w) (take-append-drop i (rows n w)) ∙ onto-rows n w room)
 
   pub comment-entered : (k : ℕ) → l ≡ Comment k → w ≡ onto (flat (enter_at i (rows n w))) w
   unfolding enter_line enter_as
   comment-entered k e =
-      sym (ap (λ (x : Line). onto (flat (take i (rows n w) ++ enter_as x i (drop i (rows n w)))) w) (sym read ∙ e)
+      sym (ap (λ (x : Answer). onto (flat (take i (rows n w) ++ enter_as x i (drop i (rows n w)))) w) (sym read ∙ e)
       ∙ ap (λ (ts : List Token). onto (flat ts) w) (take-append-drop i (rows n w)) ∙ onto-rows n w room)
 
-  pub line_is : (x : Line) → l ≡ x → line (drop i (rows n w)) 0 ≡ x
+  pub line_is : (x : Answer) → l ≡ x → line (drop i (rows n w)) 0 ≡ x
   line_is x e = sym read ∙ e

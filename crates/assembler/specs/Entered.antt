@@ -1,15 +1,13 @@
 -- The row once the result of each line stands in the line's first token.
-use Rattle.std.specs.Prelude.{ℕ, suc, ◌+◌, ◌<◌, ◌^◌, List, [], ◌∷◌, ◌++◌, take, drop, set}
+use Rattle.std.specs.Prelude.{ℕ, suc, ◌+◌, ◌<◌, ◌^◌, List, [], ◌∷◌, ◌++◌, take, drop, set, Err}
 use Rattle.tokens.specs.declared.Token.{Token}
 use Rattle.lexer.specs.declared.Span.{Span}
 use Rattle.parser.specs.declared.Parts.{Parts}
 use Rattle.parser.specs.declared.ItemKind.{ItemKind}
 use Rattle.parser.specs.declared.ItemKind.TheVariants.{Machine, Kind, Input, Output, Tapes, States, InputAlphabet, TapeAlphabet, Blank, Start, Final, Transition}
 use Rattle.parser.specs.declared.Item.{Item}
-use Rattle.parser.specs.declared.Line.{Line}
-use Rattle.parser.specs.declared.Line.TheVariants.{Blank as Empty, Comment, Item as Read, Error}
 use Rattle.parser.specs.Row.{peek}
-use Rattle.parser.specs.Lines.{line, line_end}
+use Rattle.parser.specs.Lines.{Failed, Answer, Empty, Comment, Read, line, line_end}
 use Rattle.assembler.specs.Entries.{behind}
 
 -- a token's words
@@ -78,12 +76,12 @@ with_parts Final i q ts = ts
 with_parts Transition i q ts = set (set ts 1 (counts_of q)) 3 (parts_of i q)
 
 -- a line entered in the tokens from its first on
-unfoldable pub enter_as : Line → ℕ → List Token → List Token
+unfoldable pub enter_as : Answer → ℕ → List Token → List Token
 unfolding item_entry failed_entry with_parts
 enter_as Empty i ts = ts
 enter_as (Comment k) i ts = ts
 enter_as (Read x) i ts = with_parts x.kind i x.parts (set ts 0 (item_entry i x))
-enter_as (Error c s) i ts = set ts 0 (failed_entry i c s (line_end ts 0))
+enter_as (Err bad) i ts = set ts 0 (failed_entry i bad.code bad.span (line_end ts 0))
 
 unfoldable pub enter_line : ℕ → List Token → List Token
 unfolding enter_as

@@ -1,4 +1,5 @@
 -- The tokens behind an entry say of the head what its item declares: the line parser took each of them for what was due.
+use Rattle.parser.specs.Lines.{Done, Read}
 use Rattle.std.proofs.Common.{◌≡◌, ℕ, suc, ◌+◌, ◌^◌, ◌<◌, ◌≤◌, min, Bool, true, false, cond, eqb, leb, List, [], map, length, sym, refl, ap, ◌∙◌, subst, arith, get_or-drop}
 use mathlib.Core.Option.{Option, none, some}
 use Rattle.diag.proofs.Cases.{by_test_lem}
@@ -9,9 +10,7 @@ use Rattle.lexer.proofs.Placed.{Placed, All, all-at}
 use Rattle.tokens.specs.declared.Token.{Token}
 use Rattle.parser.specs.declared.ItemKind.{ItemKind}
 use Rattle.parser.specs.declared.ItemKind.TheVariants.{Machine, Kind, Input, Output, Tapes, States, InputAlphabet, TapeAlphabet, Blank, Start, Final, Transition}
-use Rattle.parser.specs.declared.Parsed.TheVariants.{Done}
 use Rattle.parser.specs.declared.Item.{Item as Found}
-use Rattle.parser.specs.declared.Line.TheVariants.{Item as Read}
 use Rattle.parser.specs.Row.{peek, ended}
 use Rattle.parser.specs.Views.{is_kind, is_choice, is_state, is_symbol}
 use Rattle.parser.specs.Lines as P

@@ -1,4 +1,5 @@
 -- A line over the row means the language's line.
+use Rattle.std.specs.Prelude.{Err, None, Option as Optional, Some}
 use mathlib.Core.Path.{◌≡◌, refl, sym, ap, subst, ◌∙◌}
 use Prim.Native.Nat.{ℕ, ◌+◌, ◌-◌}
 use native.Mathlib.Omega.{arith}
@@ -18,19 +19,13 @@ use Rattle.language.specs.Parser.{then as bind, one as token, expect, set as bra
 use Rattle.language.specs.Lines.{RawSymbol, raw_blank, RawTransition, Text, Item, machine_item, input_item, kind_item, output_item, tapes_item, states_item, final_item, input_alphabet_item, tape_alphabet_item, blank_item, start_item, transition_item, Line, item_line, error_line, state_in, symbol_in, number_in, Spelled, word_in, kinds, outputs, Keyword as Name, machine_word, kind_word, input_word, output_word, tapes_word, states_word, sigma_word, gamma_word, blank_word, start_word, final_word, delta_word, keywords, string, numeral, choice, state, symbol, output as decoder, transition as ruled, item_of as item_by, item as item_at, Ending, line_feed, goes_by, remark, ending_of, last_place, finished, empty_line, line_from, covering}
 use Rattle.parser.specs.Row.{peek}
 use Rattle.parser.specs.Views.{is_kind, is_choice, is_state, is_symbol, keyword_of, lead_of}
-use Rattle.parser.specs.declared.Keyword.{Keyword}
-use Rattle.parser.specs.Lines.{one, set, output, no_parts, on, plain, value, transition, spanning, newline_at, finish, value_at, line_on, line_of, item_of, item_from, item, is_comment, line}
+use Rattle.parser.specs.Lines.{Parsed, Done, Failed, Answer, one, set, output, no_parts, then, plain, value, transition, spanning, newline_at, finish, value_at, item_of, item_from, item, is_comment, line}
 use Rattle.parser.specs.Meaning.{token_of, at, between, seen, text_of, decoder_at, item_means, remark_of, own_comment, line_means, CountedAs, LineCounted, Closed}
 use Rattle.tokens.specs.declared.Token.{Token as Words}
-use Rattle.parser.specs.declared.Parsed.{Parsed}
-use Rattle.parser.specs.declared.Parsed.TheVariants.{Done, Failed}
 use Rattle.parser.specs.declared.Parts.{Parts}
-use Rattle.parser.specs.declared.Value.{Value}
-use Rattle.parser.specs.declared.Value.TheVariants.{Done as Ended, Failed as Broken}
 use Rattle.parser.specs.declared.ItemKind.{ItemKind}
 use Rattle.parser.specs.declared.ItemKind.TheVariants.{Machine, Kind as KindOf, Input, Output, Tapes, States, InputAlphabet, TapeAlphabet, Blank, Start, Final, Transition}
 use Rattle.parser.specs.declared.Item.{Item as Found}
-use Rattle.parser.specs.declared.Line.{Line as Parse}
 use Rattle.parser.proofs.Tables.{true_false}
 use Rattle.parser.proofs.Views.{is_some, sign_rule, unnamed_number, names-eq, code_view}
 use Rattle.parser.proofs.Keywords.{kind_of, start_of, keyword_view}
@@ -93,7 +88,7 @@ note_of goes_by p = none
 note_of (remark s) p = some (record { value = s; place = p })
 
 -- a line over the row means a line of the language
-pub record Means (ts : List (Token Span)) (x : Parse) (y : Line Span) : Type 0 where
+pub record Means (ts : List (Token Span)) (x : Answer) (y : Line Span) : Type 0 where
   pub same : line_means ts x ≡ y
   pub counted : LineCounted ts x
 
@@ -178,29 +173,29 @@ module _ (ts : List (Token Span)) (junk : List Words) (z : Token Span) (more : L
             })
 
     -- one part of a line behind another
-    line_on-means : {A : Type 0} (M : List (Token Span) → A → Type 0) (count : A → ℕ) (i : ℕ) (l : List (Token Span)) → Here i l → (x : Parsed) (y : Result Span A) → Fits i l M count x y
-        → (k : ℕ → ℕ → Parse) (K : A → Parser Span (Item Span))
+    line_on-means : {A : Type 0} (M : List (Token Span) → A → Type 0) (count : A → ℕ) (i : ℕ) (l : List (Token Span)) → Here i l → (x : Parsed ℕ) (y : Result Span A) → Fits i l M count x y
+        → (k : ℕ → ℕ → Answer) (K : A → Parser Span (Item Span))
         → ((f r : List (Token Span)) (a : A) → l ≡ f ++ r → M f a → Here (i + length f) r → Means ts (k (i + length f) (count a)) (finished whole note (K a r)))
-        → Means ts (line_on x k) (finished whole note (bind y K))
-    unfolding line_on bind finished line_means
-    line_on-means M count i l here (Failed c s) (fail d q) h k K go = record { same = rw (h.0, h.1); counted = tt }
-    line_on-means M count i l here (Failed c s) (ok a r) h k K go = absurd h
+        → Means ts (then x k) (finished whole note (bind y K))
+    unfolding then bind finished line_means
+    line_on-means M count i l here (Err bad) (fail d q) h k K go = record { same = rw (h.0, h.1); counted = tt }
+    line_on-means M count i l here (Err bad) (ok a r) h k K go = absurd h
     line_on-means M count i l here (Done j m) (fail d q) h k K go = absurd h
     line_on-means M count i l here (Done j m) (ok a r) (f, e, q, n, w) k K go =
         rw (n, q) (go f r a e w (at-behind ts junk z more i l f r here e))
 
-    lines-plain : (x : Parsed) (F : ℕ → Parts → Parse) → line_of (plain x) F ≡ line_on x (λ j _. F j no_parts)
-    unfolding line_of plain on line_on
+    lines-plain : (x : Parsed ℕ) (F : ℕ → Parts → Answer) → then (plain x) F ≡ then x (λ j _. F j no_parts)
+    unfolding then plain
     lines-plain (Done j n) F = refl
-    lines-plain (Failed c s) F = refl
+    lines-plain (Err bad) F = refl
 
     -- a declaration whose value is read by x over the row, from the index v on, behind the tokens g
     plain-means : {A : Type 0} (k : ItemKind) (M : List (Token Span) → A → Type 0) (count : A → ℕ) (v : ℕ) (g l : List (Token Span)) → Here v l → t₀ ∷ l₀ ≡ g ++ l → v ≡ i₀ + length g
-        → (x : Parsed) (y : Result Span A) → Fits v l M count x y → (F : A → Item Span)
+        → (x : Parsed ℕ) (y : Result Span A) → Fits v l M count x y → (F : A → Item Span)
         → ((f r : List (Token Span)) (a : A) → l ≡ f ++ r → M f a → F a ≡ item_means ts k v (v + length f) no_parts) → ((x : Found) → x.kind ≡ k → CountedAs ts x.kind x)
-        → Means ts (line_of (plain x) (λ j q. finish k ws i₀ v j q)) (finished whole note (bind y λ a. give (F a)))
+        → Means ts (then (plain x) (λ j q. finish k ws i₀ v j q)) (finished whole note (bind y λ a. give (F a)))
     plain-means k M count v g l here e d x y fits F m c =
-        subst (λ (u : Parse). Means ts u (finished whole note (bind y λ a. give (F a)))) (sym (lines-plain x (λ j q. finish k ws i₀ v j q)))
+        subst (λ (u : Answer). Means ts u (finished whole note (bind y λ a. give (F a)))) (sym (lines-plain x (λ j q. finish k ws i₀ v j q)))
         (line_on-means M count v l here x y fits (λ j _. finish k ws i₀ v j no_parts) (λ a. give (F a)) λ f r a e₁ w at₁.
         finish-means k v (v + length f) no_parts (g ++ f) r (F a) (e ∙ ap (λ (x : List (Token Span)). g ++ x) e₁ ∙ sym (append_assoc g f r)) (omega (arith, length-append g f)) (m f r a e₁ w)
         (λ x p q s. c x p))
@@ -220,30 +215,30 @@ module _ (ts : List (Token Span)) (junk : List Words) (z : Token Span) (more : L
     here₁ = at-behind ts junk z more i₀ (t₀ ∷ l₀) (t₀ ∷ []) l₀ row₀ refl
 
     -- a declaration by its value's parsers: behind the keyword, and behind `=`
-    module _ {A : Type 0} (k : ItemKind) (M : List (Token Span) → A → Type 0) (count : A → ℕ) (p : ℕ → Parsed) (P : Parser Span A) (F : A → Item Span)
+    module _ {A : Type 0} (k : ItemKind) (M : List (Token Span) → A → Type 0) (count : A → ℕ) (p : ℕ → Parsed ℕ) (P : Parser Span A) (F : A → Item Span)
         (fits : (v : ℕ) (l : List (Token Span)) → Here v l → Fits v l M count (p v) (P l))
         (means : (v : ℕ) (l f r : List (Token Span)) (a : A) → Here v l → l ≡ f ++ r → M f a → F a ≡ item_means ts k v (v + length f) no_parts)
         (counts : (x : Found) → x.kind ≡ k → CountedAs ts x.kind x) where
-      bare-means : Means ts (line_of (plain (p (i₀ + 1))) (λ j q. finish k ws i₀ (i₀ + 1) j q)) (finished whole note (bind (P l₀) λ a. give (F a)))
+      bare-means : Means ts (then (plain (p (i₀ + 1))) (λ j q. finish k ws i₀ (i₀ + 1) j q)) (finished whole note (bind (P l₀) λ a. give (F a)))
       bare-means =
           plain-means k M count (i₀ + 1) (t₀ ∷ []) l₀ here₁ refl refl (p (i₀ + 1)) (P l₀) (fits (i₀ + 1) l₀ here₁) F (λ f r a e w. means (i₀ + 1) l₀ f r a here₁ e w) counts
 
-      equals-means : Means ts (line_on (one (is_kind 9) ws (i₀ + 1)) λ v _. line_of (plain (p v)) (λ j q. finish k ws i₀ v j q)) (finished whole note (bind (expect z.place 0x3D l₀) λ _ r. bind (P r) λ a. give (F a)))
+      equals-means : Means ts (then (one (is_kind 9) ws (i₀ + 1)) λ v _. then (plain (p v)) (λ j q. finish k ws i₀ v j q)) (finished whole note (bind (expect z.place 0x3D l₀) λ _ r. bind (P r) λ a. give (F a)))
       equals-means =
           line_on-means (One (is_sign 0x3D)) once (i₀ + 1) l₀ here₁ (one (is_kind 9) ws (i₀ + 1)) (expect z.place 0x3D l₀) (sign_fits ts junk z more ends 0x3D 9 names-eq (i₀ + 1) l₀ here₁)
-          (λ v _. line_of (plain (p v)) (λ j q. finish k ws i₀ v j q)) (λ _ r. bind (P r) λ a. give (F a)) λ f₁ r₁ a₁ e₁ o₁ at₁.
+          (λ v _. then (plain (p v)) (λ j q. finish k ws i₀ v j q)) (λ _ r. bind (P r) λ a. give (F a)) λ f₁ r₁ a₁ e₁ o₁ at₁.
           plain-means k M count (i₀ + 1 + length f₁) (t₀ ∷ f₁) r₁ at₁ (ap (λ (x : List (Token Span)). t₀ ∷ x) e₁) (omega arith) (p (i₀ + 1 + length f₁)) (P r₁)
           (fits (i₀ + 1 + length f₁) r₁ at₁) F (λ f r a e w. means (i₀ + 1 + length f₁) r₁ f r a at₁ e w) counts
 
-    transition-means : kind_number t₀.kind ≡ 0 → Means ts (line_of (transition ws i₀) (λ j q. finish Transition ws i₀ i₀ j q)) (finished whole note (bind (ruled z.place l₀) λ r. give (transition_item r)))
-    unfolding bind line_of finished line_means item_means
+    transition-means : kind_number t₀.kind ≡ 0 → Means ts (then (transition ws i₀) (λ j q. finish Transition ws i₀ i₀ j q)) (finished whole note (bind (ruled z.place l₀) λ r. give (transition_item r)))
+    unfolding bind then finished line_means item_means
     transition-means w = go (transition ws i₀) (ruled z.place l₀) (transition_gives ts junk z more ends i₀ t₀ l₀ row₀ w)
       where
-        go : (x : Value) (y : Result Span (RawTransition Span)) → Gives (i₀ + 1) l₀ (Ruled ts) x y → Means ts (line_of x (λ j q. finish Transition ws i₀ i₀ j q)) (finished whole note (bind y λ r. give (transition_item r)))
-        go (Broken c s) (fail d q) h = record { same = rw (h.0, h.1); counted = tt }
-        go (Broken c s) (ok a r) h = absurd h
-        go (Ended j m) (fail d q) h = absurd h
-        go (Ended j q) (ok b r) (f, e, d, m) =
+        go : (x : Parsed Parts) (y : Result Span (RawTransition Span)) → Gives (i₀ + 1) l₀ (Ruled ts) x y → Means ts (then x (λ j q. finish Transition ws i₀ i₀ j q)) (finished whole note (bind y λ r. give (transition_item r)))
+        go (Err bad) (fail d q) h = record { same = rw (h.0, h.1); counted = tt }
+        go (Err bad) (ok a r) h = absurd h
+        go (Done j m) (fail d q) h = absurd h
+        go (Done j q) (ok b r) (f, e, d, m) =
             finish-means Transition i₀ j q (t₀ ∷ f) r (transition_item b) (ap (λ (x : List (Token Span)). t₀ ∷ x) e) (omega arith) (ap transition_item m.same)
             (λ x p₁ p₂ p₃.
             subst (λ (y : ItemKind). CountedAs ts y x) (sym p₁) (record {
@@ -254,7 +249,7 @@ module _ (ts : List (Token Span)) (junk : List Words) (z : Token Span) (more : L
 
     -- an item by its keyword
     item_of-means : (n : Name) → kind_number t₀.kind ≡ 0 → Means ts (item_of (kind_of n) ws i₀) (finished whole note (item_by z.place n l₀))
-    unfolding item_of line_on lead_of value_at value item_by ◌>>=◌ item_means bind
+    unfolding item_of then lead_of value_at value item_by ◌>>=◌ item_means bind
     item_of-means machine_word w =
         bare-means Machine Texts once (λ v. one (is_kind 3) ws v) (string z.place) machine_item (string_fits ts junk z more ends)
         (λ v l f r a here e o. ap machine_item (text_means v l f r a here e o)) (λ x p. subst (λ (y : ItemKind). CountedAs ts y x) (sym p) tt)
@@ -297,7 +292,7 @@ module _ (ts : List (Token Span)) (junk : List Words) (z : Token Span) (more : L
     item_means_lem =
         let p : peek ws i₀ ≡ token_of t₀ = (at_first ts junk z more i₀ t₀ l₀ row₀).1 in
         let e : keyword_of (peek ws i₀) ≡ start_of (word_in keywords t₀.kind) = ap keyword_of p ∙ keyword_view t₀.kind t₀.place t₀.inner row₀.sound.0 in
-        subst (λ (x : Keyword). Means ts (item_from x ws i₀) (finished whole note (bind (taken (word_in keywords t₀.kind) unexpected t₀ l₀) λ n. item_by z.place n.value))) (sym e)
+        subst (λ (x : Optional ItemKind). Means ts (item_from x ws i₀) (finished whole note (bind (taken (word_in keywords t₀.kind) unexpected t₀ l₀) λ n. item_by z.place n.value))) (sym e)
         (go (word_in keywords t₀.kind) refl)
       where
         go : (o : Option Name) → word_in keywords t₀.kind ≡ o → Means ts (item_from (start_of o) ws i₀) (finished whole note (bind (taken o unexpected t₀ l₀) λ n. item_by z.place n.value))

@@ -1,4 +1,5 @@
 -- The words with a meaning: the values of their tokens are those of the tables of the language.
+use Rattle.std.specs.Prelude.{None, Option as Optional, Some}
 use mathlib.Core.Path.{◌≡◌, refl, sym, ap, ◌∙◌}
 use Prim.Native.Nat.{ℕ, suc, ◌+◌}
 use native.Mathlib.Omega.{arith}
@@ -17,8 +18,6 @@ use Rattle.parser.specs.Views.{Row as Start, row as start, is_choice, lookup, st
 use Rattle.parser.specs.Meaning.{token_of, SoundAs}
 use Rattle.parser.specs.declared.ItemKind.{ItemKind}
 use Rattle.parser.specs.declared.ItemKind.TheVariants.{Machine, Kind as KindOf, Input, Output, Tapes, States, InputAlphabet, TapeAlphabet, Blank, Start as StartOf, Final, Transition}
-use Rattle.parser.specs.declared.Keyword.{Keyword}
-use Rattle.parser.specs.declared.Keyword.TheVariants.{Starts, Other}
 use Rattle.parser.proofs.Tables.{Row, row, find, Codes, member, known, valued, table_rule}
 use Rattle.parser.proofs.Views.{is_some, tok, Sees, sign_rule, unnamed_number}
 
@@ -119,9 +118,9 @@ kind_of start_word = StartOf
 kind_of final_word = Final
 kind_of delta_word = Transition
 
-abbrev pub start_of : Option Name → Keyword
-start_of none = Other
-start_of (some k) = Starts (kind_of k)
+abbrev pub start_of : Option Name → Optional ItemKind
+start_of none = None
+start_of (some k) = Some (kind_of k)
 
 abbrev start_rows : List (Row Name)
 start_rows =
@@ -152,7 +151,7 @@ keyword_view (number w) p q s = refl
 keyword_view (quoted c) p q s = refl
 keyword_view (str t) p q s = refl
 keyword_view (sign c) p q s =
-    sign_rule (λ d. keyword_of (token_of (tok (sign d) p q))) (λ d. Other) refl refl refl refl refl refl refl (λ d u. rw (unnamed_number d u)) c
+    sign_rule (λ d. keyword_of (token_of (tok (sign d) p q))) (λ d. None) refl refl refl refl refl refl refl (λ d u. rw (unnamed_number d u)) c
 keyword_view (comment t) p q s = refl
 keyword_view newline p q s = refl
 keyword_view unterminated_string p q s = refl

@@ -1,4 +1,5 @@
 -- Laws of the row and of what is asked of one token, for the proofs of this crate and of those above it.
+use Rattle.std.specs.Prelude.{None, Option, Some}
 use mathlib.Core.Path.{◌≡◌, refl, sym, ap, ◌∙◌}
 use Prim.Native.Nat.{ℕ, zero, suc, ◌+◌, ◌-◌, ◌*◌, ◌/◌, ◌≤◌, ◌<◌}
 use native.Mathlib.Omega.{arith}
@@ -12,7 +13,6 @@ use Rattle.tokens.specs.View.{token_in}
 use Rattle.parser.specs.Row.{tokens_in, ended, peek}
 use Rattle.parser.specs.Views.{keyword_of, lookup, starts, lead_of}
 use Rattle.parser.specs.declared.ItemKind.{ItemKind}
-use Rattle.parser.specs.declared.Keyword.{Keyword}
 use Rattle.parser.specs.declared.Lead.{Lead}
 use Rattle.tokens.specs.declared.Token.{Token}
 
@@ -61,9 +61,9 @@ inside f ts i e p = go (dec_lt i (length ts))
     go (no q) = let z : true ≡ false = sym p ∙ ap f (get_or-eq_default ts ended (omega arith)) ∙ e in absurd (false_true z)
 
 -- ---- the word that starts an item
-pub keyword-at : (n : ℕ) (r : Keyword) (t : Token) → t.kind ≡ 0 → t.value ≡ n → r ≡ lookup starts n → r ≡ keyword_of t
+pub keyword_at : (n : ℕ) (r : Option ItemKind) (t : Token) → t.kind ≡ 0 → t.value ≡ n → r ≡ lookup starts n → r ≡ keyword_of t
 unfolding keyword_of lookup
-keyword-at n r t a b e = rw (a, b) e
+keyword_at n r t a b e = rw (a, b) e
 
 pub lead_at : (k x : ItemKind) (r : Lead) → k ≡ x → r ≡ lead_of x → r ≡ lead_of k
 lead_at k x r p q = q ∙ ap lead_of (sym p)

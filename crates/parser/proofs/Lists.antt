@@ -1,4 +1,6 @@
 -- Laws of the lists of entries: an element reads at least one token of the row, so a list's definition goes on at the next entry.
+use Rattle.std.specs.Prelude.{Err, Result, IsErrAnd}
+use Rattle.std.proofs.lemmas.Result.{err_from_is_err_and}
 use mathlib.Core.Path.{◌≡◌, refl, sym, ap, subst, ◌∙◌}
 use Prim.Native.Nat.{ℕ, zero, suc, ◌+◌, ◌-◌, ◌≤◌, ◌<◌, ◌^◌}
 use native.Mathlib.Omega.{arith}
@@ -12,21 +14,13 @@ use borrow.Author.Rules.{rules}
 use borrow.Author.Tests.{eq-eqb, ne_eqb}
 use Rattle.parser.specs.Row.{tokens_in, ended, peek}
 use Rattle.parser.specs.Views.{is_kind, is_state, is_symbol, is_write, is_direction, is_text}
-use Rattle.parser.specs.Lines.{Parser, then, unexpected, one, direction, separator, entries_from, entries, read_entry}
+use Rattle.parser.specs.Lines.{Parsed, Done, Failed, Parser, then, unexpected, one, direction, separator, entries_from, entries, read_entry}
+pub use Rattle.parser.specs.Calls.{Within, Steps}
 use Rattle.tokens.specs.declared.Token.{Token}
+use Rattle.parser.specs.declared.Failure.{Failure}
 use Rattle.lexer.specs.declared.Span.{Span}
-use Rattle.parser.specs.declared.Parsed.{Parsed}
-use Rattle.parser.specs.declared.Parsed.TheVariants.{Done, Failed}
 use Rattle.parser.proofs.Laws.{length-tokens, inside}
 use Rattle.parser.proofs.Single.{kind-ended, sign_fits}
-
--- ---- a parser that succeeds ends behind where it began, in the row
-abbrev pub Within : List Token → ℕ → Parsed → Type 0
-Within ts i (Done j n) = (i < j) × (j ≤ length ts)
-Within ts i (Failed c s) = Unit {0}
-
-pub record Steps (p : Parser) : Type 0 where
-  pub within : (ts : List Token) (i : ℕ) → Within ts i (p ts i)
 
 -- what a test makes of two answers
 pub on_test : {A : Type 0} (P : A → Type 0) (b : Bool) {x y : A} → (b ≡ true → P x) → (b ≡ false → P y) → P (cond b x y)
@@ -53,38 +47,38 @@ separator_steps close l = record {
       (λ n. on_test (Within ts i) (eqb (peek ts i).kind close) (λ y. let h = inside (is_kind close) ts i (kind-ended close l) y in (omega arith, omega arith)) (λ n. tt));
 }
 
-pub then_steps : (ts : List Token) (i : ℕ) (r : Parsed) (f : ℕ → ℕ → Parsed) → Within ts i r → ((j n : ℕ) → i < j → j ≤ length ts → Within ts i (f j n)) → Within ts i (then r f)
+pub then_steps : (ts : List Token) (i : ℕ) (r : Parsed ℕ) (f : ℕ → ℕ → Parsed ℕ) → Within ts i r → ((j n : ℕ) → i < j → j ≤ length ts → Within ts i (f j n)) → Within ts i (then r f)
 unfolding then
 then_steps ts i (Done j n) f w k = k j n w.0 w.1
-then_steps ts i (Failed c s) f w k = tt
+then_steps ts i (Err bad) f w k = tt
 
-pub further : (ts : List Token) (i j : ℕ) (r : Parsed) → i ≤ j → Within ts j r → Within ts i r
+pub further : (ts : List Token) (i j : ℕ) (r : Parsed ℕ) → i ≤ j → Within ts j r → Within ts i r
 further ts i j (Done k n) l w = (omega arith, w.1)
-further ts i j (Failed c s) l w = tt
+further ts i j (Err bad) l w = tt
 
 -- ---- the entries of a list, one at a time
 module _ (p : Parser) (steps : Steps p) (close : ℕ) (low : close < 13) (ts : List Token) where
   -- the next entry, where `go` gives the rest
-  abbrev pub turn : (ℕ → ℕ → Parsed) → ℕ → ℕ → Parsed
+  abbrev pub turn : (ℕ → ℕ → Parsed ℕ) → ℕ → ℕ → Parsed ℕ
   turn go i n = then (p ts i) λ j _. then (separator close ts j) λ next more. elim (eqb more 0) [ true ↦ Done next (n + 1) | false ↦ go next (n + 1) ]
 
-  turn-same : (go go' : ℕ → ℕ → Parsed) (i n : ℕ) → ((next : ℕ) → i + 2 ≤ next → next ≤ length ts → go next (n + 1) ≡ go' next (n + 1)) → turn go i n ≡ turn go' i n
+  turn-same : (go go' : ℕ → ℕ → Parsed ℕ) (i n : ℕ) → ((next : ℕ) → i + 2 ≤ next → next ≤ length ts → go next (n + 1) ≡ go' next (n + 1)) → turn go i n ≡ turn go' i n
   unfolding then
   turn-same go go' i n same = on-first (p ts i) (steps.within ts i)
     where
-      on_second : (j : ℕ) (r : Parsed) → i < j → Within ts j r
+      on_second : (j : ℕ) (r : Parsed ℕ) → i < j → Within ts j r
           → then r (λ next more. elim (eqb more 0) [ true ↦ Done next (n + 1) | false ↦ go next (n + 1) ])
           ≡ then r (λ next more. elim (eqb more 0) [ true ↦ Done next (n + 1) | false ↦ go' next (n + 1) ])
-      on_second j (Failed c s) l w = refl
+      on_second j (Err bad) l w = refl
       on_second j (Done next more) l w =
           elim (eqb more 0) as (λ (b : Bool).
-          ◌≡◌ {A = Parsed} (elim b [ true ↦ Done next (n + 1) | false ↦ go next (n + 1) ]) (elim b [ true ↦ Done next (n + 1) | false ↦ go' next (n + 1) ]))
+          ◌≡◌ {A = Parsed ℕ} (elim b [ true ↦ Done next (n + 1) | false ↦ go next (n + 1) ]) (elim b [ true ↦ Done next (n + 1) | false ↦ go' next (n + 1) ]))
           [ true ↦ refl | false ↦ same next (omega arith) w.1 ]
 
-      on-first : (r : Parsed) → Within ts i r
+      on-first : (r : Parsed ℕ) → Within ts i r
           → then r (λ j _. then (separator close ts j) λ next more. elim (eqb more 0) [ true ↦ Done next (n + 1) | false ↦ go next (n + 1) ])
           ≡ then r (λ j _. then (separator close ts j) λ next more. elim (eqb more 0) [ true ↦ Done next (n + 1) | false ↦ go' next (n + 1) ])
-      on-first (Failed c s) w = refl
+      on-first (Err bad) w = refl
       on-first (Done j m) w = on_second j (separator close ts j) w.0 ((separator_steps close low).within ts j)
 
   -- the bound does not matter where it is enough
@@ -121,23 +115,23 @@ module _ (p : Parser) (steps : Steps p) (close : ℕ) (low : close < 13) (ts : L
   entries-within i n = from_within (suc (length ts)) i n
 
 -- ---- the loop over the entries: those from the index i on, where n stand before, give what the whole gives
-module _ (p : Parser) (close : ℕ) (w : List ℕ) (i n : ℕ) (v : Parsed) (inv : entries p close (tokens_in w) i n ≡ v) (steps : Steps p) (low : close < 13) where
-  module _ (r : Parsed) (e : r ≡ p (tokens_in w) i) where
+module _ (p : Parser) (close : ℕ) (w : List ℕ) (i n : ℕ) (v : Parsed ℕ) (inv : entries p close (tokens_in w) i n ≡ v) (steps : Steps p) (low : close < 13) where
+  module _ (r : Parsed ℕ) (e : r ≡ p (tokens_in w) i) where
     entries-on : turn p steps close low (tokens_in w) (λ i n. entries p close (tokens_in w) i n) i n ≡ v
     entries-on = sym (entries-turn p steps close low (tokens_in w) i n) ∙ inv
 
-    pub entry_failed : (c : ℕ) (s : Span) → r ≡ Failed c s → r ≡ v
+    pub entry_failed : (bad : Failure) → r ≡ Err bad → Err bad ≡ v
     unfolding then
-    entry_failed c s d = let q : p (tokens_in w) i ≡ Failed c s = sym e ∙ d in d ∙ (rw q at entries-on)
+    entry_failed bad d = let q : p (tokens_in w) i ≡ Err bad = sym e ∙ d in rw q at entries-on
 
-    module _ (j m : ℕ) (d : r ≡ Done j m) (s : Parsed) (f : s ≡ separator close (tokens_in w) j) where
+    module _ (j m : ℕ) (d : r ≡ Done j m) (s : Parsed ℕ) (f : s ≡ separator close (tokens_in w) j) where
       entry_on : then (separator close (tokens_in w) j) (λ next more. elim (eqb more 0) [ true ↦ Done next (n + 1) | false ↦ entries p close (tokens_in w) next (n + 1) ]) ≡ v
       unfolding then
       entry_on = let q : p (tokens_in w) i ≡ Done j m = sym e ∙ d in rw q at entries-on
 
-      pub list-failed : (c : ℕ) (x : Span) → s ≡ Failed c x → s ≡ v
+      pub list-failed : (bad : Failure) → s ≡ Err bad → Err bad ≡ v
       unfolding then
-      list-failed c x g = let q : separator close (tokens_in w) j ≡ Failed c x = sym f ∙ g in g ∙ (rw q at entry_on)
+      list-failed bad g = let q : separator close (tokens_in w) j ≡ Err bad = sym f ∙ g in rw q at entry_on
 
       module _ (next more : ℕ) (g : s ≡ Done next more) where
         pub list_last : more ≡ 0 → Done next (n + 1) ≡ v
@@ -195,16 +189,11 @@ read_steps = record {
 pub ruleset lists =
     (rules, entry_failed, list-failed, list_last, list_again, list_falls, list_few, list_fits, state_steps, symbol_steps, read_steps, write_steps, direction_steps)
 
--- ---- parsers in a row, and tests of the token at an index
-module _ (x r : Parsed) (e : r ≡ x) (k : ℕ → ℕ → Parsed) where
-  pub then-failed : (c : ℕ) (s : Span) → r ≡ Failed c s → r ≡ then x k
-  unfolding then
-  then-failed c s d = let q : x ≡ Failed c s = sym e ∙ d in rw q d
+-- ---- where a `?` hands a failure on
+pub handed : {B : Type 0} (out v : Result B Failure) (bad : Failure) → IsErrAnd out (λ y. y ≡ bad) → Err bad ≡ v → out ≡ v
+handed out v bad h e = let p = err_from_is_err_and out h in p.1 ∙ ap Err p.2 ∙ e
 
-  pub then_done : (j m : ℕ) (v : Parsed) → r ≡ Done j m → v ≡ k j m → v ≡ then x k
-  unfolding then
-  then_done j m v d f = let q : x ≡ Done j m = sym e ∙ d in rw q f
-
+-- ---- tests of the token at an index
 module _ {A : Type 0} (ts : List Token) (i n : ℕ) (t : Token) (at : t ≡ peek ts i) (v x y : A) where
   pub kind_is : t.kind ≡ n → v ≡ x → v ≡ cond (eqb (peek ts i).kind n) x y
   kind_is e f = rw (← at, eq-eqb t.kind n e) f
@@ -218,4 +207,4 @@ module _ {A : Type 0} (ts : List Token) (i n : ℕ) (t : Token) (at : t ≡ peek
   pub value_not : (t.value ≡ n → ⊥) → v ≡ y → v ≡ cond (eqb (peek ts i).value n) x y
   value_not e f = rw (← at, ne_eqb t.value n e) f
 
-pub ruleset chain = (rules, then-failed, then_done, kind_is, kind-not, value_is, value_not, sign_fits)
+pub ruleset chain = (rules, kind_is, kind-not, value_is, value_not, sign_fits)

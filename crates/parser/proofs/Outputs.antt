@@ -16,11 +16,9 @@ use Rattle.language.specs.Parser.{then as bind}
 use Rattle.language.specs.Lines.{RawSymbol, raw_blank, RawDecoder, raw_word, raw_unary, raw_binary, symbol_in, word_in, outputs, orders, OutputWord, word_output, unary_output, binary_output, choice, symbol, output as decoder}
 use Rattle.parser.specs.Row.{peek}
 use Rattle.parser.specs.Views.{is_choice, is_symbol}
-use Rattle.parser.specs.Lines.{one, output}
+use Rattle.parser.specs.Lines.{Parsed, Done, one, output}
 use Rattle.parser.specs.Meaning.{token_of, at, located, decoder_at, SoundAs}
 use Rattle.tokens.specs.declared.Token.{Token as Words}
-use Rattle.parser.specs.declared.Parsed.{Parsed}
-use Rattle.parser.specs.declared.Parsed.TheVariants.{Done}
 use Rattle.parser.proofs.Tables.{true_false, find}
 use Rattle.parser.proofs.Views.{is_some}
 use Rattle.parser.proofs.Keywords.{codes_of_lem, output_rows, output-rule}
@@ -66,7 +64,7 @@ module _ (ts : List (Token Span)) (junk : List Words) (z : Token Span) (more : L
   Here = At ts junk z more
 
   -- what follows the word
-  abbrev rest : ℕ → ℕ → Parsed
+  abbrev rest : ℕ → ℕ → Parsed ℕ
   rest v j = cond (eqb v 0x110015) (one is_symbol ws j) (cond (eqb v 0x110016) (one (is_choice 0x110017 0x110018) ws j) (Done j 1))
 
   -- what an output's word and the token behind it say

@@ -10,10 +10,8 @@ use lib.Dec.{eqb}
 use lib.ListN.{length}
 use Rattle.parser.specs.Row.{tokens_in, peek}
 use Rattle.parser.specs.Views.{is_symbol, is_pair, Pairs}
-use Rattle.parser.specs.Lines.{unexpected, one, separator, entries}
+use Rattle.parser.specs.Lines.{Parsed, Done, unexpected, one, separator, entries}
 use Rattle.tokens.specs.declared.Token.{Token}
-use Rattle.parser.specs.declared.Parsed.{Parsed}
-use Rattle.parser.specs.declared.Parsed.TheVariants.{Done}
 use Rattle.parser.proofs.Laws.{length-tokens}
 use Rattle.parser.proofs.Lists.{symbol_steps, list_again}
 

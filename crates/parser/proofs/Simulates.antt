@@ -1,4 +1,5 @@
 -- Each parser over the row does what the language's parser does on the tokens from the index on, up to what ends the line's tokens.
+use Rattle.std.specs.Prelude.{Err}
 use mathlib.Core.Path.{◌≡◌, refl, sym, ap, subst, ◌∙◌}
 use Prim.Native.Nat.{ℕ, zero, suc, ◌+◌, ◌-◌, ◌≤◌, ◌<◌}
 use native.Mathlib.Omega.{arith}
@@ -18,11 +19,9 @@ use Rattle.language.specs.Lines.{goes_by, ending_of}
 use Rattle.language.proofs.Every.{by_test, Every}
 use Rattle.parser.specs.Row.{peek}
 use Rattle.parser.specs.Views.{span_of, is_kind, is_direction, is_text}
-use Rattle.parser.specs.Lines.{then, code_of, unexpected as refused, one, direction, separator, entries, set, tuple}
+use Rattle.parser.specs.Lines.{Parsed, Done, Failed, then, code_of, unexpected as refused, one, direction, separator, entries, set, tuple}
 use Rattle.parser.specs.Meaning.{token_of, nothing, at, between, SoundAs, Sound}
 use Rattle.tokens.specs.declared.Token.{Token as Words}
-use Rattle.parser.specs.declared.Parsed.{Parsed}
-use Rattle.parser.specs.declared.Parsed.TheVariants.{Done, Failed}
 use Rattle.parser.proofs.Lists.{Within, Steps, turn, entries-turn}
 use Rattle.parser.proofs.Tables.{true_false}
 use Rattle.parser.proofs.Views.{is_some, tok, Names, names-comma, names_l_paren, names_r_paren, names_l_brace, names_r_brace, Sees, sees_sign, code_view}
@@ -32,15 +31,15 @@ abbrev pub Stops : TokenKind → Type 0
 Stops k = (k ≡ newline) ⊎ ((s : List ℕ) × (k ≡ comment s))
 
 -- a parser's answer over the row from the index i on, and one on the tokens l: `Means front value` is what a value says of the tokens that it took
-abbrev pub Fits : {A : Type 0} → ℕ → List (Token Span) → (List (Token Span) → A → Type 0) → (A → ℕ) → Parsed → Result Span A → Type 0
+abbrev pub Fits : {A : Type 0} → ℕ → List (Token Span) → (List (Token Span) → A → Type 0) → (A → ℕ) → Parsed ℕ → Result Span A → Type 0
 Fits i l Means count (Done j n) (ok a r) = (f : List (Token Span)) × (l ≡ f ++ r) × (j ≡ i + length f) × (n ≡ count a) × Means f a
 Fits i l Means count (Done j n) (fail c p) = ⊥
-Fits i l Means count (Failed c s) (ok a r) = ⊥
-Fits i l Means count (Failed c s) (fail d p) = (c ≡ d) × (s ≡ p)
+Fits i l Means count (Err bad) (ok a r) = ⊥
+Fits i l Means count (Err bad) (fail d p) = (bad.code ≡ d) × (bad.span ≡ p)
 
 -- ---- one token
 -- a parser that goes by a test of the token, with the code where it fails
-pub record Tests (p : List Words → ℕ → Parsed) (f : Words → Bool) (code : Words → ℕ) : Type 0 where
+pub record Tests (p : List Words → ℕ → Parsed ℕ) (f : Words → Bool) (code : Words → ℕ) : Type 0 where
   pub tests : (ws : List Words) (i : ℕ) → p ws i ≡ cond (f (peek ws i)) (Done (i + 1) 1) (Failed (code (peek ws i)) (span_of (peek ws i)))
 
 -- a view that takes nothing that ends a line's tokens, with the code there
@@ -78,7 +77,7 @@ unfolding direction refused
 direction_tests = record { tests = λ ws i. go (is_direction (peek ws i)) (is_text (peek ws i)) i (peek ws i) }
   where
     go : (a b : Bool) (i : ℕ) (t : Words)
-        → cond a (Done (i + 1) 1) (cond b (Failed 8 (span_of t)) (Failed (code_of t) (span_of t))) ≡ cond a (Done (i + 1) 1) (Failed (cond b 8 (code_of t)) (span_of t))
+        → cond a (Done {A = ℕ} (i + 1) 1) (cond b (Failed 8 (span_of t)) (Failed (code_of t) (span_of t))) ≡ cond a (Done {A = ℕ} (i + 1) 1) (Failed (cond b 8 (code_of t)) (span_of t))
     go true b i t = refl
     go false true i t = refl
     go false false i t = refl
@@ -195,7 +194,7 @@ module _ (ts : List (Token Span)) (junk : List Words) (z : Token Span) (more : L
       rw q (ap (take (length f)) (a.here ∙ ap (λ (x : List (Token Span)). x ++ (z ∷ more)) e ∙ append_assoc f r (z ∷ more)) ∙ take-append_seam f (r ++ (z ∷ more)))
 
   module _ (ends : Stops z.kind) where
-    module _ {A : Type 0} (p : List Words → ℕ → Parsed) (f : Words → Bool) (code : Words → ℕ) (view : TokenKind → Option A) (bad : TokenKind → ℕ)
+    module _ {A : Type 0} (p : List Words → ℕ → Parsed ℕ) (f : Words → Bool) (code : Words → ℕ) (view : TokenKind → Option A) (bad : TokenKind → ℕ)
         (goes : Tests p f code) (sees : Sees f view) (codes : (k : TokenKind) (p q : Span) → code (token_of (tok k p q)) ≡ bad k) (quiet : Quiet view bad) where
       -- the answer over the row, by the view
       answer : (i : ℕ) (t : Token Span) → peek row i ≡ token_of t → Sound t → p row i ≡ cond (is_some (view t.kind)) (Done (i + 1) 1) (Failed (bad t.kind) (span_of (token_of t)))
@@ -212,9 +211,9 @@ module _ (ts : List (Token Span)) (junk : List Words) (z : Token Span) (more : L
           answer i z (at_stop i a).1 (stop_sound z.kind z.place ends)
           ∙ ap (λ (o : Option A). cond (is_some o) (Done (i + 1) 1) (Failed (bad z.kind) (span_of (token_of z)))) q.0
           ∙ ap (λ (c : ℕ). Failed c (span_of (token_of z))) q.1 in
-          subst (λ (x : Parsed). Fits {A = Located Span A} i [] (One view) once x (fail 1 z.place)) (sym e) (refl, refl)
+          subst (λ (x : Parsed ℕ). Fits {A = Located Span A} i [] (One view) once x (fail 1 z.place)) (sym e) (refl, refl)
       token_fits i (t ∷ r) a =
-          subst (λ (x : Parsed). Fits i (t ∷ r) (One view) once x (taken (view t.kind) bad t r)) (sym (answer i t (at_first i t r a).1 a.sound.0)) (go (view t.kind) refl)
+          subst (λ (x : Parsed ℕ). Fits i (t ∷ r) (One view) once x (taken (view t.kind) bad t r)) (sym (answer i t (at_first i t r a).1 a.sound.0)) (go (view t.kind) refl)
         where
           go : (o : Option A) → view t.kind ≡ o → Fits i (t ∷ r) (One view) once (cond (is_some o) (Done (i + 1) 1) (Failed (bad t.kind) (span_of (token_of t)))) (taken o bad t r)
           go none e = (refl, refl)
@@ -241,14 +240,14 @@ module _ (ts : List (Token Span)) (junk : List Words) (z : Token Span) (more : L
       unfolding token taken token_of picked is_sign sign_in unexpected
       separator_fits i [] a =
           let e₀ = parted i z (at_stop i a).1 (stop_sound z.kind z.place ends) in
-          subst (λ (x : Parsed). Fits {A = Located Span Bool} i [] (One (goes_on c)) follows x (fail 1 z.place)) (sym (e₀ ∙ quietly z.kind ends)) (refl, refl)
+          subst (λ (x : Parsed ℕ). Fits {A = Located Span Bool} i [] (One (goes_on c)) follows x (fail 1 z.place)) (sym (e₀ ∙ quietly z.kind ends)) (refl, refl)
         where
           quietly : (k : TokenKind) → Stops k
-              → cond (is_some (is_sign 0x2C k)) (Done (i + 1) 1) (cond (is_some (is_sign c k)) (Done (i + 1) 0) (Failed (unexpected k) (span_of (token_of z)))) ≡ Failed 1 (span_of (token_of z))
+              → cond (is_some (is_sign 0x2C k)) (Done {A = ℕ} (i + 1) 1) (cond (is_some (is_sign c k)) (Done (i + 1) 0) (Failed (unexpected k) (span_of (token_of z)))) ≡ Failed {A = ℕ × ℕ} 1 (span_of (token_of z))
           quietly k (inl e) = rw e
           quietly k (inr (s, e)) = rw e
       separator_fits i (t ∷ r) a =
-          subst (λ (x : Parsed). Fits i (t ∷ r) (One (goes_on c)) follows x (taken (goes_on c t.kind) unexpected t r)) (sym (parted i t (at_first i t r a).1 a.sound.0))
+          subst (λ (x : Parsed ℕ). Fits i (t ∷ r) (One (goes_on c)) follows x (taken (goes_on c t.kind) unexpected t r)) (sym (parted i t (at_first i t r a).1 a.sound.0))
           (go (is_some (is_sign 0x2C t.kind)) (is_some (is_sign c t.kind)) (goes_on c t.kind) refl (goes_on_lem c t.kind))
         where
           go : (a b : Bool) (o : Option Bool) → goes_on c t.kind ≡ o → o ≡ picked a b
@@ -261,7 +260,7 @@ module _ (ts : List (Token Span)) (junk : List Words) (z : Token Span) (more : L
           go false false (some v) e q = none-some v (sym q)
 
     -- ---- entries: R reads them off the tokens, `push` puts one in front of what is read behind it, and Rc is what is read behind the closing sign
-    module _ {A X : Type 0} (p : List Words → ℕ → Parsed) (steps : Steps p) (P : Parser Span A) (E : List (Token Span) → A → Type 0)
+    module _ {A X : Type 0} (p : List Words → ℕ → Parsed ℕ) (steps : Steps p) (P : Parser Span A) (E : List (Token Span) → A → Type 0)
         (fits : (i : ℕ) (l : List (Token Span)) → At i l → Fits i l E once (p row i) (P l)) (stopped : P [] ≡ fail 1 z.place)
         (c close : ℕ) (low : close < 13) (names : Names c close) (R Rc : List (Token Span) → X) (push : A → X → X)
         (pushed : (f g : List (Token Span)) (a : A) → E f a → R (f ++ g) ≡ push a (R g))
@@ -270,7 +269,7 @@ module _ (ts : List (Token Span)) (junk : List Words) (z : Token Span) (more : L
       abbrev pub Listing : List (Token Span) → List A → Type 0
       Listing f l = (g : List (Token Span)) → R (f ++ g) ≡ pushes push l (Rc g)
 
-      turn_fits : (go : ℕ → ℕ → Parsed) (rest : Parser Span (List A)) (i n : ℕ) (l : List (Token Span)) → At i l
+      turn_fits : (go : ℕ → ℕ → Parsed ℕ) (rest : Parser Span (List A)) (i n : ℕ) (l : List (Token Span)) → At i l
           → ((j : ℕ) (r : List (Token Span)) → At j r → length r < length l → Fits j r Listing (λ b. n + 1 + length b) (go j (n + 1)) (rest r))
           → Fits i l Listing (λ b. n + length b) (turn p steps close low row go i n) (bind (P l) λ a r. bind (token z.place (goes_on c) unexpected r) λ b. go_on b.value rest a)
       unfolding then bind go_on ◌>>=◌
@@ -281,9 +280,9 @@ module _ (ts : List (Token Span)) (junk : List Words) (z : Token Span) (more : L
               → Fits i l Listing (λ b. n + length b) (elim (eqb m 0) [ true ↦ Done j (n + 1) | false ↦ go j (n + 1) ]) (go_on b.value rest a r₂)
           behind f r a j m b f₂ r₂ e E₁ e₂ o k at₂ some₁ q = third b.value refl
             where
-              more₁ : (x : Parsed) (y : Result Span (List A)) → b.value ≡ true → Fits j r₂ Listing (λ b. n + 1 + length b) x y → Fits i l Listing (λ b. n + length b) x (bind y λ more. give (a ∷ more))
-              more₁ (Failed c s) (fail d q) v h = h
-              more₁ (Failed c s) (ok v r₃) w h = absurd h
+              more₁ : (x : Parsed ℕ) (y : Result Span (List A)) → b.value ≡ true → Fits j r₂ Listing (λ b. n + 1 + length b) x y → Fits i l Listing (λ b. n + length b) x (bind y λ more. give (a ∷ more))
+              more₁ (Err bad) (fail d q) v h = h
+              more₁ (Err bad) (ok v r₃) w h = absurd h
               more₁ (Done j₃ m₃) (fail d q) v h = absurd h
               more₁ (Done j₃ m₃) (ok v r₃) w (f₃, e₃, k₃, c₃, L) = (
                 f ++ (f₂ ++ f₃),
@@ -313,21 +312,21 @@ module _ (ts : List (Token Span)) (junk : List Words) (z : Token Span) (more : L
                         ap (push a) (ap (λ (x : List (Token Span)). R (x ++ g)) o.front ∙ closing o.taker g (goes_close c o.taker.kind (o.says ∙ ap some w))),
                   )
 
-          second : (f r : List (Token Span)) (a : A) (j : ℕ) → l ≡ f ++ r → E f a → j ≡ i + length f → 1 ≤ length f → At j r → (x : Parsed) (y : Result Span (Located Span Bool))
+          second : (f r : List (Token Span)) (a : A) (j : ℕ) → l ≡ f ++ r → E f a → j ≡ i + length f → 1 ≤ length f → At j r → (x : Parsed ℕ) (y : Result Span (Located Span Bool))
               → Fits j r (One (goes_on c)) follows x y
               → Fits i l Listing (λ b. n + length b) (then x λ next more. elim (eqb more 0) [ true ↦ Done next (n + 1) | false ↦ go next (n + 1) ]) (bind y λ b. go_on b.value rest a)
-          second f r a j e E₁ k some₁ at₁ (Failed c s) (fail d q) h = h
-          second f r a j e E₁ k some₁ at₁ (Failed c s) (ok b r₂) h = absurd h
+          second f r a j e E₁ k some₁ at₁ (Err bad) (fail d q) h = h
+          second f r a j e E₁ k some₁ at₁ (Err bad) (ok b r₂) h = absurd h
           second f r a j e E₁ k some₁ at₁ (Done j₂ m₂) (fail d q) h = absurd h
           second f r a j e E₁ k some₁ at₁ (Done j₂ m₂) (ok b r₂) (f₂, e₂, k₂, c₂, o) =
               behind f r a j₂ m₂ b f₂ r₂ e E₁ e₂ o (omega arith) (subst (λ (x : ℕ). At x r₂) (sym k₂) (at-behind j r f₂ r₂ at₁ e₂)) some₁ c₂
 
-          first : (x : Parsed) (y : Result Span A) → Fits i l E once x y → Within row i x
+          first : (x : Parsed ℕ) (y : Result Span A) → Fits i l E once x y → Within row i x
               → Fits i l Listing (λ b. n + length b)
               (then x λ j _. then (separator close row j) λ next more. elim (eqb more 0) [ true ↦ Done next (n + 1) | false ↦ go next (n + 1) ])
               (bind y λ a r. bind (token z.place (goes_on c) unexpected r) λ b. go_on b.value rest a)
-          first (Failed c s) (fail d q) h w = h
-          first (Failed c s) (ok a r) h w = absurd h
+          first (Err bad) (fail d q) h w = h
+          first (Err bad) (ok a r) h w = absurd h
           first (Done j m) (fail d q) h w = absurd h
           first (Done j m) (ok a r) (f, e, k, c₁, E₁) w =
               let at₁ : At j r = subst (λ (x : ℕ). At x r) (sym k) (at-behind i l f r here e) in
@@ -337,44 +336,44 @@ module _ (ts : List (Token Span)) (junk : List Words) (z : Token Span) (more : L
       unfolding at_most ◌>>=◌ then
       at_most_fits zero i n (t ∷ l) h here = absurd (omega arith)
       at_most_fits zero i n [] h here =
-          subst (λ (x : Parsed). Fits i [] Listing (λ b. n + length b) x (fail 1 z.place)) (sym (entries-turn p steps close low row i n))
+          subst (λ (x : Parsed ℕ). Fits i [] Listing (λ b. n + length b) x (fail 1 z.place)) (sym (entries-turn p steps close low row i n))
           (go (p row i) (subst (λ (y : Result Span A). Fits i [] E once (p row i) y) stopped (fits i [] here)))
         where
-          go : (x : Parsed) → Fits {A = A} i [] E once x (fail 1 z.place)
+          go : (x : Parsed ℕ) → Fits {A = A} i [] E once x (fail 1 z.place)
               → Fits {A = List A} i [] Listing (λ b. n + length b) (then x λ j _. then (separator close row j) λ next more. elim (eqb more 0) [ true ↦ Done next (n + 1) | false ↦ entries p close row next (n + 1) ]) (fail 1 z.place)
-          go (Failed c s) h = h
+          go (Err bad) h = h
           go (Done j m) h = absurd h
       at_most_fits (suc k) i n l h here =
-          subst (λ (x : Parsed). Fits i l Listing (λ b. n + length b) x (at_most z.place (suc k) P c l)) (sym (entries-turn p steps close low row i n))
+          subst (λ (x : Parsed ℕ). Fits i l Listing (λ b. n + length b) x (at_most z.place (suc k) P c l)) (sym (entries-turn p steps close low row i n))
           (turn_fits (λ i n. entries p close row i n) (at_most z.place k P c) i n l here (λ j r at₁ less. at_most_fits k j (n + 1) r (omega arith) at₁))
 
       pub entries_fits : (i : ℕ) (l : List (Token Span)) → At i l → Fits i l Listing length (entries p close row i 0) (listed z.place P c l)
       unfolding listed
       entries_fits i l here = counted (entries p close row i 0) (listed z.place P c l) (at_most_fits (length l) i 0 l (omega arith) here)
         where
-          counted : (x : Parsed) (y : Result Span (List A)) → Fits i l Listing (λ b. 0 + length b) x y → Fits i l Listing length x y
-          counted (Failed c s) (fail d q) h = h
-          counted (Failed c s) (ok a r) h = absurd h
+          counted : (x : Parsed ℕ) (y : Result Span (List A)) → Fits i l Listing (λ b. 0 + length b) x y → Fits i l Listing length x y
+          counted (Err bad) (fail d q) h = h
+          counted (Err bad) (ok a r) h = absurd h
           counted (Done j m) (fail d q) h = absurd h
           counted (Done j m) (ok a r) (f, e, k, n, L) = (f, e, k, omega arith, L)
 
     -- ---- parsers in a row
     pub bind_fits : {A B : Type 0} (M : List (Token Span) → A → Type 0) (count : A → ℕ) (M' : List (Token Span) → B → Type 0) (count' : B → ℕ) (i : ℕ) (l : List (Token Span)) → At i l
-        → (x : Parsed) (y : Result Span A) → Fits i l M count x y → (k : ℕ → ℕ → Parsed) (K : A → Parser Span B)
+        → (x : Parsed ℕ) (y : Result Span A) → Fits i l M count x y → (k : ℕ → ℕ → Parsed ℕ) (K : A → Parser Span B)
         → ((f r : List (Token Span)) (a : A) → l ≡ f ++ r → M f a → At (i + length f) r → Fits (i + length f) r (λ g b. M' (f ++ g) b) count' (k (i + length f) (count a)) (K a r))
         → Fits i l M' count' (then x k) (bind y K)
     unfolding then bind
-    bind_fits M count M' count' i l here (Failed c s) (fail d q) h k K go = h
-    bind_fits M count M' count' i l here (Failed c s) (ok a r) h k K go = absurd h
+    bind_fits M count M' count' i l here (Err bad) (fail d q) h k K go = h
+    bind_fits M count M' count' i l here (Err bad) (ok a r) h k K go = absurd h
     bind_fits M count M' count' i l here (Done j m) (fail d q) h k K go = absurd h
     bind_fits {A} {B} M count M' count' i l here (Done j m) (ok a r) (f, e, q, n, w) k K go =
         subst (λ (m : ℕ). Fits i l M' count' (k j m) (K a r)) (sym n)
         (subst (λ (j : ℕ). Fits i l M' count' (k j (count a)) (K a r)) (sym q)
         (further₁ (k (i + length f) (count a)) (K a r) (go f r a e w (at-behind i l f r here e))))
       where
-        further₁ : (x : Parsed) (y : Result Span B) → Fits (i + length f) r (λ g b. M' (f ++ g) b) count' x y → Fits i l M' count' x y
-        further₁ (Failed c s) (fail d q) h = h
-        further₁ (Failed c s) (ok a r) h = absurd h
+        further₁ : (x : Parsed ℕ) (y : Result Span B) → Fits (i + length f) r (λ g b. M' (f ++ g) b) count' x y → Fits i l M' count' x y
+        further₁ (Err bad) (fail d q) h = h
+        further₁ (Err bad) (ok a r) h = absurd h
         further₁ (Done j m) (fail d q) h = absurd h
         further₁ (Done j m) (ok b r₂) (f₂, e₂, q₂, n₂, w₂) =
             (f ++ f₂, e ∙ ap (λ (x : List (Token Span)). f ++ x) e₂ ∙ sym (append_assoc f f₂ r₂), omega (arith, length-append f f₂), n₂, w₂)
@@ -382,15 +381,15 @@ module _ (ts : List (Token Span)) (junk : List Words) (z : Token Span) (more : L
     -- a value made of another, with no token taken
     pub map_fits : {A B : Type 0} (M : List (Token Span) → A → Type 0) (count : A → ℕ) (M' : List (Token Span) → B → Type 0) (count' : B → ℕ) (i : ℕ) (l : List (Token Span)) (F : A → B)
         → ((f r : List (Token Span)) (a : A) → l ≡ f ++ r → M f a → M' f (F a)) → ((a : A) → count a ≡ count' (F a))
-        → (x : Parsed) (y : Result Span A) → Fits i l M count x y → Fits i l M' count' x (bind y λ a. give (F a))
+        → (x : Parsed ℕ) (y : Result Span A) → Fits i l M count x y → Fits i l M' count' x (bind y λ a. give (F a))
     unfolding bind
-    map_fits M count M' count' i l F m n (Failed c s) (fail d q) h = h
-    map_fits M count M' count' i l F m n (Failed c s) (ok a r) h = absurd h
+    map_fits M count M' count' i l F m n (Err bad) (fail d q) h = h
+    map_fits M count M' count' i l F m n (Err bad) (ok a r) h = absurd h
     map_fits M count M' count' i l F m n (Done j k) (fail d q) h = absurd h
     map_fits M count M' count' i l F m n (Done j k) (ok a r) (f, e, q, c, w) = (f, e, q, c ∙ n a, m f r a e w)
 
     -- the inner parser behind a sign, or the other
-    pub opened_fits : {A : Type 0} (c n : ℕ) → Names c n → (M : List (Token Span) → A → Type 0) (count : A → ℕ) (i : ℕ) (l : List (Token Span)) → At i l → (X Y : Parsed) (inner other : Parser Span A)
+    pub opened_fits : {A : Type 0} (c n : ℕ) → Names c n → (M : List (Token Span) → A → Type 0) (count : A → ℕ) (i : ℕ) (l : List (Token Span)) → At i l → (X Y : Parsed ℕ) (inner other : Parser Span A)
         → ((t : Token Span) (r : List (Token Span)) → l ≡ t ∷ r → t.kind ≡ sign c → At (i + 1) r → Fits (i + 1) r (λ f a. M (t ∷ f) a) count X (inner r))
         → Fits i l M count Y (other l)
         → Fits i l M count (cond (eqb (peek row i).kind n) X Y) (opened z.place c inner other l)
@@ -408,9 +407,9 @@ module _ (ts : List (Token Span)) (junk : List Words) (z : Token Span) (more : L
         ap (λ (x : Words). eqb x.kind n) (at_first i t r here).1 ∙ sees_sign c n names t.kind t.place t.inner here.sound.0 in
         rw e (go (is_sign c t.kind) refl)
       where
-        shifted : (x : Parsed) (y : Result Span A) → Fits (i + 1) r (λ f a. M (t ∷ f) a) count x y → Fits i (t ∷ r) M count x y
-        shifted (Failed c s) (fail d q) h = h
-        shifted (Failed c s) (ok a r) h = absurd h
+        shifted : (x : Parsed ℕ) (y : Result Span A) → Fits (i + 1) r (λ f a. M (t ∷ f) a) count x y → Fits i (t ∷ r) M count x y
+        shifted (Err bad) (fail d q) h = h
+        shifted (Err bad) (ok a r) h = absurd h
         shifted (Done j m) (fail d q) h = absurd h
         shifted (Done j m) (ok a r₂) (f, e, q, n, w) = (t ∷ f, ap (λ (x : List (Token Span)). t ∷ x) e, omega arith, n, w)
 
@@ -420,9 +419,9 @@ module _ (ts : List (Token Span)) (junk : List Words) (z : Token Span) (more : L
 
     -- a value that says more of its tokens
     pub weaken_fits : {A : Type 0} (M M' : List (Token Span) → A → Type 0) (count : A → ℕ) (i : ℕ) (l : List (Token Span)) → ((f : List (Token Span)) (a : A) → M f a → M' f a)
-        → (x : Parsed) (y : Result Span A) → Fits i l M count x y → Fits i l M' count x y
-    weaken_fits M M' count i l m (Failed c s) (fail d q) h = h
-    weaken_fits M M' count i l m (Failed c s) (ok a r) h = absurd h
+        → (x : Parsed ℕ) (y : Result Span A) → Fits i l M count x y → Fits i l M' count x y
+    weaken_fits M M' count i l m (Err bad) (fail d q) h = h
+    weaken_fits M M' count i l m (Err bad) (ok a r) h = absurd h
     weaken_fits M M' count i l m (Done j k) (fail d q) h = absurd h
     weaken_fits M M' count i l m (Done j k) (ok a r) (f, e, q, c, w) = (f, e, q, c, m f a w)
 
@@ -433,7 +432,7 @@ module _ (ts : List (Token Span)) (junk : List Words) (z : Token Span) (more : L
         token_fits (one (is_kind n)) (is_kind n) code_of (is_sign c) unexpected (one_tests (is_kind n)) (sees_sign c n names) code_view (quiet_sign c) i l here
 
     -- ---- tuples and sets, where R reads past parentheses and braces
-    module _ {A X : Type 0} (p : List Words → ℕ → Parsed) (steps : Steps p) (P : Parser Span A) (E : List (Token Span) → A → Type 0)
+    module _ {A X : Type 0} (p : List Words → ℕ → Parsed ℕ) (steps : Steps p) (P : Parser Span A) (E : List (Token Span) → A → Type 0)
         (fits : (i : ℕ) (l : List (Token Span)) → At i l → Fits i l E once (p row i) (P l)) (stopped : P [] ≡ fail 1 z.place)
         (R : List (Token Span) → X) (push : A → X → X)
         (pushed : (f g : List (Token Span)) (a : A) → E f a → R (f ++ g) ≡ push a (R g)) where

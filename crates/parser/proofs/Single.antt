@@ -1,21 +1,21 @@
 -- Laws of the parsers of one token.
-use mathlib.Core.Path.{◌≡◌, refl, sym, ap, ◌∙◌}
+use Rattle.std.specs.Prelude.{Err}
+use mathlib.Core.Path.{◌≡◌, refl, sym, ap, subst, ◌∙◌}
 use Prim.Native.Nat.{ℕ, ◌+◌, ◌<◌, ◌^◌}
 use native.Mathlib.Omega.{arith}
+use native.Mathlib.Decide.{dec_lt}
 use mathlib.Core.Bool.{Bool, true, false}
 use mathlib.Core.List.{List, []}
-use lib.ListN.{length}
+use lib.ListN.{length, get_or-eq_default}
 use mir.Syntax.{w64}
 use mir.Val.{Fits}
 use borrow.Author.Rules.{rules}
 use borrow.Author.Tests.{eq-eqb, ne_eqb}
 use Rattle.parser.specs.Row.{tokens_in, ended, peek}
 use Rattle.parser.specs.Views.{span_of, is_kind, is_choice, is_state, is_symbol, is_write, is_direction, is_text}
-use Rattle.parser.specs.Lines.{unexpected, one, direction, separator}
+use Rattle.parser.specs.Lines.{Parsed, Done, Failed, unexpected, one, direction, separator}
 use Rattle.tokens.specs.declared.Token.{Token}
 use Rattle.lexer.specs.declared.Span.{Span}
-use Rattle.parser.specs.declared.Parsed.{Parsed}
-use Rattle.parser.specs.declared.Parsed.TheVariants.{Done, Failed}
 use Rattle.parser.proofs.Laws.{length-tokens, inside}
 
 -- an index in the row of a slice has a next one
@@ -27,6 +27,18 @@ pub kind-ended : (k : ℕ) → k < 13 → is_kind k ended ≡ false
 unfolding is_kind
 kind-ended k h = ne_eqb 13 k (λ e. omega arith)
 
+-- a token that passes a test which no line feed passes has a next one
+pub test_fits : (post : Token → Bool → Type 0) (w : List ℕ) (i : ℕ) (t : Token) (b : Bool) → t ≡ peek (tokens_in w) i → post t b → b ≡ true → ((b : Bool) → post ended b → b ≡ false)
+    → length w < 2 ^ 64 → Fits w64 (i + 1)
+test_fits post w i t b at says y refuses g = go (dec_lt i (length (tokens_in w)))
+  where
+    go : Dec (i < length (tokens_in w)) → Fits w64 (i + 1)
+    go (yes h) = next_fits w i h g
+    go (no h) =
+        let past : t ≡ ended = at ∙ get_or-eq_default (tokens_in w) ended (omega arith) in
+        let z : true ≡ false = sym y ∙ refuses b (subst (λ (u : Token). post u b) past says) in
+        absurd (let o : ◌≡◌ {A = ℕ} 0 1 = cc in omega arith)
+
 module _ (w : List ℕ) (i : ℕ) (t : Token) (at : t ≡ peek (tokens_in w) i) where
   module _ (f : Token → Bool) (b : Bool) (test : b ≡ f t) where
     pub one_fits : f ended ≡ false → b ≡ true → length w < 2 ^ 64 → Fits w64 (i + 1)
@@ -36,7 +48,7 @@ module _ (w : List ℕ) (i : ℕ) (t : Token) (at : t ≡ peek (tokens_in w) i) 
     unfolding one
     one_yes y = let q : f (peek (tokens_in w) i) ≡ true = ap f (sym at) ∙ sym test ∙ y in rw q
 
-    pub one_no : (r : Parsed) → b ≡ false → r ≡ unexpected t → r ≡ one f (tokens_in w) i
+    pub one_no : (r : Parsed ℕ) → b ≡ false → r ≡ Err (unexpected t) → r ≡ one f (tokens_in w) i
     unfolding one
     one_no r n e = let q : f (peek (tokens_in w) i) ≡ false = ap f (sym at) ∙ sym test ∙ n in rw (q, ← at) e
 
@@ -78,7 +90,7 @@ module _ (w : List ℕ) (i : ℕ) (t : Token) (at : t ≡ peek (tokens_in w) i) 
       unfolding direction
       direction_text s y e = rw (← at, ← test, no, ← text, y, e)
 
-      pub direction_no : (r : Parsed) → d ≡ false → r ≡ unexpected t → r ≡ direction (tokens_in w) i
+      pub direction_no : (r : Parsed ℕ) → d ≡ false → r ≡ Err (unexpected t) → r ≡ direction (tokens_in w) i
       unfolding direction
       direction_no r n e = rw (← at, ← test, no, ← text, n) e
 
@@ -91,7 +103,7 @@ module _ (w : List ℕ) (i : ℕ) (t : Token) (at : t ≡ peek (tokens_in w) i) 
     unfolding separator
     separator_last e = rw (← at, ne_eqb t.kind 8 no, eq-eqb t.kind close e)
 
-    pub separator_no : (r : Parsed) → (t.kind ≡ close → ⊥) → r ≡ unexpected t → r ≡ separator close (tokens_in w) i
+    pub separator_no : (r : Parsed ℕ) → (t.kind ≡ close → ⊥) → r ≡ Err (unexpected t) → r ≡ separator close (tokens_in w) i
     unfolding separator
     separator_no r f e = rw (← at, ne_eqb t.kind 8 no, ne_eqb t.kind close f) e
 

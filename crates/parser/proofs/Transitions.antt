@@ -1,4 +1,5 @@
 -- A rule over the row is the language's, and its parts say where its lists stand and how long they are.
+use Rattle.std.specs.Prelude.{Err}
 use mathlib.Core.Path.{◌≡◌, refl, sym, ap, subst, ◌∙◌}
 use Prim.Native.Nat.{ℕ, ◌+◌, ◌-◌}
 use native.Mathlib.Omega.{arith}
@@ -12,52 +13,48 @@ use Rattle.language.specs.Parser.{Result, ok, fail, Parser, is_sign, give, ◌>>
 use Rattle.language.specs.Parser.{then as bind, expect, tuple as tupled}
 use Rattle.language.specs.Lines.{RawSymbol, RawTransition, state_in, symbol_in, bracket, write_in, direction_in, state, direction as directed, read_entry as read_one, write_entry, transition as ruled}
 use Rattle.parser.specs.Views.{is_kind, is_state, is_write}
-use Rattle.parser.specs.Lines.{then, one, direction, tuple, read_entry, side, equals, left_parts, on, on_value, left, right, transition}
+use Rattle.parser.specs.Lines.{Parsed, Done, Failed, then, one, direction, tuple, read_entry, side, equals, left_parts, left, right, transition}
 use Rattle.parser.specs.Row.{peek}
 use Rattle.parser.specs.Meaning.{token_of, at, between, or_else, located, seen, read_sets, read_part, passes, rule_of}
 use Rattle.lexer.specs.Words.{kind_number}
 use lib.Dec.{eqb}
 use Rattle.tokens.specs.declared.Token.{Token as Words}
-use Rattle.parser.specs.declared.Parsed.{Parsed}
-use Rattle.parser.specs.declared.Parsed.TheVariants.{Done, Failed}
 use Rattle.parser.specs.declared.Parts.{Parts}
-use Rattle.parser.specs.declared.Value.{Value}
-use Rattle.parser.specs.declared.Value.TheVariants.{Done as Ended, Failed as Broken}
 use Rattle.parser.proofs.Views.{names_l_paren, names_r_paren, names-comma, names-eq, is_some}
 use Rattle.parser.proofs.Simulates.{Stops, Fits, One, once, is_sign_lem, At, row, at_first, at-behind, at-between, sign_fits}
 use Rattle.parser.proofs.Values.{Says, Reads, seen_past, reads_past, part_l_paren, part_r_paren, part-eq, state_fits, reads_fits, writes_fits, directions_fits}
 
 -- a value over the row, and one of the language: `Means parts end value`
-abbrev pub Gives : {B : Type 0} → ℕ → List (Token Span) → (Parts → ℕ → B → Type 0) → Value → Result Span B → Type 0
-Gives i l Means (Ended j q) (ok b r) = (f : List (Token Span)) × (l ≡ f ++ r) × (j ≡ i + length f) × Means q j b
-Gives i l Means (Ended j q) (fail c p) = ⊥
-Gives i l Means (Broken c s) (ok b r) = ⊥
-Gives i l Means (Broken c s) (fail d p) = (c ≡ d) × (s ≡ p)
+abbrev pub Gives : {B : Type 0} → ℕ → List (Token Span) → (Parts → ℕ → B → Type 0) → Parsed Parts → Result Span B → Type 0
+Gives i l Means (Done j q) (ok b r) = (f : List (Token Span)) × (l ≡ f ++ r) × (j ≡ i + length f) × Means q j b
+Gives i l Means (Done j q) (fail c p) = ⊥
+Gives i l Means (Err bad) (ok b r) = ⊥
+Gives i l Means (Err bad) (fail d p) = (bad.code ≡ d) × (bad.span ≡ p)
 
 -- one part behind another
-on_then : (x : Parsed) (k : ℕ → ℕ → Parsed) (f : ℕ → ℕ → Value) → on (then x k) f ≡ on x (λ j n. on (k j n) f)
-unfolding on then
+on_then : (x : Parsed ℕ) (k : ℕ → ℕ → Parsed ℕ) (f : ℕ → ℕ → Parsed Parts) → then (then x k) f ≡ then x (λ j n. then (k j n) f)
+unfolding then
 on_then (Done i n) k f = refl
-on_then (Failed c s) k f = refl
+on_then (Err bad) k f = refl
 
-value_on : (x : Parsed) (k : ℕ → ℕ → Value) (f : ℕ → Parts → Value) → on_value (on x k) f ≡ on x (λ j n. on_value (k j n) f)
-unfolding on on_value
+value_on : (x : Parsed ℕ) (k : ℕ → ℕ → Parsed Parts) (f : ℕ → Parts → Parsed Parts) → then (then x k) f ≡ then x (λ j n. then (k j n) f)
+unfolding then
 value_on (Done i n) k f = refl
-value_on (Failed c s) k f = refl
+value_on (Err bad) k f = refl
 
-on_same : (x : Parsed) (f g : ℕ → ℕ → Value) → ((j n : ℕ) → f j n ≡ g j n) → on x f ≡ on x g
-unfolding on
+on_same : (x : Parsed ℕ) (f g : ℕ → ℕ → Parsed Parts) → ((j n : ℕ) → f j n ≡ g j n) → then x f ≡ then x g
+unfolding then
 on_same (Done i n) f g e = e i n
-on_same (Failed c s) f g e = refl
+on_same (Err bad) f g e = refl
 
-on-side : (ws : List Words) (i : ℕ) (f : ℕ → ℕ → Value) → on (side ws i) f ≡ on (one (is_kind 4) ws i) (λ j _. on (one is_state ws j) (λ k _. on (one (is_kind 8) ws k) f))
+on-side : (ws : List Words) (i : ℕ) (f : ℕ → ℕ → Parsed Parts) → then (side ws i) f ≡ then (one (is_kind 4) ws i) (λ j _. then (one is_state ws j) (λ k _. then (one (is_kind 8) ws k) f))
 unfolding side
 on-side ws i f =
     on_then (one (is_kind 4) ws i) (λ j _. then (one is_state ws j) λ k _. one (is_kind 8) ws k) f ∙
-    on_same (one (is_kind 4) ws i) (λ j _. on (then (one is_state ws j) λ k _. one (is_kind 8) ws k) f) (λ j _. on (one is_state ws j) (λ k _. on (one (is_kind 8) ws k) f))
+    on_same (one (is_kind 4) ws i) (λ j _. then (then (one is_state ws j) λ k _. one (is_kind 8) ws k) f) (λ j _. then (one is_state ws j) (λ k _. then (one (is_kind 8) ws k) f))
     (λ j _. on_then (one is_state ws j) (λ k _. one (is_kind 8) ws k) f)
 
-on-equals : (ws : List Words) (i : ℕ) (f : ℕ → ℕ → Value) → on (equals ws i) f ≡ on (one (is_kind 5) ws i) (λ j _. on (one (is_kind 9) ws j) f)
+on-equals : (ws : List Words) (i : ℕ) (f : ℕ → ℕ → Parsed Parts) → then (equals ws i) f ≡ then (one (is_kind 5) ws i) (λ j _. then (one (is_kind 9) ws j) f)
 unfolding equals
 on-equals ws i f = on_then (one (is_kind 5) ws i) (λ j _. one (is_kind 9) ws j) f
 
@@ -76,23 +73,23 @@ module _ (ts : List (Token Span)) (junk : List Words) (z : Token Span) (more : L
   Here = At ts junk z more
 
   pub on_gives : {A B : Type 0} (M : List (Token Span) → A → Type 0) (count : A → ℕ) (Means : Parts → ℕ → B → Type 0) (i : ℕ) (l : List (Token Span)) → Here i l
-      → (x : Parsed) (y : Result Span A) → Fits i l M count x y → (k : ℕ → ℕ → Value) (K : A → Parser Span B)
+      → (x : Parsed ℕ) (y : Result Span A) → Fits i l M count x y → (k : ℕ → ℕ → Parsed Parts) (K : A → Parser Span B)
       → ((f r : List (Token Span)) (a : A) → l ≡ f ++ r → M f a → Here (i + length f) r → Gives (i + length f) r Means (k (i + length f) (count a)) (K a r))
-      → Gives i l Means (on x k) (bind y K)
-  unfolding on bind
-  on_gives M count Means i l here (Failed c s) (fail d q) h k K go = h
-  on_gives M count Means i l here (Failed c s) (ok a r) h k K go = absurd h
+      → Gives i l Means (then x k) (bind y K)
+  unfolding then bind
+  on_gives M count Means i l here (Err bad) (fail d q) h k K go = h
+  on_gives M count Means i l here (Err bad) (ok a r) h k K go = absurd h
   on_gives M count Means i l here (Done j m) (fail d q) h k K go = absurd h
   on_gives {A} {B} M count Means i l here (Done j m) (ok a r) (f, e, q, n, w) k K go =
       subst (λ (m : ℕ). Gives i l Means (k j m) (K a r)) (sym n)
       (subst (λ (j : ℕ). Gives i l Means (k j (count a)) (K a r)) (sym q)
       (further (k (i + length f) (count a)) (K a r) (go f r a e w (at-behind ts junk z more i l f r here e))))
     where
-      further : (x : Value) (y : Result Span B) → Gives (i + length f) r Means x y → Gives i l Means x y
-      further (Broken c s) (fail d q) h = h
-      further (Broken c s) (ok a r) h = absurd h
-      further (Ended j m) (fail d q) h = absurd h
-      further (Ended j m) (ok b r₂) (f₂, e₂, q₂, w₂) =
+      further : (x : Parsed Parts) (y : Result Span B) → Gives (i + length f) r Means x y → Gives i l Means x y
+      further (Err bad) (fail d q) h = h
+      further (Err bad) (ok a r) h = absurd h
+      further (Done j m) (fail d q) h = absurd h
+      further (Done j m) (ok b r₂) (f₂, e₂, q₂, w₂) =
           (f ++ f₂, e ∙ ap (λ (x : List (Token Span)). f ++ x) e₂ ∙ sym (append_assoc f f₂ r₂), omega (arith, length-append f f₂), w₂)
 
   -- what a view says of the token at an index
@@ -142,13 +139,13 @@ module _ (ts : List (Token Span)) (junk : List Words) (z : Token Span) (more : L
       → Gives i l (Ruled ts) (right p ws i) (right_of from read l)
   unfolding right right_of rule_of ◌>>=◌
   right_gives p from read i l here from_is reads-is read_is =
-      let K₀ : ℕ → ℕ → Value = λ write _.
-      on (tuple (one is_write) ws write) λ j writes.
-      on (one (is_kind 8) ws j) λ dir _.
-      on (tuple direction ws dir) λ k dirs.
-      on (one (is_kind 5) ws k) λ end _.
-      Ended end (record { from = p.from; read = p.read; reads = p.reads; to = i + 1; write = write; writes = writes; dir = dir; dirs = dirs }) in
-      subst (λ (x : Value). Gives i l (Ruled ts) x (right_of from read l)) (sym (on-side ws i K₀))
+      let K₀ : ℕ → ℕ → Parsed Parts = λ write _.
+      then (tuple (one is_write) ws write) λ j writes.
+      then (one (is_kind 8) ws j) λ dir _.
+      then (tuple direction ws dir) λ k dirs.
+      then (one (is_kind 5) ws k) λ end _.
+      Done end (record { from = p.from; read = p.read; reads = p.reads; to = i + 1; write = write; writes = writes; dir = dir; dirs = dirs }) in
+      subst (λ (x : Parsed Parts). Gives i l (Ruled ts) x (right_of from read l)) (sym (on-side ws i K₀))
       (on_gives (One (is_sign 0x28)) once (Ruled ts) i l here (one (is_kind 4) ws i) (expect z.place 0x28 l) (sign_fits ts junk z more ends 0x28 4 names_l_paren i l here) _ _ λ f₁ r₁ a₁ e₁ o₁ at₁.
       on_gives (One state_in) once (Ruled ts) (i + length f₁) r₁ at₁ (one is_state ws (i + length f₁)) (state z.place r₁) (state_fits ts junk z more ends (i + length f₁) r₁ at₁) _ _ λ f₂ r₂ to e₂ o₂ at₂.
       let i₂ : ℕ = i + length f₁ + length f₂ in
@@ -181,23 +178,23 @@ module _ (ts : List (Token Span)) (junk : List Words) (z : Token Span) (more : L
       ))
 
   -- a rule behind δ, one part behind another
-  behind : ℕ → ℕ → ℕ → Value
+  behind : ℕ → ℕ → ℕ → Parsed Parts
   behind j read n =
-      on (tuple read_entry ws read) λ k reads.
-      on (one (is_kind 5) ws k) λ c _.
-      on (one (is_kind 9) ws c) λ end _.
+      then (tuple read_entry ws read) λ k reads.
+      then (one (is_kind 5) ws k) λ c _.
+      then (one (is_kind 9) ws c) λ end _.
       right (left_parts (j + 1) read reads) ws end
 
-  flattened : (j : ℕ) → on_value (on (side ws j) λ read _. on (tuple read_entry ws read) λ k reads. on (equals ws k) λ end _. Ended end (left_parts (j + 1) read reads)) (λ e p. right p ws e) ≡ on (side ws j) (behind j)
-  unfolding behind on_value
+  flattened : (j : ℕ) → then (then (side ws j) λ read _. then (tuple read_entry ws read) λ k reads. then (equals ws k) λ end _. Done end (left_parts (j + 1) read reads)) (λ e p. right p ws e) ≡ then (side ws j) (behind j)
+  unfolding behind then
   flattened j =
-      let F : ℕ → Parts → Value = λ e p. right p ws e in
-      let E : ℕ → ℕ → ℕ → ℕ → Value = λ read reads end _. Ended end (left_parts (j + 1) read reads) in
-      let T : ℕ → ℕ → ℕ → Value = λ read k reads. on (equals ws k) (E read reads) in
-      value_on (side ws j) (λ read _. on (tuple read_entry ws read) (T read)) F ∙
-      on_same (side ws j) (λ read _. on_value (on (tuple read_entry ws read) (T read)) F) (behind j) (λ read n.
+      let F : ℕ → Parts → Parsed Parts = λ e p. right p ws e in
+      let E : ℕ → ℕ → ℕ → ℕ → Parsed Parts = λ read reads end _. Done end (left_parts (j + 1) read reads) in
+      let T : ℕ → ℕ → ℕ → Parsed Parts = λ read k reads. then (equals ws k) (E read reads) in
+      value_on (side ws j) (λ read _. then (tuple read_entry ws read) (T read)) F ∙
+      on_same (side ws j) (λ read _. then (then (tuple read_entry ws read) (T read)) F) (behind j) (λ read n.
       value_on (tuple read_entry ws read) (T read) F ∙
-      on_same (tuple read_entry ws read) (λ k reads. on_value (T read k reads) F) (λ k reads. on (one (is_kind 5) ws k) λ c _. on (one (is_kind 9) ws c) λ end _. right (left_parts (j + 1) read reads) ws end) (λ k reads.
+      on_same (tuple read_entry ws read) (λ k reads. then (T read k reads) F) (λ k reads. then (one (is_kind 5) ws k) λ c _. then (one (is_kind 9) ws c) λ end _. right (left_parts (j + 1) read reads) ws end) (λ k reads.
       value_on (equals ws k) (E read reads) F ∙
       on-equals ws k (λ end _. right (left_parts (j + 1) read reads) ws end)))
 
@@ -205,10 +202,10 @@ module _ (ts : List (Token Span)) (junk : List Words) (z : Token Span) (more : L
   reads_none : (c : ℕ) (f : List (Token Span)) (a : Located Span Bool) (g : List (Token Span)) → read_part (sign c) ≡ passes → One (is_sign c) f a → read_sets false (f ++ g) ≡ read_sets false g
   reads_none c f a g e o = ap (λ (x : List (Token Span)). read_sets false (x ++ g)) o.front ∙ reads_past c e o.taker g (is_sign_lem c o.taker.kind (ap is_some o.says))
 
-  rule_gives : (i : ℕ) (l : List (Token Span)) → Here i l → Gives i l (Ruled ts) (on (side ws i) (behind i)) (ruled z.place l)
+  rule_gives : (i : ℕ) (l : List (Token Span)) → Here i l → Gives i l (Ruled ts) (then (side ws i) (behind i)) (ruled z.place l)
   unfolding ruled right_of behind ◌>>=◌ read_sets
   rule_gives i l here =
-      subst (λ (x : Value). Gives i l (Ruled ts) x (ruled z.place l)) (sym (on-side ws i (behind i)))
+      subst (λ (x : Parsed Parts). Gives i l (Ruled ts) x (ruled z.place l)) (sym (on-side ws i (behind i)))
       (on_gives (One (is_sign 0x28)) once (Ruled ts) i l here (one (is_kind 4) ws i) (expect z.place 0x28 l) (sign_fits ts junk z more ends 0x28 4 names_l_paren i l here) _ _ λ f₁ r₁ a₁ e₁ o₁ at₁.
       on_gives (One state_in) once (Ruled ts) (i + length f₁) r₁ at₁ (one is_state ws (i + length f₁)) (state z.place r₁) (state_fits ts junk z more ends (i + length f₁) r₁ at₁) _ _ λ f₂ r₂ from e₂ o₂ at₂.
       let i₂ : ℕ = i + length f₁ + length f₂ in
@@ -235,7 +232,7 @@ module _ (ts : List (Token Span)) (junk : List Words) (z : Token Span) (more : L
       (omega (arith, length-append f₄ g, length-append f₅ (f₆ ++ f₇), length-append f₆ f₇, length-one (is_sign 0x28) f₇ a₇ o₇)) w₄ empty))
 
   pub transition_gives : (i : ℕ) (t : Token Span) (l : List (Token Span)) → Here i (t ∷ l) → kind_number t.kind ≡ 0 → Gives (i + 1) l (Ruled ts) (transition ws i) (ruled z.place l)
-  unfolding transition left one is_kind token_of on
+  unfolding transition left one is_kind token_of then
   transition_gives i t l here k =
       let e : eqb (peek ws i).kind 0 ≡ true = ap (λ (x : Words). eqb x.kind 0) (at_first ts junk z more i t l here).1 ∙ ap (λ (n : ℕ). eqb n 0) k in
-      rw e (subst (λ (x : Value). Gives (i + 1) l (Ruled ts) x (ruled z.place l)) (sym (flattened (i + 1))) (rule_gives (i + 1) l (at-behind ts junk z more i (t ∷ l) (t ∷ []) l here refl)))
+      rw e (subst (λ (x : Parsed Parts). Gives (i + 1) l (Ruled ts) x (ruled z.place l)) (sym (flattened (i + 1))) (rule_gives (i + 1) l (at-behind ts junk z more i (t ∷ l) (t ∷ []) l here refl)))

@@ -1,4 +1,5 @@
 -- The elements of an item over the row are those of the language, and their values are what is seen in their tokens.
+use Rattle.std.specs.Prelude.{Err}
 use mathlib.Core.Path.{◌≡◌, refl, sym, ap, ◌∙◌}
 use Prim.Native.Nat.{ℕ, ◌+◌, ◌-◌}
 use native.Mathlib.Omega.{arith}
@@ -12,11 +13,9 @@ use Rattle.language.specs.Parser.{Result, ok, fail, Parser, unexpected, sign_in,
 use Rattle.language.specs.Parser.{one as token, entries as listed, single, tuple as tupled, set as braced, taken}
 use Rattle.language.specs.Lines.{RawSymbol, Text, state_in, symbol_in, bracket, write_in, direction_in, not_direction, string_in, number_in, word_in, kinds, outputs, orders, string_taken, string, numeral, choice, state, symbol, direction as directed, read_entry as read_one, write_entry}
 use Rattle.parser.specs.Views.{is_kind, is_choice, is_state, is_symbol, is_write, is_direction, is_text}
-use Rattle.parser.specs.Lines.{then, code_of, one, direction, entries, set, tuple, read_entry}
+use Rattle.parser.specs.Lines.{Parsed, Done, Failed, then, code_of, one, direction, entries, set, tuple, read_entry}
 use Rattle.parser.specs.Meaning.{seen_on, seen, text_of, ReadPart, opens, closes, passes, reads, read_part, joins, outside, inside, read_sets}
 use Rattle.tokens.specs.declared.Token.{Token as Words}
-use Rattle.parser.specs.declared.Parsed.{Parsed}
-use Rattle.parser.specs.declared.Parsed.TheVariants.{Done, Failed}
 use Rattle.parser.proofs.Lists.{Steps, state_steps, symbol_steps, read_steps, write_steps, direction_steps}
 use Rattle.parser.proofs.Tables.{true_false}
 use Rattle.parser.proofs.Views.{is_some, names_l_brace, names_r_brace, Sees, sees_string, sees_number, sees_state, sees_symbol, sees_write, sees_direction, text_view, code_view}
@@ -118,10 +117,10 @@ pub record Texts (f : List (Token Span)) (a : Text Span) : Type 0 where
   pub says : a ≡ text_of taker
 
 -- a set counts as one entry
-pub recount_fits : {A : Type 0} (M : List (Token Span) → A → Type 0) (count : A → ℕ) (i : ℕ) (l : List (Token Span)) (x : Parsed) (y : Result Span A) → Fits i l M count x y → Fits i l M once (then x λ j _. Done j 1) y
+pub recount_fits : {A : Type 0} (M : List (Token Span) → A → Type 0) (count : A → ℕ) (i : ℕ) (l : List (Token Span)) (x : Parsed ℕ) (y : Result Span A) → Fits i l M count x y → Fits i l M once (then x λ j _. Done j 1) y
 unfolding then
-recount_fits M count i l (Failed c s) (fail d q) h = h
-recount_fits M count i l (Failed c s) (ok a r) h = absurd h
+recount_fits M count i l (Err bad) (fail d q) h = h
+recount_fits M count i l (Err bad) (ok a r) h = absurd h
 recount_fits M count i l (Done j m) (fail d q) h = absurd h
 recount_fits M count i l (Done j m) (ok a r) (f, e, k, c, w) = (f, e, k, refl, w)
 
@@ -175,18 +174,18 @@ module _ (ts : List (Token Span)) (junk : List Words) (z : Token Span) (more : L
   unfolding string string_taken string_in token taken
   string_fits i l here = go l (one (is_kind 3) ws i) (viewed_fits (is_kind 3) string_in sees_string (quietly refl (λ s. refl)) i l here)
     where
-      of : (t : Token Span) (r : List (Token Span)) (o : Option (List ℕ)) → string_in t.kind ≡ o → (x : Parsed)
+      of : (t : Token Span) (r : List (Token Span)) (o : Option (List ℕ)) → string_in t.kind ≡ o → (x : Parsed ℕ)
           → Fits i (t ∷ r) (One string_in) once x (taken o unexpected t r) → Fits i (t ∷ r) Texts once x (string_taken o t r)
-      of t r none e (Failed c s) h = h
+      of t r none e (Err bad) h = h
       of t r none e (Done j m) h = absurd h
-      of t r (some v) e (Failed c s) h = absurd h
+      of t r (some v) e (Err bad) h = absurd h
       of t r (some v) e (Done j m) (f, q, k, c, w) =
           let h : t ∷ r ≡ w.taker ∷ r = q ∙ ap (λ (x : List (Token Span)). x ++ r) w.front in
           let b : w.taker ≡ t = cc in
           (f, q, k, c, record { taker = t; front = w.front ∙ ap (λ (x : Token Span). x ∷ []) b; says = rw e })
 
-      go : (l : List (Token Span)) (x : Parsed) → Fits i l (One string_in) once x (token z.place string_in unexpected l) → Fits i l Texts once x (string z.place l)
-      go [] (Failed c s) h = h
+      go : (l : List (Token Span)) (x : Parsed ℕ) → Fits i l (One string_in) once x (token z.place string_in unexpected l) → Fits i l Texts once x (string z.place l)
+      go [] (Err bad) h = h
       go [] (Done j m) h = absurd h
       go (t ∷ r) x h = of t r (string_in t.kind) refl x h
 
@@ -211,7 +210,7 @@ module _ (ts : List (Token Span)) (junk : List Words) (z : Token Span) (more : L
       (map_fits ts junk z more ends (One symbol_in) once Entry once i l (λ a. a ∷ []) (λ f r a e o g. reads-symbol f g a o) (λ a. refl) (one is_symbol ws i) (symbol z.place l) (symbol_fits i l here))
 
   -- ---- sets and tuples of what a view sees
-  module _ {A : Type 0} (view : TokenKind → Option A) (p : List Words → ℕ → Parsed) (steps : Steps p) (P : Parser Span (Located Span A))
+  module _ {A : Type 0} (view : TokenKind → Option A) (p : List Words → ℕ → Parsed ℕ) (steps : Steps p) (P : Parser Span (Located Span A))
       (fits : (i : ℕ) (l : List (Token Span)) → Here i l → Fits i l (One view) once (p ws i) (P l)) (stopped : P [] ≡ fail 1 z.place) where
     abbrev pub Seen : List (Token Span) → List (Located Span A) → Type 0
     Seen f l = (g : List (Token Span)) → seen view (f ++ g) ≡ l ++ seen view g

@@ -1,70 +1,76 @@
 -- Paper 01, "parser.rs, lines", over the tokens that stand in a row: `p ts i` reads from the index i on.
-use Rattle.std.specs.Prelude.{ℕ, zero, suc, ◌+◌, ◌-◌, Bool, true, false, cond, List, [], ◌∷◌, eqb, length, drop}
+use Rattle.std.specs.Prelude.{ℕ, zero, suc, ◌+◌, ◌-◌, Bool, true, false, cond, List, [], ◌∷◌, eqb, length, drop, Option, Some, None, Result, Ok, Err}
 use Rattle.parser.specs.Row.{peek}
 use Rattle.parser.specs.Views.{span_of, is_kind, is_choice, is_state, is_symbol, is_write, is_direction, is_text, keyword_of, lead_of}
 use Rattle.tokens.specs.declared.Token.{Token}
 use Rattle.lexer.specs.declared.Span.{Span}
-use Rattle.parser.specs.declared.Parsed.{Parsed}
-use Rattle.parser.specs.declared.Parsed.TheVariants.{Done, Failed}
+use Rattle.parser.specs.declared.Failure.{Failure}
 use Rattle.parser.specs.declared.Parts.{Parts}
-use Rattle.parser.specs.declared.Value.{Value}
-use Rattle.parser.specs.declared.Value.TheVariants.{Done as Ended, Failed as Broken}
 use Rattle.parser.specs.declared.ItemKind.{ItemKind}
 use Rattle.parser.specs.declared.ItemKind.TheVariants.{Machine, Kind, Input, Output, Tapes, States, InputAlphabet, TapeAlphabet, Blank, Start, Final, Transition}
-use Rattle.parser.specs.declared.Keyword.{Keyword}
-use Rattle.parser.specs.declared.Keyword.TheVariants.{Starts, Other}
 use Rattle.parser.specs.declared.Lead.{Lead}
 use Rattle.parser.specs.declared.Lead.TheVariants.{Equals, Nothing, Whole}
+use Rattle.parser.specs.declared.Item.{Item}
 use Rattle.parser.specs.declared.Line.{Line}
-use Rattle.parser.specs.declared.Line.TheVariants.{Blank as Empty, Comment, Item as Read, Error}
+use Rattle.parser.specs.declared.Line.TheVariants.{Blank as NoItem, Comment as Remark, Item as AnItem}
 
--- a parser: from an index on, the index behind what it reads and a count, or a failure
+-- what is read from an index on: the index behind it and what it makes, or why not
+abbrev pub Parsed : Type 0 → Type 0
+Parsed A = Result (ℕ × A) Failure
+
+pattern abbrev pub Done : {A : Type 0} → ℕ → A → Parsed A
+Done i a = Ok (i, a)
+
+abbrev pub Failed : {A : Type 0} → ℕ → Span → Result A Failure
+Failed c s = Err (record { code = c; span = s })
+
+-- a parser: it makes a count of entries
 abbrev pub Parser : Type 0
-Parser = List Token → ℕ → Parsed
+Parser = List Token → ℕ → Parsed ℕ
 
 -- go on behind what was read, or keep the failure
-unfoldable pub then : Parsed → (ℕ → ℕ → Parsed) → Parsed
-then (Done i n) f = f i n
-then (Failed c s) f = Failed c s
+unfoldable pub then : {A B : Type 0} → Parsed A → (ℕ → A → Result B Failure) → Result B Failure
+then (Done i a) f = f i a
+then (Err bad) f = Err bad
 
 -- the code of a token that is not what is due: E002 for an unterminated string, else E001
 unfoldable pub code_of : Token → ℕ
 code_of t = cond (eqb t.kind 14) 2 1
 
 -- the failure at such a token
-unfoldable pub unexpected : Token → Parsed
+unfoldable pub unexpected : Token → Failure
 unfolding code_of
-unexpected t = Failed (code_of t) (span_of t)
+unexpected t = record { code = code_of t; span = span_of t }
 
 -- one token that passes a test
 unfoldable pub one : (Token → Bool) → Parser
 unfolding unexpected
-one f ts i = cond (f (peek ts i)) (Done (i + 1) 1) (unexpected (peek ts i))
+one f ts i = cond (f (peek ts i)) (Done (i + 1) 1) (Err (unexpected (peek ts i)))
 
 -- where a direction is due, what is none is E008
 unfoldable pub direction : Parser
 unfolding unexpected is_direction is_text
 direction ts i =
     let t = peek ts i in
-    cond (is_direction t) (Done (i + 1) 1) (cond (is_text t) (Failed 8 (span_of t)) (unexpected t))
+    cond (is_direction t) (Done (i + 1) 1) (cond (is_text t) (Failed 8 (span_of t)) (Err (unexpected t)))
 
 -- behind an entry: a comma, and 1 for more to come; or the closing sign, and 0
 unfoldable pub separator : ℕ → Parser
 unfolding unexpected
 separator close ts i =
     let t = peek ts i in
-    cond (eqb t.kind 8) (Done (i + 1) 1) (cond (eqb t.kind close) (Done (i + 1) 0) (unexpected t))
+    cond (eqb t.kind 8) (Done (i + 1) 1) (cond (eqb t.kind close) (Done (i + 1) 0) (Err (unexpected t)))
 
 -- entries of p parted by commas up to a sign of the kind `close`, where n stand before, and no more than k follow
-unfoldable pub entries_from : Parser → ℕ → List Token → ℕ → ℕ → ℕ → Parsed
+unfoldable pub entries_from : Parser → ℕ → List Token → ℕ → ℕ → ℕ → Parsed ℕ
 unfolding then unexpected separator
-entries_from p close ts zero i n = unexpected (peek ts i)
+entries_from p close ts zero i n = Err (unexpected (peek ts i))
 entries_from p close ts (suc k) i n =
     then (p ts i) λ j _.
     then (separator close ts j) λ next more. elim (eqb more 0) [ true ↦ Done next (n + 1) | false ↦ entries_from p close ts k next (n + 1) ]
 
 -- all entries: each takes a token, so there are no more of them than tokens
-unfoldable pub entries : Parser → ℕ → List Token → ℕ → ℕ → Parsed
+unfoldable pub entries : Parser → ℕ → List Token → ℕ → ℕ → Parsed ℕ
 unfolding entries_from
 entries p close ts i n = entries_from p close ts (suc (length ts)) i n
 
@@ -112,49 +118,39 @@ left_parts i j n = record { from = i; read = j; reads = n; to = 0; write = 0; wr
 abbrev pub no_parts : Parts
 no_parts = left_parts 0 0 0
 
--- go on towards a value, or keep the failure
-unfoldable pub on : Parsed → (ℕ → ℕ → Value) → Value
-on (Done i n) f = f i n
-on (Failed c s) f = Broken c s
-
--- go on behind a value, or keep its failure
-unfoldable pub on_value : Value → (ℕ → Parts → Value) → Value
-on_value (Ended i q) f = f i q
-on_value (Broken c s) f = Broken c s
-
 -- δ(FROM, READ) =
-unfoldable pub left : List Token → ℕ → Value
-unfolding on one is_kind side tuple read_entry equals
+unfoldable pub left : List Token → ℕ → Parsed Parts
+unfolding then one is_kind side tuple read_entry equals
 left ts i =
-    on (one (is_kind 0) ts i) λ j _.
-    on (side ts j) λ read _.
-    on (tuple read_entry ts read) λ k reads.
-    on (equals ts k) λ end _.
-    Ended end (left_parts (j + 1) read reads)
+    then (one (is_kind 0) ts i) λ j _.
+    then (side ts j) λ read _.
+    then (tuple read_entry ts read) λ k reads.
+    then (equals ts k) λ end _.
+    Done end (left_parts (j + 1) read reads)
 
 -- (TO, WRITE, MOVE)
-unfoldable pub right : Parts → List Token → ℕ → Value
-unfolding on side tuple one is_write is_kind direction
+unfoldable pub right : Parts → List Token → ℕ → Parsed Parts
+unfolding then side tuple one is_write is_kind direction
 right l ts i =
-    on (side ts i) λ write _.
-    on (tuple (one is_write) ts write) λ j writes.
-    on (one (is_kind 8) ts j) λ dir _.
-    on (tuple direction ts dir) λ k dirs.
-    on (one (is_kind 5) ts k) λ end _.
-    Ended end (record { from = l.from; read = l.read; reads = l.reads; to = i + 1; write = write; writes = writes; dir = dir; dirs = dirs })
+    then (side ts i) λ write _.
+    then (tuple (one is_write) ts write) λ j writes.
+    then (one (is_kind 8) ts j) λ dir _.
+    then (tuple direction ts dir) λ k dirs.
+    then (one (is_kind 5) ts k) λ end _.
+    Done end (record { from = l.from; read = l.read; reads = l.reads; to = i + 1; write = write; writes = writes; dir = dir; dirs = dirs })
 
 -- a rule, with δ
-unfoldable pub transition : List Token → ℕ → Value
-unfolding on_value left right
-transition ts i = on_value (left ts i) λ j l. right l ts j
+unfoldable pub transition : List Token → ℕ → Parsed Parts
+unfolding then left right
+transition ts i = then (left ts i) λ j l. right l ts j
 
 -- a value that has no parts
-unfoldable pub plain : Parsed → Value
-unfolding on
-plain p = on p λ end _. Ended end no_parts
+unfoldable pub plain : Parsed ℕ → Parsed Parts
+unfolding then
+plain p = then p λ end _. Done end no_parts
 
 -- the value of an item
-unfoldable pub value : ItemKind → List Token → ℕ → Value
+unfoldable pub value : ItemKind → List Token → ℕ → Parsed Parts
 unfolding plain one is_kind is_choice is_state is_symbol set output transition
 value Machine ts i = plain (one (is_kind 3) ts i)
 value Kind ts i = plain (one (is_choice 0x110010 0x110013) ts i)
@@ -177,14 +173,27 @@ spanning ts i j = record { start = (peek ts i).start; end = (peek ts (j - 1)).en
 unfoldable pub newline_at : List Token → ℕ → ℕ
 newline_at ts i = cond (eqb (peek ts i).kind 12) (i + 1) i
 
+-- what a line is, or why it is refused
+abbrev pub Answer : Type 0
+Answer = Result Line Failure
+
+pattern abbrev pub Empty : Answer
+Empty = Ok NoItem
+
+pattern abbrev pub Comment : ℕ → Answer
+Comment i = Ok (Remark i)
+
+pattern abbrev pub Read : Item → Answer
+Read x = Ok (AnItem x)
+
 -- an item that stands from the index i on, with its value from the index v to j, which the line's end must follow
-unfoldable pub finish : ItemKind → List Token → ℕ → ℕ → ℕ → Parts → Line
-unfolding code_of newline_at
+unfoldable pub finish : ItemKind → List Token → ℕ → ℕ → ℕ → Parts → Answer
+unfolding unexpected newline_at
 finish k ts i v j q =
     let n = newline_at ts j in
     cond (eqb (peek ts n).kind 13)
     (Read (record { kind = k; value = v; end = j; newline = n; span = spanning ts i j; value_span = spanning ts v j; parts = q }))
-    (Error (code_of (peek ts n)) (span_of (peek ts n)))
+    (Err (unexpected (peek ts n)))
 
 -- where the value of an item begins: behind the keyword, behind `=` where it is due, or with the keyword for a rule
 unfoldable pub value_at : Lead → Parser
@@ -193,29 +202,19 @@ value_at Equals ts i = one (is_kind 9) ts (i + 1)
 value_at Nothing ts i = Done (i + 1) 0
 value_at Whole ts i = Done i 0
 
--- go on towards a line, or keep the failure
-unfoldable pub line_on : Parsed → (ℕ → ℕ → Line) → Line
-line_on (Done i n) f = f i n
-line_on (Failed c s) f = Error c s
-
--- the line of a value, or its failure
-unfoldable pub line_of : Value → (ℕ → Parts → Line) → Line
-line_of (Ended i q) f = f i q
-line_of (Broken c s) f = Error c s
-
 -- an item of a kind, whose keyword stands at the index i
-unfoldable pub item_of : ItemKind → List Token → ℕ → Line
-unfolding line_on line_of lead_of value_at value finish
-item_of k ts i = line_on (value_at (lead_of k) ts i) λ v _. line_of (value k ts v) λ j q. finish k ts i v j q
+unfoldable pub item_of : ItemKind → List Token → ℕ → Answer
+unfolding then lead_of value_at value finish
+item_of k ts i = then (value_at (lead_of k) ts i) λ v _. then (value k ts v) λ j q. finish k ts i v j q
 
 -- what a token that starts an item, or no item, makes of its line
-unfoldable pub item_from : Keyword → List Token → ℕ → Line
-unfolding item_of code_of
-item_from (Starts k) ts i = item_of k ts i
-item_from Other ts i = Error (code_of (peek ts i)) (span_of (peek ts i))
+unfoldable pub item_from : Option ItemKind → List Token → ℕ → Answer
+unfolding item_of unexpected
+item_from (Some k) ts i = item_of k ts i
+item_from None ts i = Err (unexpected (peek ts i))
 
 -- an item, with its comment and the line's end
-unfoldable pub item : List Token → ℕ → Line
+unfoldable pub item : List Token → ℕ → Answer
 unfolding keyword_of item_from
 item ts i = item_from (keyword_of (peek ts i)) ts i
 
@@ -224,7 +223,7 @@ unfoldable pub is_comment : List Token → ℕ → Bool
 is_comment ts i = cond (eqb (peek ts i).kind 12) (eqb (peek ts (i + 1)).kind 13) false
 
 -- the line that begins at the index i
-unfoldable pub line : List Token → ℕ → Line
+unfoldable pub line : List Token → ℕ → Answer
 unfolding is_comment item
 line ts i = cond (eqb (peek ts i).kind 13) Empty (cond (is_comment ts i) (Comment i) (item ts i))
 

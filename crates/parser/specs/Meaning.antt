@@ -1,20 +1,18 @@
 -- What a line of the parser means: its tokens, seen through the views of language/specs/Lines.antt.
-use Rattle.std.specs.Prelude.{ℕ, ◌+◌, ◌-◌, ◌<◌, Bool, true, false, cond, List, [], ◌∷◌, ◌≡◌, eqb, length, get_or, take, drop}
+use Rattle.std.specs.Prelude.{ℕ, ◌+◌, ◌-◌, ◌<◌, Bool, true, false, cond, List, [], ◌∷◌, ◌≡◌, eqb, length, get_or, take, drop, Err}
 use Rattle.std.proofs.Math.Option.{Option, none, some}
 use Rattle.lexer.specs.Tokens.{TokenKind, word, number, quoted, str, sign, comment, newline, unterminated_string, unterminated_quote, Span, span, Token}
 use Rattle.lexer.specs.Words.{kind_number, token_value}
 use Rattle.language.specs.Machine.{Located, transducer, lsb}
 use Rattle.language.specs.Parser.{is_sign}
 use Rattle.language.specs.Lines.{RawSymbol, raw_blank, RawDecoder, raw_word, raw_unary, raw_binary, RawTransition, Text, Item, machine_item, input_item, kind_item, output_item, tapes_item, states_item, final_item, input_alphabet_item, tape_alphabet_item, blank_item, start_item, transition_item, Line, blank_line, comment_line, item_line, error_line, state_in, symbol_in, write_in, direction_in, string_in, number_in, word_in, kinds, outputs, orders, word_output, unary_output, binary_output, Ending, line_feed, goes_by, remark, ending_of, lines, covering}
-use Rattle.parser.specs.Lines.{line, line_end}
+use Rattle.parser.specs.Lines.{Failed, Answer, Empty, Comment, Read, line, line_end}
 use Rattle.tokens.specs.declared.Token.{Token as Words}
 use Rattle.tokens.specs.View.{words_of}
 use Rattle.parser.specs.declared.Parts.{Parts}
 use Rattle.parser.specs.declared.ItemKind.{ItemKind}
 use Rattle.parser.specs.declared.ItemKind.TheVariants.{Machine, Kind, Input, Output, Tapes, States, InputAlphabet, TapeAlphabet, Blank as BlankSymbol, Start, Final, Transition}
 use Rattle.parser.specs.declared.Item.{Item as Found}
-use Rattle.parser.specs.declared.Line.{Line as Parsed}
-use Rattle.parser.specs.declared.Line.TheVariants.{Blank, Comment, Item as Read, Error}
 
 -- a token as its four words
 unfoldable pub token_of : Token Span → Words
@@ -148,12 +146,12 @@ unfolding remark_of
 own_comment ts j n = cond (eqb n j) none (some (comment_of (at ts j)))
 
 -- a line of the parser, over the tokens that it was read from
-unfoldable pub line_means : List (Token Span) → Parsed → Line Span
+unfoldable pub line_means : List (Token Span) → Answer → Line Span
 unfolding item_means own_comment remark_of
-line_means ts Blank = blank_line
+line_means ts Empty = blank_line
 line_means ts (Comment i) = comment_line (comment_of (at ts i))
 line_means ts (Read r) = item_line (item_means ts r.kind r.value r.end r.parts) r.span (own_comment ts r.end r.newline)
-line_means ts (Error c s) = error_line c (s)
+line_means ts (Err bad) = error_line bad.code bad.span
 
 -- the counts of a rule's parts are the lengths of its lists
 pub record Counted (ts : List (Token Span)) (r : Found) : Type 0 where
@@ -176,11 +174,11 @@ CountedAs ts Start r = Unit {0}
 CountedAs ts Final r = Unit {0}
 CountedAs ts Transition r = Counted ts r
 
-abbrev pub LineCounted : List (Token Span) → Parsed → Type 0
-LineCounted ts Blank = Unit {0}
+abbrev pub LineCounted : List (Token Span) → Answer → Type 0
+LineCounted ts Empty = Unit {0}
 LineCounted ts (Comment i) = Unit {0}
 LineCounted ts (Read r) = CountedAs ts r.kind r
-LineCounted ts (Error c s) = Unit {0}
+LineCounted ts (Err bad) = Unit {0}
 
 -- ---- what the lexer's tokens have
 

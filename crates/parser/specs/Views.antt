@@ -1,5 +1,5 @@
 -- What the parser asks of one token. Its kind and value are the words of lexer/specs/Words.antt.
-use Rattle.std.specs.Prelude.{ℕ, ◌+◌, ◌-◌, ◌*◌, ◌≤◌, ◌<◌, ◌≡◌, Bool, true, false, cond, not, List, [], ◌∷◌, eqb, ltb, leb, length}
+use Rattle.std.specs.Prelude.{ℕ, ◌+◌, ◌-◌, ◌*◌, ◌≤◌, ◌<◌, ◌≡◌, Bool, true, false, cond, not, List, [], ◌∷◌, eqb, ltb, leb, length, None, Option, Some}
 use Rattle.parser.specs.Row.{peek}
 use Rattle.tokens.specs.declared.Token.{Token}
 use Rattle.lexer.specs.declared.Span.{Span}
@@ -7,8 +7,6 @@ use Rattle.parser.specs.declared.ItemKind.{ItemKind}
 use Rattle.parser.specs.declared.ItemKind.TheVariants.{Machine, Kind, Input, Output, Tapes, States, InputAlphabet, TapeAlphabet, Blank, Start, Final, Transition}
 use Rattle.parser.specs.declared.Lead.{Lead}
 use Rattle.parser.specs.declared.Lead.TheVariants.{Equals, Nothing, Whole}
-use Rattle.parser.specs.declared.Keyword.{Keyword}
-use Rattle.parser.specs.declared.Keyword.TheVariants.{Starts, Other}
 
 -- its place
 abbrev pub span_of : Token → Span
@@ -74,14 +72,14 @@ starts =
     row 0x11000C Start ∷ row 0x46 Final ∷ row 0x3B4 Transition ∷ row 0x11000F Transition ∷ []
 
 -- the item of the first row with a value
-unfoldable pub lookup : List Row → ℕ → Keyword
-lookup [] v = Other
-lookup (row n k ∷ r) v = cond (eqb v n) (Starts k) (lookup r v)
+unfoldable pub lookup : List Row → ℕ → Option ItemKind
+lookup [] v = None
+lookup (row n k ∷ r) v = cond (eqb v n) (Some k) (lookup r v)
 
 -- the item that a token starts
-unfoldable pub keyword_of : Token → Keyword
+unfoldable pub keyword_of : Token → Option ItemKind
 unfolding lookup
-keyword_of t = cond (eqb t.kind 0) (lookup starts t.value) Other
+keyword_of t = cond (eqb t.kind 0) (lookup starts t.value) None
 
 -- what stands between an item's keyword and its value: `=` or nothing; a rule's value is the whole rule
 unfoldable pub lead_of : ItemKind → Lead

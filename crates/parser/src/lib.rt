@@ -8,8 +8,8 @@ pub mod view;
 
 use lexer::Span;
 
-// What an item declares, or that it is a transition.
-#[derive(Clone, Copy)]
+// What an item declares, or that it is a transition; in the source's order.
+#[derive(Clone, Copy, Debug, PartialEq, Eq)]
 pub enum ItemKind {
     Machine,
     Kind,
@@ -25,30 +25,26 @@ pub enum ItemKind {
     Transition,
 }
 
-// The item that a token starts, if it starts one.
-#[derive(Clone, Copy)]
-pub enum Keyword {
-    Starts(ItemKind),
-    Other,
-}
-
 // What stands between an item's keyword and its value; a transition's value is the whole item.
-#[derive(Clone, Copy)]
+#[derive(Clone, Copy, Debug, PartialEq, Eq)]
 pub enum Lead {
     Equals,
     Nothing,
     Whole,
 }
 
-// What a parser answers: the index behind what it read and how many entries it read; or a failure's code and span.
+// Why a line is refused: the number of the error, and its place.
 #[derive(Clone, Copy)]
-pub enum Parsed {
-    Done(usize, usize),
-    Failed(u32, Span),
+pub struct Failure {
+    pub code: u32,
+    pub span: Span,
 }
 
+// What a parser answers: the index behind what it read, and what it makes of it.
+pub type Parsed<T> = Result<(usize, T), Failure>;
+
 // A transition's parts: the indices where they begin, and how many entries each list has; all 0 for a declaration.
-#[derive(Clone, Copy)]
+#[derive(Clone, Copy, Debug, Default, PartialEq, Eq)]
 pub struct Parts {
     pub from: usize,
     pub read: usize,
@@ -58,13 +54,6 @@ pub struct Parts {
     pub writes: usize,
     pub dir: usize,
     pub dirs: usize,
-}
-
-// An item's value: the index behind it, and its parts; or a failure's code and span.
-#[derive(Clone, Copy)]
-pub enum Value {
-    Done(usize, Parts),
-    Failed(u32, Span),
 }
 
 // An item: its value's tokens are those from `value` to before `end`; a comment stands at `end` if `newline` is not there.
@@ -79,11 +68,10 @@ pub struct Item {
     pub parts: Parts,
 }
 
-// A line: nothing, only a comment (its index), an item, or a failure's code and span.
+// A line: nothing, only a comment (its index), or an item.
 #[derive(Clone, Copy)]
 pub enum Line {
     Blank,
     Comment(usize),
     Item(Item),
-    Error(u32, Span),
 }

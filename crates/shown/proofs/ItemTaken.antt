@@ -1,4 +1,6 @@
 -- What the line parser took for the value of an item: the answer of the value's parser, and its last token, which is no comment.
+use Rattle.std.specs.Prelude.{Err, None, Option, Some}
+use Rattle.parser.specs.Lines.{Parsed, Done, Failed, Empty, Comment, Read}
 use mathlib.Core.Path.{◌≡◌, refl, sym, ap, subst, ◌∙◌}
 use mathlib.Core.Bool.{Bool, true, false, cond}
 use mathlib.Core.List.{List}
@@ -11,16 +13,9 @@ use Rattle.lexer.specs.declared.Span.{Span as Place}
 use Rattle.tokens.specs.declared.Token.{Token}
 use Rattle.parser.specs.declared.ItemKind.{ItemKind}
 use Rattle.parser.specs.declared.ItemKind.TheVariants.{Machine, Kind, Input, Output, Tapes, States, InputAlphabet, TapeAlphabet, Blank, Start, Final, Transition}
-use Rattle.parser.specs.declared.Keyword.{Keyword}
-use Rattle.parser.specs.declared.Keyword.TheVariants.{Starts, Other}
 use Rattle.parser.specs.declared.Lead.TheVariants.{Equals, Nothing}
-use Rattle.parser.specs.declared.Parsed.{Parsed}
-use Rattle.parser.specs.declared.Parsed.TheVariants.{Done, Failed}
 use Rattle.parser.specs.declared.Parts.{Parts}
-use Rattle.parser.specs.declared.Value.{Value}
-use Rattle.parser.specs.declared.Value.TheVariants.{Done as Ended, Failed as Broken}
 use Rattle.parser.specs.declared.Item.{Item as Found}
-use Rattle.parser.specs.declared.Line.TheVariants.{Blank as Empty, Comment, Item as Read, Error}
 use Rattle.parser.specs.Row.{peek}
 use Rattle.parser.specs.Views.{span_of, is_kind, is_choice, is_state, is_symbol, keyword_of, lead_of}
 use Rattle.parser.specs.Lines as P
@@ -31,7 +26,7 @@ use Rattle.assembler.proofs.Inside.{then_done, done_within}
 use Rattle.shown.proofs.ListsShown.{Series, last_one, one_more, entries_series}
 
 -- two cases of a line
-absurd_line : {X : Type 0} (c : ℕ) (s : Place) (x : Found) → Error c s ≡ Read x → X
+absurd_line : {X : Type 0} (c : ℕ) (s : Place) (x : Found) → Failed c s ≡ Read x → X
 absurd_line c s x e = absurd (let z : ◌≡◌ {A = ℕ} 0 1 = cc in omega arith)
 
 -- behind the value stands the line's end
@@ -53,20 +48,20 @@ pub record Taken (p : P.Parser) (ts : List Token) (v : ℕ) (x : Found) : Type 0
   pub value : x.value ≡ v
 
 module _ (ts : List Token) (x : Found) where
-  value_of : (k : ItemKind) (v : ℕ) (y : Value) → P.line_of y (λ j q. P.finish k ts 0 v j q) ≡ Read x → x.kind ≡ k
-  unfolding P.line_of
-  value_of k v (Ended j q) e = (finished k ts v j q x e).0
-  value_of k v (Broken c s) e = absurd_line c s x e
+  value_of : (k : ItemKind) (v : ℕ) (y : Parsed Parts) → P.then y (λ j q. P.finish k ts 0 v j q) ≡ Read x → x.kind ≡ k
+  unfolding P.then
+  value_of k v (Done j q) e = (finished k ts v j q x e).0
+  value_of k v (Err bad) e = absurd_line c s x e
 
-  kind_of_lem : (k : ItemKind) (p : Parsed) → P.line_on p (λ v n. P.line_of (P.value k ts v) (λ j q. P.finish k ts 0 v j q)) ≡ Read x → x.kind ≡ k
-  unfolding P.line_on
+  kind_of_lem : (k : ItemKind) (p : Parsed ℕ) → P.then p (λ v n. P.then (P.value k ts v) (λ j q. P.finish k ts 0 v j q)) ≡ Read x → x.kind ≡ k
+  unfolding P.then
   kind_of_lem k (Done v n) e = value_of k v (P.value k ts v) e
-  kind_of_lem k (Failed c s) e = absurd_line c s x e
+  kind_of_lem k (Err bad) e = absurd_line c s x e
 
-  item_from_lem : (w : Keyword) → P.item_from w ts 0 ≡ Read x → P.item_of x.kind ts 0 ≡ Read x
+  item_from_lem : (w : Option ItemKind) → P.item_from w ts 0 ≡ Read x → P.item_of x.kind ts 0 ≡ Read x
   unfolding P.item_from P.item_of
-  item_from_lem (Starts k) e = ap (λ (k : ItemKind). P.item_of k ts 0) (kind_of_lem k (P.value_at (lead_of k) ts 0) e) ∙ e
-  item_from_lem Other e = absurd_line _ _ x e
+  item_from_lem (Some k) e = ap (λ (k : ItemKind). P.item_of k ts 0) (kind_of_lem k (P.value_at (lead_of k) ts 0) e) ∙ e
+  item_from_lem None e = absurd_line _ _ x e
 
   pub empty_read : {X : Type 0} → Empty ≡ Read x → X
   empty_read e = absurd (let z : ◌≡◌ {A = ℕ} 0 1 = cc in omega arith)
@@ -86,21 +81,21 @@ module _ (ts : List Token) (x : Found) where
       by_test_lem (P.is_comment ts 0) (λ y. comment-read 0 (sym (rw (P.line, n, y)) ∙ e)) (λ m. item_from_lem (keyword_of (peek ts 0)) (sym (rw (P.line, n, m)) ∙ e))
 
   module _ (k : ItemKind) (p : P.Parser) where
-    plain-taken : (v : ℕ) (r : Parsed) → p ts v ≡ r → P.line_of (P.plain r) (λ j q. P.finish k ts 0 v j q) ≡ Read x → Taken p ts v x
-    unfolding P.line_of P.plain P.on
+    plain-taken : (v : ℕ) (r : Parsed ℕ) → p ts v ≡ r → P.then (P.plain r) (λ j q. P.finish k ts 0 v j q) ≡ Read x → Taken p ts v x
+    unfolding P.then P.plain
     plain-taken v (Done j n) q e = let f = finished k ts v j P.no_parts x e in record { count = n; read = q ∙ ap (λ (j : ℕ). Done j n) (sym f.2); value = f.1 }
-    plain-taken v (Failed c s) q e = absurd_line c s x e
+    plain-taken v (Err bad) q e = absurd_line c s x e
 
-    behind-keyword : P.line_on (P.value_at Nothing ts 0) (λ v n. P.line_of (P.plain (p ts v)) (λ j q. P.finish k ts 0 v j q)) ≡ Read x → Taken p ts 1 x
-    unfolding P.line_on P.value_at
+    behind-keyword : P.then (P.value_at Nothing ts 0) (λ v n. P.then (P.plain (p ts v)) (λ j q. P.finish k ts 0 v j q)) ≡ Read x → Taken p ts 1 x
+    unfolding P.then P.value_at
     behind-keyword e = plain-taken 1 (p ts 1) refl e
 
-    behind-equals : P.line_on (P.value_at Equals ts 0) (λ v n. P.line_of (P.plain (p ts v)) (λ j q. P.finish k ts 0 v j q)) ≡ Read x → Taken p ts 2 x
-    unfolding P.line_on P.value_at P.one P.unexpected
+    behind-equals : P.then (P.value_at Equals ts 0) (λ v n. P.then (P.plain (p ts v)) (λ j q. P.finish k ts 0 v j q)) ≡ Read x → Taken p ts 2 x
+    unfolding P.then P.value_at P.one P.unexpected
     behind-equals e =
         by_test_lem (is_kind 9 (peek ts 1))
-        (λ y. plain-taken 2 (p ts 2) refl (sym (ap (λ (b : Bool). P.line_on (cond b (Done 2 1) (P.unexpected (peek ts 1))) (λ v n. P.line_of (P.plain (p ts v)) (λ j q. P.finish k ts 0 v j q))) y) ∙ e))
-        (λ m. absurd_line _ _ x (sym (ap (λ (b : Bool). P.line_on (cond b (Done 2 1) (P.unexpected (peek ts 1))) (λ v n. P.line_of (P.plain (p ts v)) (λ j q. P.finish k ts 0 v j q))) m) ∙ e))
+        (λ y. plain-taken 2 (p ts 2) refl (sym (ap (λ (b : Bool). P.then (cond b (Done 2 1) (P.unexpected (peek ts 1))) (λ v n. P.then (P.plain (p ts v)) (λ j q. P.finish k ts 0 v j q))) y) ∙ e))
+        (λ m. absurd_line _ _ x (sym (ap (λ (b : Bool). P.then (cond b (Done 2 1) (P.unexpected (peek ts 1))) (λ v n. P.then (P.plain (p ts v)) (λ j q. P.finish k ts 0 v j q))) m) ∙ e))
 
 -- ---- the item of each kind
 abbrev pub TakenAs : ItemKind → List Token → Found → Type 0

@@ -1,4 +1,5 @@
 -- One line of the row of a text shows the language's line: what was parsed still stands in its tokens, or in the entry and the two tokens that hold a rule's parts.
+use Rattle.std.specs.Prelude.{Err}
 use mathlib.Core.Path.{◌≡◌, refl, sym, ap, subst, ◌∙◌}
 use mathlib.Core.Bool.{Bool, true, false}
 use mathlib.Core.List.{List, [], ◌∷◌, ◌++◌, map, append-nil}
@@ -21,11 +22,9 @@ use Rattle.parser.specs.declared.ItemKind.{ItemKind}
 use Rattle.parser.specs.declared.ItemKind.TheVariants.{Machine, Kind, Input, Output, Tapes, States, InputAlphabet, TapeAlphabet, Blank, Start, Final, Transition}
 use Rattle.parser.specs.declared.Lead.TheVariants.{Equals}
 use Rattle.parser.specs.declared.Item.{Item as Found}
-use Rattle.parser.specs.declared.Line.{Line as Parsed}
-use Rattle.parser.specs.declared.Line.TheVariants.{Blank as Empty, Comment, Item as Read, Error}
 use Rattle.parser.specs.Row.{peek, ended}
 use Rattle.parser.specs.Views.{is_kind, is_state, is_symbol, is_write, is_direction, lead_of}
-use Rattle.parser.specs.Lines.{one, direction, is_comment, line, newline_at}
+use Rattle.parser.specs.Lines.{Failed, Answer, Empty, Comment, Read, one, direction, is_comment, line, newline_at}
 use Rattle.parser.specs.Meaning.{token_of, nothing, at, between, located, or_else, text_of, Sound, seen, read_sets, rule_of, item_means, comment_of, own_comment, line_means, AllLexed}
 use Rattle.parser.proofs.Views.{is_some, sees_symbol, sees_write, sees_direction}
 use Rattle.language.specs.Machine.{Located}
@@ -426,11 +425,11 @@ module _ (text : List ℕ) (E : List Token) (i : ℕ) (t : Lexed Place) (l' : To
       let q : 0 ≡ k = cc in
       sym q
 
-  entered_as : (y : Parsed) → line W 0 ≡ y → (r : ℕ) → r ≤ b → peek E (i + r) ≡ peek (enter_as y i W) r
+  entered_as : (y : Answer) → line W 0 ≡ y → (r : ℕ) → r ≤ b → peek E (i + r) ≡ peek (enter_as y i W) r
   unfolding enter_line
-  entered_as y e r h = M.row_at text E i t l' lexed placed row r h ∙ ap (λ (y : Parsed). peek (enter_as y i W) r) e
+  entered_as y e r h = M.row_at text E i t l' lexed placed row r h ∙ ap (λ (y : Answer). peek (enter_as y i W) r) e
 
-  first_as : (y : Parsed) → line W 0 ≡ y → peek E i ≡ peek (enter_as y i W) 0
+  first_as : (y : Answer) → line W 0 ≡ y → peek E i ≡ peek (enter_as y i W) 0
   first_as y e = let z : i + 0 ≡ i = omega arith in ap (peek E) (sym z) ∙ entered_as y e 0 (omega arith)
 
   comment_line_lem : length text < 2 ^ 32 → line W 0 ≡ Comment 0 → CommentShows E i (comment_of t)
@@ -453,7 +452,7 @@ module _ (text : List ℕ) (E : List Token) (i : ℕ) (t : Lexed Place) (l' : To
         feed = ap (λ (w : Token). w.kind) (entered_as (Comment 0) e 1 low) ∙ eqb-true (peek W 1).kind 13 h.1;
       }
 
-  line_as : length text < 2 ^ 32 → (y : Parsed) → line W 0 ≡ y → ExpandsLine (line_means l y) → Shows text E i (line_means l y)
+  line_as : length text < 2 ^ 32 → (y : Answer) → line W 0 ≡ y → ExpandsLine (line_means l y) → Shows text E i (line_means l y)
   unfolding line_means enter_as failed_entry
   line_as small Empty e f =
       let h : eqb (peek W 0).kind 13 ≡ true = subst (LineIn W) e (line_in W) in
@@ -462,7 +461,7 @@ module _ (text : List ℕ) (E : List Token) (i : ℕ) (t : Lexed Place) (l' : To
       let z = comment_zero k e in
       subst (λ (k : ℕ). CommentShows E i (comment_of (at l k))) (sym z) (comment_line_lem small (e ∙ ap Comment z))
   line_as small (Read x) e f = item_shows x e small f
-  line_as small (Error c s) e f = omega (arith, ap (λ (w : Token). w.kind) (first_as (Error c s) e))
+  line_as small (Err bad) e f = omega (arith, ap (λ (w : Token). w.kind) (first_as (Failed c s) e))
 
   pub line_shows : length text < 2 ^ 32 → ExpandsLine (line_means l (line W 0)) → Shows text E i (line_means l (line W 0))
   line_shows small f = line_as small (line W 0) refl f

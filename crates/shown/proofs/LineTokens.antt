@@ -20,9 +20,8 @@ use Rattle.parser.specs.declared.Parts.{Parts}
 use Rattle.parser.specs.declared.ItemKind.{ItemKind}
 use Rattle.parser.specs.declared.ItemKind.TheVariants.{Machine, Kind, Input, Output, Tapes, States, InputAlphabet, TapeAlphabet, Blank, Start, Final, Transition}
 use Rattle.parser.specs.declared.Item.{Item as Found}
-use Rattle.parser.specs.declared.Line.TheVariants.{Item as Read}
 use Rattle.parser.specs.Row.{peek, ended}
-use Rattle.parser.specs.Lines.{line, line_length, newline_at}
+use Rattle.parser.specs.Lines.{Read, line, line_length, newline_at}
 use Rattle.parser.specs.Meaning.{token_of, nothing, at, Sound, Closed, AllLexed, comment_of, own_comment}
 use Rattle.parser.proofs.ItemLines.{goes_kind, feed_kind}
 use Rattle.language.specs.Machine.{Located}

@@ -14,10 +14,9 @@ use Rattle.lexer.specs.declared.Span.{Span as Place}
 use Rattle.lexer.specs.Tokens.{TokenKind, Token as Lexed}
 use Rattle.lexer.proofs.Steps.{Good}
 use Rattle.tokens.specs.declared.Token.{Token}
-use Rattle.parser.specs.declared.Parsed.TheVariants.{Done}
 use Rattle.parser.specs.Row.{peek, ended}
 use Rattle.parser.specs.Views.{is_symbol}
-use Rattle.parser.specs.Lines.{then, unexpected, one, separator, entries_from, entries, tuple, read_entry}
+use Rattle.parser.specs.Lines.{Done, then, unexpected, one, separator, entries_from, entries, tuple, read_entry}
 use Rattle.parser.specs.Meaning.{token_of, at, between, Sound, ReadPart, opens, closes, passes, reads, read_part, joins, outside, inside, read_sets}
 use Rattle.parser.proofs.Lists.{read_steps}
 use Rattle.language.specs.Machine.{Located}

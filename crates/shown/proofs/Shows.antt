@@ -1,4 +1,5 @@
 -- How the lines of a row show the lines of the language: what the head, the inference and the sheet's sections ask of each.
+use Rattle.parser.specs.Lines.{Read}
 use mathlib.Core.Path.{◌≡◌}
 use mathlib.Core.Bool.{Bool, true, false}
 use mathlib.Core.List.{List, [], ◌∷◌, map}
@@ -12,7 +13,6 @@ use Rattle.lexer.proofs.Placed.{Placed, All}
 use Rattle.tokens.specs.declared.Token.{Token}
 use Rattle.parser.specs.declared.ItemKind.TheVariants.{Transition}
 use Rattle.parser.specs.declared.Item.{Item as Found}
-use Rattle.parser.specs.declared.Line.TheVariants.{Item as Read}
 use Rattle.parser.specs.Row.{peek}
 use Rattle.parser.specs.Views.{is_state, is_symbol}
 use Rattle.parser.specs.Lines as P

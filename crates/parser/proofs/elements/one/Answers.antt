@@ -1,0 +1,14 @@
+use Rattle.std.proofs.Common.{rules, ◌≡◌, ap}
+use Rattle.parser.proofs.Single.{test_fits, one_yes, one_no}
+use Rattle.parser.proofs.elements.one.Given as given
+use Rattle.parser.proofs.elements.one.Goals as goal
+
+pub overflow_add-result : goal.overflow_add-result
+overflow_add-result g c =
+    test_fits (given.F-post g c.args.test) c.args.work.now c.args.at c.token_at-t.result c.test.result c.token_at-t.ensures c.test.ensures c.if-test.true c.requires.refuses (search rules)
+
+pub returns-then-test : goal.returns-then-test
+returns-then-test g c = λ f says. one_yes _ _ _ c.token_at-t.ensures f _ (says _ _ c.test.ensures) c.if-test.true
+
+pub returns : goal.returns
+returns g c = λ f says. one_no _ _ _ c.token_at-t.ensures f _ (says _ _ c.test.ensures) _ c.if-test.false (search rules)

@@ -1,0 +1,11 @@
+use Rattle.parser.proofs.Rules.{ends}
+use Rattle.parser.proofs.items.line_end.Goals as goal
+
+pub overflow_add-i : goal.overflow_add-i
+overflow_add-i c = search ends
+
+pub loop-i-preserved : goal.loop-i-preserved
+loop-i-preserved c = search ends
+
+pub returns : goal.returns
+returns c = search ends
