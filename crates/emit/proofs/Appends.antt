@@ -75,12 +75,12 @@ appended_empty at a = ap (λ (l : List ℕ). output l (counted at (length a))) (
 -- ---- the same of an output that was lent
 
 -- nothing is appended by doing nothing, and bytes by one call go before those by the next
-pub Appends-nil : (o : D.Output) → o.at < 18446744073709551616 → Appends [] o o
-Appends-nil o h = record { appends = sym (appended-nil (held o) h); same_row = refl }
+pub Appends-nil : (o : D.Output) → Row (held o) → o.at < 18446744073709551616 → Appends [] o o
+Appends-nil o s h = record { appends = sym (appended-nil (held o) h); same_row = refl; short = s }
 
-pub Appends-append : (o : D.Output) (a b : List ℕ) (p r : D.Output) → Row (held o) → Appends a o p → Appends b p r → Appends (a ++ b) o r
-Appends-append o a b p r h u v =
-    record { appends = v.appends ∙ ap (λ x. appended x b) u.appends ∙ appended-append (held o) h a b; same_row = v.same_row ∙ u.same_row }
+pub Appends-append : (o : D.Output) (a b : List ℕ) (p r : D.Output) → Appends a o p → Appends b p r → Appends (a ++ b) o r
+Appends-append o a b p r u v =
+    record { appends = v.appends ∙ ap (λ x. appended x b) u.appends ∙ appended-append (held o) u.short a b; same_row = v.same_row ∙ u.same_row; short = u.short }
 
 -- ---- a byte
 

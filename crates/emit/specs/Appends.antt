@@ -1,5 +1,5 @@
 -- What an output holds, and what appending to it does.
-use Rattle.std.specs.Prelude.{ℕ, List, ◌≡◌}
+use Rattle.std.specs.Prelude.{ℕ, List, length, ◌≡◌, ◌<◌, ◌^◌}
 use Rattle.std.specs.Borrow.{GName}
 use Rattle.emit.specs.Output as O
 use Rattle.emit.specs.Output.{output, appended}
@@ -17,3 +17,4 @@ lent_row o = o.row.ghost_name
 pub record Appends (bytes : List ℕ) (before after : Output) : Type 0 where
   pub appends : held after ≡ appended (held before) bytes
   pub same_row : lent_row after ≡ lent_row before
+  pub short : length before.row.now < 2 ^ 64
