@@ -8,7 +8,8 @@ use Rattle.chars.specs.Utf8.{scalar, encode}
 use Rattle.language.specs.Layout.{Counts, Head}
 use Rattle.language.specs.Plain.{Piece, ◌⨾◌, say, end, only, each, name_set, comment_line, rule_lines, pieces, plain}
 use Rattle.language.specs.Agreement.{Answer, groups, records, state_in, text_in, rule_in, content_of_answer}
-use Rattle.emit.specs.Output.{Output, appended}
+use Rattle.emit.specs.Output.{appended}
+use Rattle.emit.specs.declared.Output.{Output}
 use Rattle.emit.proofs.Appends.{appended-nil}
 use Rattle.pieces.specs.Writes.{Writes}
 use Rattle.form_parts.specs.Places.{Every, NameIn}

@@ -11,8 +11,9 @@ use Rattle.language.specs.Plain.{Piece, say, end, each, commas, verbatim, symbol
 use Rattle.language.specs.Agreement.{groups, records, place_at, dir_of, action_in, characters_at, comment_at, text_in, rule_in}
 use Rattle.machine.specs.declared.Span as D
 use Rattle.machine.specs.Head.{span_of, span_in}
-use Rattle.emit.specs.Output.{Output}
-use Rattle.pieces.specs.Writes.{Adds, Writes}
+use Rattle.emit.specs.declared.Output.{Output}
+use Rattle.emit.specs.Appends.{Appends}
+use Rattle.pieces.specs.Writes.{Writes}
 use Rattle.rule_form.specs.Rules.{rule_left, rule_right}
 use Rattle.form_parts.specs.Places.{Every, Utf8At, NameIn, column}
 use Rattle.rule_form.specs.Formed.{RuleFormed}
@@ -58,8 +59,8 @@ module _ (text ws : List ℕ) where
   named i q o r e w = subst (λ p. Writes (verbatim (characters_at text p)) o r) (ap span_in e) w
 
   module _ (n : ℕ) (acts : List ℕ) (arity : n ≡ get_or ws 9 0) (cut : acts ≡ drop 11 ws) where
-    pub left-written : (q : D.Span) (o a b c d r : Output) → q ≡ span_of (place_at ws 1) → Adds (0xCE ∷ 0xB4 ∷ 0x28 ∷ []) o a → Writes (verbatim (characters_at text (span_in q))) a b
-        → Adds (0x2C ∷ 0x20 ∷ 0x28 ∷ []) b c → Writes (commas symbol (column 7 0 n acts)) c d → Adds (0x29 ∷ 0x29 ∷ []) d r → Writes (rule_left (rule_in text ws)) o r
+    pub left-written : (q : D.Span) (o a b c d r : Output) → q ≡ span_of (place_at ws 1) → Appends (0xCE ∷ 0xB4 ∷ 0x28 ∷ []) o a → Writes (verbatim (characters_at text (span_in q))) a b
+        → Appends (0x2C ∷ 0x20 ∷ 0x28 ∷ []) b c → Writes (commas symbol (column 7 0 n acts)) c d → Appends (0x29 ∷ 0x29 ∷ []) d r → Writes (rule_left (rule_in text ws)) o r
     unfolding rule_left rule_in actions encode
     left-written q o a b c d r e w₁ w₂ w₃ w₄ w₅ =
         let f : Writes (commas (λ x. symbol x.read) (actions (get_or ws 9 0) (drop 11 ws))) c d =
@@ -67,9 +68,9 @@ module _ (text ws : List ℕ) where
         known {p = say "δ("} (0xCE ∷ 0xB4 ∷ 0x28 ∷ []) (λ rest. refl) w₁ ▹ named 1 q a b e w₂
         ▹ known {p = say ", ("} (0x2C ∷ 0x20 ∷ 0x28 ∷ []) (λ rest. refl) w₃ ▹ f ▹ known {p = say "))"} (0x29 ∷ 0x29 ∷ []) (λ rest. refl) w₅
 
-    pub right-written : (q : D.Span) (o a b c d x y r : Output) → q ≡ span_of (place_at ws 3) → Adds (0x20 ∷ 0x3D ∷ 0x20 ∷ 0x28 ∷ []) o a → Writes (verbatim (characters_at text (span_in q))) a b
-        → Adds (0x2C ∷ 0x20 ∷ 0x28 ∷ []) b c → Writes (commas symbol (column 7 3 n acts)) c d → Adds (0x29 ∷ 0x2C ∷ 0x20 ∷ 0x28 ∷ []) d x
-        → Writes (commas direction (map dir_of (column 7 6 n acts))) x y → Adds (0x29 ∷ 0x29 ∷ []) y r → Writes (rule_right (rule_in text ws)) o r
+    pub right-written : (q : D.Span) (o a b c d x y r : Output) → q ≡ span_of (place_at ws 3) → Appends (0x20 ∷ 0x3D ∷ 0x20 ∷ 0x28 ∷ []) o a → Writes (verbatim (characters_at text (span_in q))) a b
+        → Appends (0x2C ∷ 0x20 ∷ 0x28 ∷ []) b c → Writes (commas symbol (column 7 3 n acts)) c d → Appends (0x29 ∷ 0x2C ∷ 0x20 ∷ 0x28 ∷ []) d x
+        → Writes (commas direction (map dir_of (column 7 6 n acts))) x y → Appends (0x29 ∷ 0x29 ∷ []) y r → Writes (rule_right (rule_in text ws)) o r
     unfolding rule_right rule_in actions encode
     right-written q o a b c d x y r e w₁ w₂ w₃ w₄ w₅ w₆ w₇ =
         let f : Writes (commas (λ z. symbol z.write) (actions (get_or ws 9 0) (drop 11 ws))) c d =
@@ -88,7 +89,7 @@ module _ (text ws : List ℕ) where
     leading_utf8 h = subst (λ m. Every (NameIn text) (groups 2 m tail)) (sym many) (subst (λ l. Every (NameIn text) (groups 2 (get_or ws 10 0) l)) rest-words h)
 
     pub lines-written : (q : D.Span) (o a b c d r : Output) → q ≡ span_of (place_at ws 7) → Writes (each comment_line (map (text_in text) (groups 2 k tail))) o a
-        → Writes (rule_left (rule_in text ws)) a b → Writes (rule_right (rule_in text ws)) b c → Writes (own_comment (comment_at text (span_in q))) c d → Adds (10 ∷ []) d r
+        → Writes (rule_left (rule_in text ws)) a b → Writes (rule_right (rule_in text ws)) b c → Writes (own_comment (comment_at text (span_in q))) c d → Appends (10 ∷ []) d r
         → Writes (rule_lines (rule_in text ws)) o r
     unfolding rule_lines rule rule_left rule_right rule_in encode
     lines-written q o a b c d r e w₁ w₂ w₃ w₄ w₅ =
