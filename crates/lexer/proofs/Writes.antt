@@ -16,10 +16,8 @@ use Rattle.chars.proofs.Laws.{points_next, points_le}
 use Rattle.chars.proofs.Theorems.{valid_le}
 use Rattle.lexer.specs.Tokens.{TokenKind, newline, Span, span, Token, token_at, Step, gap, tok, step, emit, tokens_from, tokens}
 use Rattle.lexer.specs.Words.{kind_number, token_value, token_words, flat, onto, tokenized}
-use Rattle.lexer.specs.Places.{piece_of, piece}
+use Rattle.lexer.specs.Places.{Found, Tok, Gap, End, piece_of, piece}
 use Rattle.lexer.specs.Quick.{quick_value, quick_piece}
-use Rattle.lexer.specs.declared.Piece.{Piece}
-use Rattle.lexer.specs.declared.Piece.TheVariants.{Token as Tok, Gap, End}
 use Rattle.lexer.proofs.Scans.{by_test}
 use Rattle.lexer.proofs.Pieces.{jump, jump_le}
 use Rattle.lexer.proofs.Steps.{Fit, Fits as FitsStep, step_fits}
@@ -157,7 +155,7 @@ unfolding flat
 length-flat [] = refl
 length-flat (x ∷ r) = omega (arith, length-flat r)
 
-module _ (t w₀ w : List ℕ) (at n : ℕ) (r : Piece) (st : State t w₀ w at n) (s : r ≡ piece at (decode (drop at t))) where
+module _ (t w₀ w : List ℕ) (at n : ℕ) (r : Found) (st : State t w₀ w at n) (s : r ≡ piece at (decode (drop at t))) where
   module _ (k e v m : ℕ) (p : r ≡ Tok k e v m) where
     next : Next t at k e v m
     next = token_here (decode (drop at t)) t at k e v m refl (sym s ∙ p)
