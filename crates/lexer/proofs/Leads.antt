@@ -1,6 +1,6 @@
 -- Tokens of one ASCII character: what the table and the byte behind the character say is what the definition says.
 use mathlib.Core.Path.{◌≡◌, refl, sym, ap, subst, ◌∙◌}
-use Prim.Native.Nat.{ℕ, zero, suc, ◌+◌, ◌-◌, ◌%◌, ◌≤◌, ◌<◌, min}
+use Prim.Native.Nat.{ℕ, zero, suc, ◌+◌, ◌%◌, ◌≤◌, ◌<◌, min}
 use native.Mathlib.Omega.{arith}
 use native.Mathlib.Nat.{add-zero}
 use mathlib.Core.Bool.{Bool, true, false, cond, not}
@@ -16,11 +16,11 @@ use Rattle.chars.proofs.Laws.{decode-end}
 use Rattle.chars.proofs.Blocks.{ascii_decode}
 use Rattle.lexer.specs.Tokens.{sign, tok, is_digit, is_ascii_digit, is_word_continue, run, word_step, number_step, step}
 use Rattle.lexer.specs.Words.{sign_number, position, keyword_bytes, value_from, value}
-use Rattle.lexer.specs.Places.{part, Found, Tok, Gap, piece_of, piece}
+use Rattle.lexer.specs.Places.{part, Found, Tok, piece_of, piece}
 use Rattle.lexer.specs.Quick.{other_lead, lead_of, leads_from, leads, WordAt, quick_value, quick_piece}
 use Rattle.lexer.proofs.Scans.{by_test, run_true, run_false, run-nil, sizes-nil, digit_range}
 use Rattle.lexer.proofs.Keywords.{all_below, all_below_lem}
-use Rattle.lexer.proofs.Pieces.{word-one, word_long, number_token, step_class, step-word, step_sign, sign_token, piece_of_lem, from_feed, from_space, from_sign}
+use Rattle.lexer.proofs.Pieces.{word-one, word_long, number_token, step_class, step-word, step_sign, sign_token, piece_of_lem, from_feed, from_space}
 
 -- ---- the table
 leads_from_lem : (n c j : ℕ) → j < n → get_or (leads_from n c) j 0 ≡ lead_of (c + j)

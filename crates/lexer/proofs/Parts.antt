@@ -3,16 +3,15 @@ use mathlib.Core.Path.{◌≡◌, refl, sym, ap, ◌∙◌}
 use Prim.Native.Nat.{ℕ, ◌+◌, ◌-◌, ◌≤◌, ◌<◌}
 use native.Mathlib.Omega.{arith}
 use mathlib.Core.Bool.{Bool, true, false, ◌&&◌, not}
-use mathlib.Core.List.{List, [], ◌∷◌}
+use mathlib.Core.List.{List}
 use lib.Dec.{leb, ltb, eqb}
 use lib.ListN.{length, get_or, drop}
-use borrow.Author.Tests.{leb-true, ltb-true, eqb-false, ne_eqb}
-use Rattle.chars.specs.Utf8.{sizes, front, decode, decoded_at}
+use borrow.Author.Tests.{leb-true, ltb-true, eqb-false}
+use Rattle.chars.specs.Utf8.{front, decode, decoded_at}
 use Rattle.std.specs.Prelude.{Option as Perhaps, Some}
 use Rattle.chars.proofs.Tests.{and_both}
 use Rattle.chars.proofs.Front.{char_at_ascii}
-use Rattle.chars.proofs.Segments.{no_none, no_more}
-use Rattle.chars.proofs.Blocks.{many, below_eight}
+use Rattle.chars.proofs.Blocks.{many}
 use Rattle.lexer.specs.Tokens.{is_whitespace}
 use Rattle.lexer.specs.Places.{string_end}
 use Rattle.lexer.specs.Blocks.{plain_byte, inner_byte}

@@ -1,13 +1,13 @@
 -- Laws of the pieces: what each way through the code of `lex` answers.
-use mathlib.Core.Path.{◌≡◌, refl, sym, ap, subst, ◌∙◌}
-use Prim.Native.Nat.{ℕ, zero, suc, ◌+◌, ◌-◌, ◌*◌, ◌≤◌, ◌<◌, min}
+use mathlib.Core.Path.{◌≡◌, refl, sym, ap, ◌∙◌}
+use Prim.Native.Nat.{ℕ, zero, suc, ◌+◌, ◌-◌, ◌≤◌, ◌<◌, min}
 use native.Mathlib.Omega.{arith}
-use mathlib.Core.Bool.{Bool, true, false, cond, ◌&&◌, ◌||◌, not}
-use mathlib.Core.Logic.{◌⊎◌, ⊎_elim}
-use mathlib.Core.List.{List, [], ◌∷◌, ◌++◌, map}
+use mathlib.Core.Bool.{Bool, true, false, cond, ◌&&◌}
+use mathlib.Core.Logic.{⊎_elim}
+use mathlib.Core.List.{List, [], ◌∷◌, map}
 use lib.Dec.{eqb}
 use lib.ListN.{length, get_or, take, drop, take-append-drop}
-use borrow.Author.Tests.{eq-eqb, ne_eqb, eqb-true, eqb-false}
+use borrow.Author.Tests.{eq-eqb, ne_eqb, eqb-true}
 use mir.Syntax.{w32, w64}
 use mir.Val.{Fits}
 use Rattle.chars.specs.Utf8.{size, sizes, scalars, Front, one, bad, none, front, decoded_at, decode, encode}
@@ -19,14 +19,14 @@ use Rattle.chars.proofs.Tests.{and_both, lt-or-ge}
 use Rattle.chars.proofs.Blocks.{ascii_decode}
 use Rattle.chars.proofs.Short.{high_char}
 use Rattle.chars.proofs.Encoding.{size-range}
-use Rattle.chars.proofs.Laws.{decode-end, decode_bad, decode-none, front-decode, char_next, char_decode, char_le, none_decode, points_next, points_le}
+use Rattle.chars.proofs.Laws.{decode-end, decode_bad, decode-none, front-decode, char_next, char_decode, none_decode, points_next, points_le}
 use Rattle.chars.proofs.Theorems.{part_bytes, part-scalars, encode_injective}
 use Rattle.lexer.specs.Text.{same}
-use Rattle.lexer.specs.Tokens.{TokenKind, word, number, quoted, str, sign, comment, newline, unterminated_string, unterminated_quote, Span, Token, token_at, is_letter, is_digit, is_word_start, is_ascii_digit, is_word_continue, is_whitespace, run, line, trim_cons, trim_end, indent, comment_text, Inside, closed, unclosed, inside, Step, gap, tok, word_step, number_step, string_step, quoted_step, comment_step, slash_step, other_step, step}
+use Rattle.lexer.specs.Tokens.{TokenKind, word, number, quoted, str, sign, comment, newline, unterminated_string, unterminated_quote, token_at, is_digit, is_ascii_digit, is_word_continue, is_whitespace, run, line, trim_cons, trim_end, indent, comment_text, Inside, closed, unclosed, inside, Step, gap, tok, word_step, number_step, string_step, quoted_step, comment_step, slash_step, other_step, step}
 use Rattle.lexer.specs.Words.{keywords, keyword_bytes, keyword, position, value, sign_number, kind_number, word_value, token_value}
 use Rattle.lexer.specs.Places.{starts_with, part, line_at, string_end, Found, Tok, Gap, End, piece_of, piece}
 use Rattle.lexer.specs.declared.Line.{Line}
-use Rattle.lexer.proofs.Scans.{by_test, run_true, run_false, sizes-nil, sizes-cons, run-nil}
+use Rattle.lexer.proofs.Scans.{by_test, run_true, run_false, sizes-nil, sizes-cons}
 use Rattle.lexer.proofs.Keywords.{same_true, same_refl, tests_equal, part-inside}
 
 -- ---- the first character
@@ -396,16 +396,25 @@ unfolding keyword_bytes
 word_fits name k q = omega (arith, position-le keyword_bytes 1 name)
 
 -- ---- a number
-pub number_token : (t : List ℕ) (at c next end v : ℕ) → next ≡ at + size c → decode (drop at t) ≡ c ∷ decode (drop next t) → is_ascii_digit c ≡ true
-    → end ≡ next + sizes (run is_ascii_digit (decode (drop next t))) → v ≡ min (value (run is_ascii_digit (decode (drop at t)))) 256
-    → Tok 1 end v end ≡ piece_of at next (decode (drop next t)) (number_step c (decode (drop next t)))
-unfolding number_step kind_number token_value
-number_token t at c next end v m d p g e =
-    let r : List ℕ = decode (drop next t) in
-    let w : List ℕ = run is_ascii_digit r in
-    piece_tok at next r (number (c ∷ w)) (size c + sizes w) 0 0 (length w) end v end (omega arith)
-    (e ∙ ap (λ (l : List ℕ). min (value l) 256) (ap (run is_ascii_digit) d ∙ run_true is_ascii_digit c r p))
-    (g ∙ ap (λ (l : List ℕ). next + sizes l) (sym (run_prefix is_ascii_digit r)))
+module _ (t : List ℕ) (at c next end v : ℕ) (m : next ≡ at + size c) (d : decode (drop at t) ≡ c ∷ decode (drop next t)) (p : is_ascii_digit c ≡ true) where
+  pub number_token : end ≡ next + sizes (run is_ascii_digit (decode (drop next t))) → v ≡ min (value (run is_ascii_digit (decode (drop at t)))) 256
+      → Tok 1 end v end ≡ piece_of at next (decode (drop next t)) (number_step c (decode (drop next t)))
+  unfolding number_step kind_number token_value
+  number_token g e =
+      let r : List ℕ = decode (drop next t) in
+      let w : List ℕ = run is_ascii_digit r in
+      piece_tok at next r (number (c ∷ w)) (size c + sizes w) 0 0 (length w) end v end (omega arith)
+      (e ∙ ap (λ (l : List ℕ). min (value l) 256) (ap (run is_ascii_digit) d ∙ run_true is_ascii_digit c r p))
+      (g ∙ ap (λ (l : List ℕ). next + sizes l) (sym (run_prefix is_ascii_digit r)))
+
+  -- the same by a scan from its first digit on
+  pub number_at : end ≡ at + sizes (run is_ascii_digit (decode (drop at t))) → v ≡ min (value (run is_ascii_digit (decode (drop at t)))) 256
+      → Tok 1 end v end ≡ piece_of at next (decode (drop next t)) (number_step c (decode (drop next t)))
+  number_at g e =
+      let w : List ℕ = run is_ascii_digit (decode (drop next t)) in
+      let q : run is_ascii_digit (decode (drop at t)) ≡ c ∷ w = ap (run is_ascii_digit) d ∙ run_true is_ascii_digit c (decode (drop next t)) p in
+      let o : end ≡ at + (size c + sizes w) = g ∙ ap (λ (l : List ℕ). at + sizes l) q ∙ ap (λ (n : ℕ). at + n) (sizes-cons c w) in
+      number_token (omega arith) e
 
 -- ---- a character of no class, and the first character of any piece
 pub step-word : (c : ℕ) (r : List ℕ) → c ≡ 0x5F → other_step c r ≡ word_step c r

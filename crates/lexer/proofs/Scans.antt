@@ -1,8 +1,8 @@
 -- Laws of the scans: what a scan finds from a place on, a character at a time.
-use mathlib.Core.Path.{◌≡◌, refl, sym, ap, subst, ◌∙◌}
-use Prim.Native.Nat.{ℕ, zero, suc, ◌+◌, ◌-◌, ◌*◌, ◌≤◌, ◌<◌, min}
+use mathlib.Core.Path.{◌≡◌, refl, sym, ap, ◌∙◌}
+use Prim.Native.Nat.{ℕ, ◌+◌, ◌-◌, ◌*◌, ◌≤◌, ◌<◌, min}
 use native.Mathlib.Omega.{arith}
-use mathlib.Core.Bool.{Bool, true, false, cond, ◌&&◌, ◌||◌, not}
+use mathlib.Core.Bool.{Bool, true, false, cond, ◌&&◌, ◌||◌}
 use mathlib.Core.List.{List, [], ◌∷◌}
 use mathlib.Core.Option.{Option, none, some}
 use mathlib.Core.Logic.{◌⊎◌, ⊎_elim}
@@ -10,7 +10,7 @@ use denote.Enum.Bare.{sameb}
 use lib.Dec.{eqb, leb}
 use lib.ListN.{length, take, drop}
 use borrow.Author.Tests.{eq-eqb, ne_eqb, eqb-true, eqb-false, leb-true}
-use Rattle.chars.specs.Utf8.{size, sizes, Front, front, decoded_at, decode}
+use Rattle.chars.specs.Utf8.{size, sizes, front, decoded_at, decode}
 use Rattle.chars.specs.Class.{class_of, classes}
 use Rattle.chars.specs.Ranges.{Entry, row, lookup}
 use Rattle.chars.specs.declared.Class.{Class}
@@ -20,7 +20,7 @@ use Rattle.chars.specs.contracts.Class.{the_type}
 use Rattle.chars.proofs.Tests.{and_both}
 use Rattle.chars.specs.Short.{Above, no_more, one_more}
 use Rattle.chars.proofs.Laws.{char_next, char_lt, char_falls, char_decode, none_decode}
-use Rattle.lexer.specs.Tokens.{is_letter, is_digit, is_space, is_word_start, is_word_continue, is_ascii_digit, is_whitespace, run, line, trim_cons, trim_end, escape, Inner, ends, breaks, escapes, stands, inner_of, Inside, closed, unclosed, put, pass, inside}
+use Rattle.lexer.specs.Tokens.{is_letter, is_digit, is_space, is_word_start, is_word_continue, is_ascii_digit, is_whitespace, run, line, trim_cons, trim_end, escape, Inside, closed, unclosed, put, pass, inside}
 use Rattle.lexer.specs.Words.{value_from, value}
 use Rattle.lexer.specs.Places.{line_at, trimmed_at, string_end}
 use Rattle.lexer.specs.declared.Line.{Line}

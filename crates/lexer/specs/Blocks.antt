@@ -1,5 +1,5 @@
 -- Bytes that need no look at single characters.
-use Rattle.std.specs.Prelude.{ℕ, ◌+◌, Bool, ◌&&◌, not, List, leb, ltb, eqb, get_or}
+use Rattle.std.specs.Prelude.{ℕ, Bool, ◌&&◌, not, leb, ltb, eqb}
 
 -- an ASCII character that is no control character
 unfoldable pub plain_byte : ℕ → Bool

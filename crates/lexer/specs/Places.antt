@@ -1,7 +1,7 @@
 -- The text by places: what the code answers of it.
-use Rattle.std.specs.Prelude.{ℕ, suc, ◌+◌, ◌-◌, Bool, true, false, cond, ◌&&◌, List, [], ◌∷◌, Option, Some, None, eqb, leb, length, take, drop}
+use Rattle.std.specs.Prelude.{ℕ, ◌+◌, ◌-◌, Bool, false, cond, ◌&&◌, List, [], ◌∷◌, Option, Some, None, eqb, leb, length, take, drop}
 use Rattle.chars.specs.Utf8.{size, sizes, decode}
-use Rattle.lexer.specs.Tokens.{Span, TokenKind, Token, token_at, Step, gap, tok, step, line, trim_end, Inside, closed, unclosed, inside}
+use Rattle.lexer.specs.Tokens.{Span, token_at, Step, gap, tok, step, line, trim_end, closed, unclosed, inside}
 use Rattle.lexer.specs.Words.{kind_number, token_value}
 use Rattle.lexer.specs.declared.Line.{Line}
 

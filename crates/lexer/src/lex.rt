@@ -136,7 +136,11 @@ impl Head<'_> {
         requires no_slash { self.now.c ≡ 0x2F → ⊥ }
         ensures { found result ≡ begins self.now other_step }
     {
-        if self.c == 0x5F { self.word() } else { self.sign() }
+        if self.c == 0x5F {
+            self.word()
+        } else {
+            self.sign()
+        }
     }
 
     // What begins with a character that is no quote and no slash. ASCII letters first: most words begin so.

@@ -1,5 +1,5 @@
 -- The loop's invariant: where all passed so far, each byte passed.
-use Rattle.std.proofs.Common.{◌≡◌, ℕ, ◌+◌, ◌<◌, true, get_or}
+use Rattle.std.proofs.Common.{◌≡◌, ℕ, ◌<◌, true, get_or}
 use Rattle.lexer.proofs.block.all_eight.Given as goal
 
 abbrev pub invariant-loop-b : goal.invariant-loop-b

@@ -7,4 +7,4 @@ pub returns-in-Some : goal.returns-in-Some
 returns-in-Some c = c.token.ensures ∙ search (rules, string_token)
 
 pub returns : goal.returns
-returns c = ?
+returns c = c.token-2.ensures ∙ search (rules, string-rest)

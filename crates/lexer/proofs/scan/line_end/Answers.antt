@@ -1,6 +1,6 @@
 -- `lexer::scan::line_end` meets its contract: one more character of the line, or its end.
 use Rattle.std.proofs.Common.{rules}
-use Rattle.lexer.proofs.Scans.{Lined, lined_white, lined_other, lined_feed, lined_none}
+use Rattle.lexer.proofs.Scans.{lined_white, lined_other, lined_feed, lined_none}
 use Rattle.chars.proofs.Laws.{char_falls}
 use Rattle.lexer.proofs.scan.line_end.Goals as goal
 
