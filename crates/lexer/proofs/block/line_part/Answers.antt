@@ -1,8 +1,7 @@
 -- `lexer::block::line_part` meets its contract: eight plain bytes are passed over, if their last two are no two spaces.
-use Rattle.std.proofs.Common.{arith}
+use Rattle.std.proofs.Common.{arith, rules}
 use Rattle.lexer.proofs.Scans.{lined_start, trimmed_same}
 use Rattle.lexer.proofs.Parts.{line-eight, line_seven}
-use Rattle.lexer.proofs.block.line_part.Goals.{then-text-i-ne32, else-text-i-ne32+then-text-i-ne32-2}
 use Rattle.lexer.proofs.block.line_part.Goals as goal
 
 pub returns-then-text-at-clause-trimmed : goal.returns-then-text-at-clause-trimmed
@@ -13,10 +12,7 @@ loop-i-init c = (omega arith, lined_start _ _)
 
 pub loop-i-preserved : goal.loop-i-preserved
 loop-i-preserved c =
-    let each = c.all_eight.ensures c.if-all_eight.true in (
-      omega arith,
-      elim c.if-text-i-ne32.branch [
-        | then-text-i-ne32 w ↦ rw w.trimmed-is (line-eight _ _ _ _ c.loop-i-test.true c.loop-i.invariant.1 each w.if-text-i-ne32.true)
-        | else-text-i-ne32+then-text-i-ne32-2 w ↦ rw w.trimmed-is (line_seven _ _ _ _ c.loop-i-test.true c.loop-i.invariant.1 each w.if-text-i-ne32.false w.if-text-i-ne32-2.true)
-      ],
-    )
+    let each = c.all_eight.ensures c.if-all_eight.true in
+    let a = line-eight _ _ _ _ c.loop-i-test.true c.loop-i.invariant.1 each in
+    let b = line_seven _ _ _ _ c.loop-i-test.true c.loop-i.invariant.1 each in
+    (omega arith, search (rules, a, b))
