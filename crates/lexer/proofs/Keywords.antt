@@ -7,7 +7,6 @@ use mathlib.Core.Logic.{◌⊎◌, inl, inr, ⊎_elim}
 use mathlib.Core.Bool.{Bool, true, false, cond, ◌&&◌}
 use mathlib.Core.List.{List, [], ◌∷◌, ◌++◌, map}
 use lib.Dec.{eqb, leb}
-use lib.Pointwise.{pointwise}
 use lib.ListN.{length, get_or, take, drop, drop_of_length-le}
 use lib.Seq.{drop-cons}
 use borrow.Author.Tests.{eq-eqb, ne_eqb, eqb-true, eqb-false, leb-true, le-leb, lt-leb}
@@ -100,27 +99,21 @@ unfolding position
 position_false n w ws x e = rw (e, position)
 
 -- ---- the keywords of a length
-same_pointwise : (a b : List ℕ) → same a b ≡ pointwise eqb a b
-same_pointwise [] [] = refl
-same_pointwise [] (y ∷ ys) = refl
-same_pointwise (x ∷ xs) [] = refl
-same_pointwise (x ∷ xs) (y ∷ ys) = ap (λ (b : Bool). eqb x y && b) (same_pointwise xs ys)
-
 -- the loop of `number_among`: the number n is that of what is left from place i on, where x stands
-module _ (ks : List (ℕ × List ℕ)) (i : ℕ) (x : ℕ × List ℕ) (k w : List ℕ) (n : ℕ) (inv : number_in (drop i ks) w ≡ n) (h : i < length ks) (at : x ≡ get_or ks i x) (key : k ≡ x.1) where
-  tested : (b : Bool) → b ≡ pointwise eqb k w → cond b x.0 (number_in (drop (suc i) ks) w) ≡ n
+module _ (ks : List (ℕ × List ℕ)) (i : ℕ) (x : ℕ × List ℕ) (w : List ℕ) (n : ℕ) (inv : number_in (drop i ks) w ≡ n) (h : i < length ks) (at : x ≡ get_or ks i x) where
+  tested : (b : Bool) → same x.1 w ≡ b → cond b x.0 (number_in (drop (suc i) ks) w) ≡ n
   unfolding number_in
   tested b e =
-      ap (λ (c : Bool). cond c x.0 (number_in (drop (suc i) ks) w)) (e ∙ sym (same_pointwise k w) ∙ ap (λ (l : List ℕ). same l w) key)
+      ap (λ (c : Bool). cond c x.0 (number_in (drop (suc i) ks) w)) (sym e)
       ∙ ap (λ (y : ℕ × List ℕ). number_in (y ∷ drop (suc i) ks) w) at
       ∙ sym (ap (λ (l : List (ℕ × List ℕ)). number_in l w) (drop-cons ks i x h))
       ∙ inv
 
-  pub number_here : true ≡ pointwise eqb k w → x.0 ≡ n
-  number_here = tested true
+  pub number_here : x.1 ≡ w → x.0 ≡ n
+  number_here e = tested true (rw e (same_refl w))
 
-  pub number_behind : false ≡ pointwise eqb k w → number_in (drop (i + 1) ks) w ≡ n
-  number_behind e = rw add-one (tested false e)
+  pub number_behind : (x.1 ≡ w → ⊥) → number_in (drop (i + 1) ks) w ≡ n
+  number_behind f = rw add-one (tested false (by_test (same x.1 w) (λ e. absurd (f (same_true x.1 w e))) (λ e. e)))
 
 pub number_nowhere : (ks : List (ℕ × List ℕ)) (i : ℕ) (w : List ℕ) (n : ℕ) → number_in (drop i ks) w ≡ n → length ks ≤ i → 0 ≡ n
 unfolding number_in
