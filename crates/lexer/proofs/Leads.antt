@@ -7,7 +7,6 @@ use mathlib.Core.Bool.{Bool, true, false, cond, not}
 use mathlib.Core.List.{List, [], ◌∷◌}
 use mathlib.Core.Logic.{⊎_elim}
 use lib.Dec.{eqb, ltb, leb}
-use Rattle.std.specs.Char.{is_ascii}
 use lib.ListN.{length, get_or, drop}
 use borrow.Author.Tests.{eq-eqb, ne_eqb, eqb-true, eqb-false, le-leb, leb-true, ltb-true, lt-ltb}
 use Rattle.chars.specs.Utf8.{size, sizes, decode}
@@ -20,7 +19,7 @@ use Rattle.chars.proofs.Blocks.{ascii_decode}
 use Rattle.lexer.specs.Tokens.{sign, tok, is_digit, is_ascii_digit, is_word_continue, run, word_step, number_step, step}
 use Rattle.lexer.specs.Words.{sign_number, position, keyword_bytes, value_from, value}
 use Rattle.lexer.specs.Places.{part, piece_of, piece}
-use Rattle.lexer.specs.Quick.{other_lead, lead_of, leads_from, leads, EndsAt, WordAt, quick_value, quick_piece}
+use Rattle.lexer.specs.Quick.{other_lead, lead_of, leads_from, leads, AsciiAt, EndsAt, WordAt, quick_value, quick_piece}
 use Rattle.lexer.specs.declared.Piece.{Piece}
 use Rattle.lexer.specs.declared.Piece.TheVariants.{Token as Tok, Gap}
 use Rattle.lexer.proofs.Scans.{by_test, run_true, run_false, run-nil, sizes-nil, digit_range}
@@ -193,25 +192,13 @@ unfolding value value_from
 digit_value c l u = omega arith
 
 -- ---- `ends_at`
--- an ASCII character that begins k stands at a place
-pub record AsciiAt (t : List ℕ) (at k : ℕ) : Type 0 where
-  pub inside : at < length t
-  pub ascii : get_or t at 0 < 0x80
-  pub lead : k ≡ lead_of (get_or t at 0)
-
 -- the table has the lead of the byte b, read at the place x
-pub ascii_at : (t table : List ℕ) (at b x k : ℕ) → table ≡ leads → at < length t → b ≡ get_or t at 0 → is_ascii b ≡ true → x ≡ b → k ≡ get_or table x 0 → AsciiAt t at k
-ascii_at t table at b x k i h e l f g =
-    let low : b < 0x80 = ltb-true b 0x80 l in
-    record {
-      inside = h;
-      ascii = subst (λ (y : ℕ). y < 0x80) e low;
-      lead = g ∙ ap (λ (y : ℕ). get_or table y 0) f ∙ ap (λ (s : List ℕ). get_or s b 0) i ∙ lead_at b low ∙ ap lead_of e;
-    }
-
--- the answer r of a test, of which P holds at the lead of what stands there
-pub ends-here : (P : ℕ → Bool → Type 0) (t : List ℕ) (at k : ℕ) (r : Bool) → AsciiAt t at k → P k r → r ≡ true → EndsAt (λ (l : ℕ). P l true) t at
-ends-here P t at k r a p q = record { ascii = λ h. a.ascii; lead = λ h. subst (λ (x : ℕ). P x true) a.lead (subst (P k) q p) }
+pub ascii_at : (t table : List ℕ) (at b x k : ℕ) → table ≡ leads → at < length t → b ≡ get_or t at 0 → b < 0x80 → x ≡ b → k ≡ get_or table x 0 → AsciiAt t at k
+ascii_at t table at b x k i h e l f g = record {
+  inside = h;
+  ascii = subst (λ (y : ℕ). y < 0x80) e l;
+  lead = g ∙ ap (λ (y : ℕ). get_or table y 0) f ∙ ap (λ (s : List ℕ). get_or s b 0) i ∙ lead_at b l ∙ ap lead_of e;
+}
 
 -- where the text ends, or an ASCII character stands at whose lead no character of a token stands, the token's characters end
 pub run_ends : (f : ℕ → Bool) (P : ℕ → Type 0) (t : List ℕ) (at : ℕ) → EndsAt P t at → ((c : ℕ) → c < 0x80 → P (lead_of c) → f c ≡ false) → run f (decode (drop at t)) ≡ []
@@ -267,16 +254,17 @@ module _ (t : List ℕ) (at k : ℕ) (a : AsciiAt t at k) where
   pub quick_lead : 3 ≤ k → k < 17 → quick_piece at k (get_or t at 0) ≡ piece at (decode (drop at t))
   quick_lead m n = seen (quick_piece at k (get_or t at 0)) (lead-piece t at (get_or t at 0) next k a.lead m n)
 
-  pub quick_word : k ≡ 0 → run is_word_continue (decode (drop (at + 1) t)) ≡ [] → quick_piece at 0 (get_or t at 0) ≡ piece at (decode (drop at t))
+  pub quick_word : k ≡ 0 → run is_word_continue (decode (drop (at + 1) t)) ≡ [] → quick_piece at k (get_or t at 0) ≡ piece at (decode (drop at t))
   unfolding quick_piece
   quick_word p f =
       let r : List ℕ = decode (drop (at + 1) t) in
       let o : at + 1 ≡ at + 1 + sizes (run is_word_continue r) = omega (arith, ap sizes f, sizes-nil) in
-      seen (Tok 0 (at + 1) (get_or t at 0) (at + 1))
+      ap (λ (j : ℕ). quick_piece at j (get_or t at 0)) p
+      ∙ seen (Tok 0 (at + 1) (get_or t at 0) (at + 1))
       (piece_of_lem at (at + 1) r _ _ _ (word-lead (get_or t at 0) r (sym a.lead ∙ p))
       (word-one t at (get_or t at 0) (at + 1) (at + 1) next (ascii_decode t at a.inside a.ascii) (omega arith) o refl))
 
-  pub quick_number : k ≡ 1 → run is_ascii_digit (decode (drop (at + 1) t)) ≡ [] → quick_piece at 1 (get_or t at 0) ≡ piece at (decode (drop at t))
+  pub quick_number : k ≡ 1 → run is_ascii_digit (decode (drop (at + 1) t)) ≡ [] → quick_piece at k (get_or t at 0) ≡ piece at (decode (drop at t))
   unfolding quick_piece
   quick_number p f =
       let c : ℕ = get_or t at 0 in
@@ -286,7 +274,8 @@ module _ (t : List ℕ) (at k : ℕ) (a : AsciiAt t at k) where
       let o : at + 1 ≡ at + 1 + sizes (run is_ascii_digit r) = omega (arith, ap sizes f, sizes-nil) in
       let v : run is_ascii_digit (decode (drop at t)) ≡ c ∷ [] =
       ap (run is_ascii_digit) (ascii_decode t at a.inside a.ascii) ∙ run_true is_ascii_digit c r w.1 ∙ ap (λ (s : List ℕ). c ∷ s) f in
-      seen (Tok 1 (at + 1) (c % 16) (at + 1))
+      ap (λ (j : ℕ). quick_piece at j c) p
+      ∙ seen (Tok 1 (at + 1) (c % 16) (at + 1))
       (piece_of_lem at (at + 1) r _ _ _ w.0
       (number_token t at c (at + 1) (at + 1) (c % 16) next (ascii_decode t at a.inside a.ascii) w.1 o
       (digit_value c u.0 u.1 ∙ ap (λ (s : List ℕ). min (value s) 256) (sym v))))
