@@ -1,20 +1,19 @@
 -- Laws of names: when two are equal, parts of a text, and the table of keywords.
-use mathlib.Core.Path.{◌≡◌, refl, sym, ap, subst, ◌∙◌}
+use mathlib.Core.Path.{◌≡◌, refl, sym, ap, ◌∙◌}
 use Prim.Native.Nat.{ℕ, zero, suc, ◌+◌, ◌-◌, ◌≤◌, ◌<◌}
 use native.Mathlib.Omega.{arith}
 use native.Mathlib.Numerals.{add-one}
-use mathlib.Core.Logic.{◌⊎◌, inl, inr, ⊎_elim}
+use mathlib.Core.Logic.{⊎_elim}
 use mathlib.Core.Bool.{Bool, true, false, cond, ◌&&◌}
-use mathlib.Core.List.{List, [], ◌∷◌, ◌++◌, map}
+use mathlib.Core.List.{List, [], ◌∷◌}
 use lib.Dec.{eqb, leb}
 use lib.ListN.{length, get_or, take, drop, drop_of_length-le}
 use lib.Seq.{drop-cons}
-use borrow.Author.Tests.{eq-eqb, ne_eqb, eqb-true, eqb-false, leb-true, le-leb, lt-leb}
-use Rattle.chars.specs.Utf8.{encode}
+use borrow.Author.Tests.{eq-eqb, eqb-true, eqb-false, le-leb, lt-leb}
 use Rattle.chars.proofs.Tests.{and_both, lt-or-ge}
 use Rattle.chars.proofs.Segments.{has, Not, no_none, no_more}
 use Rattle.lexer.specs.Text.{same}
-use Rattle.lexer.specs.Words.{keywords, keyword_bytes, position, numbered, keywords_of, number_in}
+use Rattle.lexer.specs.Words.{keyword_bytes, position, numbered, keywords_of, number_in}
 use Rattle.lexer.specs.Places.{part}
 use Rattle.lexer.proofs.Scans.{by_test}
 
@@ -41,29 +40,6 @@ tests_equal false false f g = refl
 
 pub same_lengths : (a b : List ℕ) → (length a ≡ length b → ⊥) → false ≡ same a b
 same_lengths a b f = by_test (same a b) (λ e. absurd (f (ap length (same_true a b e)))) (λ e. sym e)
-
--- the loop of `same_part`: what is left is equal exactly where the whole is
-module _ (a b : List ℕ) (i : ℕ) (v : Bool) (n : length a ≡ length b) (inv : same (drop i a) (drop i b) ≡ v) where
-  module _ (h : i < length a) where
-    parted : (eqb (get_or a i 0) (get_or b i 0) && same (drop (suc i) a) (drop (suc i) b)) ≡ v
-    parted =
-        let k : i < length b = omega arith in
-        sym (ap (λ (l : List ℕ). same l (drop i b)) (drop-cons a i 0 h) ∙ ap (same (get_or a i 0 ∷ drop (suc i) a)) (drop-cons b i 0 k)) ∙ inv
-
-    pub same-on : get_or a i 0 ≡ get_or b i 0 → same (drop (i + 1) a) (drop (i + 1) b) ≡ v
-    same-on e =
-        let p : (eqb (get_or a i 0) (get_or b i 0) && same (drop (suc i) a) (drop (suc i) b)) ≡ same (drop (suc i) a) (drop (suc i) b) = rw (eq-eqb (get_or a i 0) (get_or b i 0) e) in
-        rw add-one (sym p ∙ parted)
-
-    pub same_off : (get_or a i 0 ≡ get_or b i 0 → ⊥) → false ≡ v
-    same_off f =
-        let p : (eqb (get_or a i 0) (get_or b i 0) && same (drop (suc i) a) (drop (suc i) b)) ≡ false = rw (ne_eqb (get_or a i 0) (get_or b i 0) f) in
-        sym p ∙ parted
-
-  pub same_end : length a ≤ i → true ≡ v
-  same_end h =
-      let k : length b ≤ i = omega arith in
-      sym (ap (λ (l : List ℕ). same l (drop i b)) (drop_of_length-le a h) ∙ ap (same []) (drop_of_length-le b k)) ∙ inv
 
 -- ---- a part of the text
 module _ (t : List ℕ) (a b : ℕ) where
@@ -158,6 +134,3 @@ no_position_lem (k ∷ ks) n w e f =
 pub keyword_of-none : (w : List ℕ) → (length w ≡ 1 → ⊥) → (length w ≡ 2 → ⊥) → (length w ≡ 3 → ⊥) → (length w ≡ 4 → ⊥) → (length w ≡ 5 → ⊥) → (length w ≡ 6 → ⊥) → (length w ≡ 7 → ⊥) → (length w ≡ 8 → ⊥) → (length w ≡ 10 → ⊥) → 0 ≡ position 1 keyword_bytes w
 keyword_of-none w f1 f2 f3 f4 f5 f6 f7 f8 f10 =
     no_position_lem keyword_bytes 1 w lengths_right (no_more (length w) (1 ∷ []) (2 ∷ 3 ∷ 4 ∷ 5 ∷ 6 ∷ 7 ∷ 8 ∷ 10 ∷ []) f1 (no_more (length w) (2 ∷ []) (3 ∷ 4 ∷ 5 ∷ 6 ∷ 7 ∷ 8 ∷ 10 ∷ []) f2 (no_more (length w) (3 ∷ []) (4 ∷ 5 ∷ 6 ∷ 7 ∷ 8 ∷ 10 ∷ []) f3 (no_more (length w) (4 ∷ []) (5 ∷ 6 ∷ 7 ∷ 8 ∷ 10 ∷ []) f4 (no_more (length w) (5 ∷ []) (6 ∷ 7 ∷ 8 ∷ 10 ∷ []) f5 (no_more (length w) (6 ∷ []) (7 ∷ 8 ∷ 10 ∷ []) f6 (no_more (length w) (7 ∷ []) (8 ∷ 10 ∷ []) f7 (no_more (length w) (8 ∷ []) (10 ∷ []) f8 (no_more (length w) (10 ∷ []) [] f10 (no_none (length w)))))))))))
-
-pub same_of : (x y a b : List ℕ) (r : Bool) → x ≡ a → y ≡ b → r ≡ same x y → r ≡ same a b
-same_of x y a b r p q e = cc

@@ -1,6 +1,6 @@
 -- Tokens of one ASCII character: what the table and the byte behind the character say is what the definition says.
 use mathlib.Core.Path.{◌≡◌, refl, sym, ap, subst, ◌∙◌}
-use Prim.Native.Nat.{ℕ, zero, suc, ◌+◌, ◌-◌, ◌%◌, ◌≤◌, ◌<◌, min}
+use Prim.Native.Nat.{ℕ, zero, suc, ◌+◌, ◌%◌, ◌≤◌, ◌<◌, min}
 use native.Mathlib.Omega.{arith}
 use native.Mathlib.Nat.{add-zero}
 use mathlib.Core.Bool.{Bool, true, false, cond, not}
@@ -8,7 +8,7 @@ use mathlib.Core.List.{List, [], ◌∷◌}
 use mathlib.Core.Logic.{⊎_elim}
 use lib.Dec.{eqb, ltb, leb}
 use lib.ListN.{length, get_or, drop}
-use borrow.Author.Tests.{eq-eqb, ne_eqb, eqb-true, eqb-false, le-leb, leb-true, ltb-true, lt-ltb}
+use borrow.Author.Tests.{eq-eqb, ne_eqb, eqb-true, eqb-false, le-leb, ltb-true, lt-ltb}
 use Rattle.chars.specs.Utf8.{size, sizes, decode}
 use Rattle.chars.specs.Class.{class_of}
 use Rattle.chars.specs.declared.Class.{Class}
@@ -21,10 +21,10 @@ use Rattle.lexer.specs.Words.{sign_number, position, keyword_bytes, value_from, 
 use Rattle.lexer.specs.Places.{part, piece_of, piece}
 use Rattle.lexer.specs.Quick.{other_lead, lead_of, leads_from, leads, AsciiAt, EndsAt, WordAt, quick_value, quick_piece}
 use Rattle.lexer.specs.declared.Piece.{Piece}
-use Rattle.lexer.specs.declared.Piece.TheVariants.{Token as Tok, Gap}
+use Rattle.lexer.specs.declared.Piece.TheVariants.{Token as Tok}
 use Rattle.lexer.proofs.Scans.{by_test, run_true, run_false, run-nil, sizes-nil, digit_range}
 use Rattle.lexer.proofs.Keywords.{all_below, all_below_lem}
-use Rattle.lexer.proofs.Pieces.{word-one, word_long, number_token, step_class, step-word, step_sign, sign_token, piece_of_lem, from_feed, from_space, from_sign}
+use Rattle.lexer.proofs.Pieces.{word-one, word_long, number_token, step_class, step-word, step_sign, sign_token, piece_of_lem, from_feed, from_space}
 
 -- ---- the table
 leads_from_lem : (n c j : ℕ) → j < n → get_or (leads_from n c) j 0 ≡ lead_of (c + j)
@@ -247,9 +247,6 @@ module _ (t : List ℕ) (at k : ℕ) (a : AsciiAt t at k) where
 
   pub no_word : k ≡ 18 → WordAt t at
   no_word p = absurd (omega (arith, a.lead, ltb-true (lead_of (get_or t at 0)) 18 (all_below_lem (λ (c : ℕ). ltb (lead_of c) 18) 128 leads_low (get_or t at 0) a.ascii)))
-
-  pub word_here : k ≡ 0 → WordAt t at
-  word_here p = record { inside = a.inside; ascii = a.ascii; lead = sym a.lead ∙ p }
 
   pub quick_lead : 3 ≤ k → k < 17 → quick_piece at k (get_or t at 0) ≡ piece at (decode (drop at t))
   quick_lead m n = seen (quick_piece at k (get_or t at 0)) (lead-piece t at (get_or t at 0) next k a.lead m n)

@@ -37,7 +37,10 @@ pub(crate) fn keyword_of(name: &[u8]) -> u32
 {
     match name.len() {
         1 => number_among(&[(6, *b"Q"), (13, *b"F")], name),
-        2 => number_among(&[(7, *b"\xCE\xA3"), (9, *b"\xCE\x93"), (14, *b"\xCE\xB4")], name),
+        2 => number_among(
+            &[(7, *b"\xCE\xA3"), (9, *b"\xCE\x93"), (14, *b"\xCE\xB4")],
+            name,
+        ),
         3 => number_among(&[(23, *b"lsb"), (24, *b"msb")], name),
         4 => number_among(&[(2, *b"kind"), (20, *b"word")], name),
         5 => number_among(

@@ -7,6 +7,7 @@ use crate::kind;
 
 // What `lead_at` answers beside the kinds, and 16 for white space: where the table does not tell, and at a word that may go on.
 const UNTOLD: u32 = 17;
+
 const LONG_WORD: u32 = 18;
 
 // What each ASCII character begins: a word 0, a number 1, a quoted character 2, a sign its kind, a line feed 13, white space 16, a string or a

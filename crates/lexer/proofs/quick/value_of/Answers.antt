@@ -1,5 +1,5 @@
 -- Answers for `lexer::quick::value_of`: one law for each return.
-use Rattle.std.proofs.Common.{rules, ◌≡◌}
+use Rattle.std.proofs.Common.{rules}
 use Rattle.lexer.proofs.Leads.{value_digit, value_none, value-code}
 use Rattle.lexer.proofs.quick.value_of.Goals as goal
 
