@@ -14,7 +14,7 @@ use Rattle.chars.specs.Utf8.{decode}
 use Rattle.lexer.specs.Places.{Found, Tok, piece}
 use Rattle.lexer.specs.Quick.{lead_of, leads_from, leads, WordAt, quick_value, quick_piece, comma_words, WordPut}
 use Rattle.lexer.proofs.Scans.{by_test}
-use Rattle.lexer.proofs.Leads.{quick_lead}
+use Rattle.lexer.proofs.Leads.{ascii_at, quick_lead}
 use Rattle.lexer.proofs.Writes.{State, word_end_in, token_falls, state_token, state_quick}
 
 -- ---- `comma`
@@ -65,7 +65,7 @@ module _ (t : List ℕ) (at : ℕ) where
   -- what stands there is the comma's token
   comma-piece : get_or t at 0 ≡ 0x2C → quick_piece at 8 (get_or t at 0) ≡ piece at (decode (drop at t))
   unfolding leads leads_from lead_of
-  comma-piece e = quick_lead t leads at 0x2C 8 refl (inside e) (sym e) (omega arith) refl (omega arith) (omega arith)
+  comma-piece e = quick_lead t at 8 (ascii_at t leads at 0x2C 0x2C 8 refl (inside e) (sym e) (omega arith) refl refl) (omega arith) (omega arith)
 
   module _ (w₀ w : List ℕ) (n : ℕ) (st : State t w₀ w at n) (r : ℕ) (w' : List ℕ) (k : 4 * r ≡ length (comma_words t at)) (q : w' ≡ sets w (4 * n) (comma_words t at)) where
     pub state-comma : State t w₀ w' (at + r) (n + r)

@@ -4,10 +4,9 @@ use Prim.Native.Nat.{ℕ, zero, suc, ◌+◌, ◌-◌, ◌≤◌, ◌<◌}
 use native.Mathlib.Omega.{arith}
 use native.Mathlib.Numerals.{add-one}
 use mathlib.Core.Logic.{⊎_elim}
-use mathlib.Core.Bool.{Bool, true, false, ◌&&◌}
+use mathlib.Core.Bool.{Bool, true, false, cond, ◌&&◌}
 use mathlib.Core.List.{List, [], ◌∷◌}
 use lib.Dec.{eqb, leb}
-use lib.Pointwise.{pointwise}
 use lib.ListN.{length, get_or, take, drop, drop_of_length-le}
 use lib.Seq.{drop-cons}
 use borrow.Author.Tests.{eq-eqb, ne_eqb, eqb-true, eqb-false, le-leb, lt-leb}
@@ -41,29 +40,6 @@ tests_equal false false f g = refl
 
 pub same_lengths : (a b : List ℕ) → (length a ≡ length b → ⊥) → false ≡ same a b
 same_lengths a b f = by_test (same a b) (λ e. absurd (f (ap length (same_true a b e)))) (λ e. sym e)
-
--- the loop of `same_part`: what is left is equal exactly where the whole is
-module _ (a b : List ℕ) (i : ℕ) (v : Bool) (n : length a ≡ length b) (inv : same (drop i a) (drop i b) ≡ v) where
-  module _ (h : i < length a) where
-    parted : (eqb (get_or a i 0) (get_or b i 0) && same (drop (suc i) a) (drop (suc i) b)) ≡ v
-    parted =
-        let k : i < length b = omega arith in
-        sym (ap (λ (l : List ℕ). same l (drop i b)) (drop-cons a i 0 h) ∙ ap (same (get_or a i 0 ∷ drop (suc i) a)) (drop-cons b i 0 k)) ∙ inv
-
-    pub same-on : get_or a i 0 ≡ get_or b i 0 → same (drop (i + 1) a) (drop (i + 1) b) ≡ v
-    same-on e =
-        let p : (eqb (get_or a i 0) (get_or b i 0) && same (drop (suc i) a) (drop (suc i) b)) ≡ same (drop (suc i) a) (drop (suc i) b) = rw (eq-eqb (get_or a i 0) (get_or b i 0) e) in
-        rw add-one (sym p ∙ parted)
-
-    pub same_off : (get_or a i 0 ≡ get_or b i 0 → ⊥) → false ≡ v
-    same_off f =
-        let p : (eqb (get_or a i 0) (get_or b i 0) && same (drop (suc i) a) (drop (suc i) b)) ≡ false = rw (ne_eqb (get_or a i 0) (get_or b i 0) f) in
-        sym p ∙ parted
-
-  pub same_end : length a ≤ i → true ≡ v
-  same_end h =
-      let k : length b ≤ i = omega arith in
-      sym (ap (λ (l : List ℕ). same l (drop i b)) (drop_of_length-le a h) ∙ ap (same []) (drop_of_length-le b k)) ∙ inv
 
 -- ---- a part of the text
 module _ (t : List ℕ) (a b : ℕ) where
@@ -99,27 +75,21 @@ unfolding position
 position_false n w ws x e = rw (e, position)
 
 -- ---- the keywords of a length
-same_pointwise : (a b : List ℕ) → same a b ≡ pointwise eqb a b
-same_pointwise [] [] = refl
-same_pointwise [] (y ∷ ys) = refl
-same_pointwise (x ∷ xs) [] = refl
-same_pointwise (x ∷ xs) (y ∷ ys) = ap (λ (b : Bool). eqb x y && b) (same_pointwise xs ys)
-
 -- the loop of `number_among`: the number n is that of what is left from place i on, where x stands
-module _ (ks : List (ℕ × List ℕ)) (i : ℕ) (x : ℕ × List ℕ) (k w : List ℕ) (n : ℕ) (inv : number_in (drop i ks) w ≡ n) (h : i < length ks) (at : x ≡ get_or ks i x) (key : k ≡ x.1) where
-  tested : (b : Bool) → b ≡ pointwise eqb k w → cond b x.0 (number_in (drop (suc i) ks) w) ≡ n
+module _ (ks : List (ℕ × List ℕ)) (i : ℕ) (x : ℕ × List ℕ) (w : List ℕ) (n : ℕ) (inv : number_in (drop i ks) w ≡ n) (h : i < length ks) (at : x ≡ get_or ks i x) where
+  tested : (b : Bool) → same x.1 w ≡ b → cond b x.0 (number_in (drop (suc i) ks) w) ≡ n
   unfolding number_in
   tested b e =
-      ap (λ (c : Bool). cond c x.0 (number_in (drop (suc i) ks) w)) (e ∙ sym (same_pointwise k w) ∙ ap (λ (l : List ℕ). same l w) key)
+      ap (λ (c : Bool). cond c x.0 (number_in (drop (suc i) ks) w)) (sym e)
       ∙ ap (λ (y : ℕ × List ℕ). number_in (y ∷ drop (suc i) ks) w) at
       ∙ sym (ap (λ (l : List (ℕ × List ℕ)). number_in l w) (drop-cons ks i x h))
       ∙ inv
 
-  pub number_here : true ≡ pointwise eqb k w → x.0 ≡ n
-  number_here = tested true
+  pub number_here : x.1 ≡ w → x.0 ≡ n
+  number_here e = tested true (rw e (same_refl w))
 
-  pub number_behind : false ≡ pointwise eqb k w → number_in (drop (i + 1) ks) w ≡ n
-  number_behind e = rw add-one (tested false e)
+  pub number_behind : (x.1 ≡ w → ⊥) → number_in (drop (i + 1) ks) w ≡ n
+  number_behind f = rw add-one (tested false (by_test (same x.1 w) (λ e. absurd (f (same_true x.1 w e))) (λ e. e)))
 
 pub number_nowhere : (ks : List (ℕ × List ℕ)) (i : ℕ) (w : List ℕ) (n : ℕ) → number_in (drop i ks) w ≡ n → length ks ≤ i → 0 ≡ n
 unfolding number_in
@@ -164,6 +134,3 @@ no_position_lem (k ∷ ks) n w e f =
 pub keyword_of-none : (w : List ℕ) → (length w ≡ 1 → ⊥) → (length w ≡ 2 → ⊥) → (length w ≡ 3 → ⊥) → (length w ≡ 4 → ⊥) → (length w ≡ 5 → ⊥) → (length w ≡ 6 → ⊥) → (length w ≡ 7 → ⊥) → (length w ≡ 8 → ⊥) → (length w ≡ 10 → ⊥) → 0 ≡ position 1 keyword_bytes w
 keyword_of-none w f1 f2 f3 f4 f5 f6 f7 f8 f10 =
     no_position_lem keyword_bytes 1 w lengths_right (no_more (length w) (1 ∷ []) (2 ∷ 3 ∷ 4 ∷ 5 ∷ 6 ∷ 7 ∷ 8 ∷ 10 ∷ []) f1 (no_more (length w) (2 ∷ []) (3 ∷ 4 ∷ 5 ∷ 6 ∷ 7 ∷ 8 ∷ 10 ∷ []) f2 (no_more (length w) (3 ∷ []) (4 ∷ 5 ∷ 6 ∷ 7 ∷ 8 ∷ 10 ∷ []) f3 (no_more (length w) (4 ∷ []) (5 ∷ 6 ∷ 7 ∷ 8 ∷ 10 ∷ []) f4 (no_more (length w) (5 ∷ []) (6 ∷ 7 ∷ 8 ∷ 10 ∷ []) f5 (no_more (length w) (6 ∷ []) (7 ∷ 8 ∷ 10 ∷ []) f6 (no_more (length w) (7 ∷ []) (8 ∷ 10 ∷ []) f7 (no_more (length w) (8 ∷ []) (10 ∷ []) f8 (no_more (length w) (10 ∷ []) [] f10 (no_none (length w)))))))))))
-
-pub same_of : (x y a b : List ℕ) (r : Bool) → x ≡ a → y ≡ b → r ≡ same x y → r ≡ same a b
-same_of x y a b r p q e = cc

@@ -5,19 +5,21 @@ use native.Mathlib.Omega.{arith}
 use native.Mathlib.Nat.{add-zero}
 use mathlib.Core.Bool.{Bool, true, false, cond, not}
 use mathlib.Core.List.{List, [], ◌∷◌}
+use mathlib.Core.Logic.{⊎_elim}
 use lib.Dec.{eqb, ltb, leb}
 use lib.ListN.{length, get_or, drop}
-use borrow.Author.Tests.{eq-eqb, ne_eqb, eqb-true, eqb-false, le-leb, leb-true, ltb-true, lt-ltb}
+use borrow.Author.Tests.{eq-eqb, ne_eqb, eqb-true, eqb-false, le-leb, ltb-true, lt-ltb}
 use Rattle.chars.specs.Utf8.{size, sizes, decode}
 use Rattle.chars.specs.Class.{class_of}
 use Rattle.chars.specs.declared.Class.{Class}
 use Rattle.chars.specs.declared.Class.TheVariants.{Letter, Digit, Space, Sign, Other}
+use Rattle.chars.proofs.Tests.{lt-or-ge}
 use Rattle.chars.proofs.Laws.{decode-end}
 use Rattle.chars.proofs.Blocks.{ascii_decode}
 use Rattle.lexer.specs.Tokens.{sign, tok, is_digit, is_ascii_digit, is_word_continue, run, word_step, number_step, step}
 use Rattle.lexer.specs.Words.{sign_number, position, keyword_bytes, value_from, value}
 use Rattle.lexer.specs.Places.{part, Found, Tok, piece_of, piece}
-use Rattle.lexer.specs.Quick.{other_lead, lead_of, leads_from, leads, WordAt, quick_value, quick_piece}
+use Rattle.lexer.specs.Quick.{other_lead, lead_of, leads_from, leads, AsciiAt, EndsAt, WordAt, quick_value, quick_piece}
 use Rattle.lexer.proofs.Scans.{by_test, run_true, run_false, run-nil, sizes-nil, digit_range}
 use Rattle.lexer.proofs.Keywords.{all_below, all_below_lem}
 use Rattle.lexer.proofs.Pieces.{word-one, word_long, number_token, step_class, step-word, step_sign, sign_token, piece_of_lem, from_feed, from_space}
@@ -51,13 +53,13 @@ not_false : (b : Bool) → not b ≡ true → b ≡ false
 not_false true e = cc
 not_false false e = refl
 
-stop_word : (c : ℕ) → c < 128 → 3 ≤ lead_of c → is_word_continue c ≡ false
+pub stop_word : (c : ℕ) → c < 128 → 3 ≤ lead_of c → is_word_continue c ≡ false
 stop_word c h l =
     not_false (is_word_continue c)
     (sym (ap (λ (b : Bool). cond b (not (is_word_continue c)) true) (le-leb 3 (lead_of c) l))
     ∙ all_below_lem (λ (x : ℕ). cond (leb 3 (lead_of x)) (not (is_word_continue x)) true) 128 stops c h)
 
-stop_number : (c : ℕ) → c < 128 → (lead_of c ≡ 1 → ⊥) → is_ascii_digit c ≡ false
+pub stop_number : (c : ℕ) → c < 128 → (lead_of c ≡ 1 → ⊥) → is_ascii_digit c ≡ false
 stop_number c h f =
     not_false (is_ascii_digit c)
     (sym (ap (λ (b : Bool). cond b true (not (is_ascii_digit c))) (ne_eqb (lead_of c) 1 f))
@@ -187,12 +189,22 @@ digit_value : (c : ℕ) → 0x30 ≤ c → c ≤ 0x39 → c % 16 ≡ min (value 
 unfolding value value_from
 digit_value c l u = omega arith
 
--- ---- `word_stops` and `number_stops`
-pub stop_end : (f : ℕ → Bool) (t : List ℕ) (at : ℕ) (b : Bool) → length t ≤ at → b ≡ true → run f (decode (drop at t)) ≡ []
-stop_end f t at b h e = ap (run f) (decode-end t at h) ∙ run-nil f
+-- ---- `ends_at`
+-- the table has the lead of the byte b, read at the place x
+pub ascii_at : (t table : List ℕ) (at b x k : ℕ) → table ≡ leads → at < length t → b ≡ get_or t at 0 → b < 0x80 → x ≡ b → k ≡ get_or table x 0 → AsciiAt t at k
+ascii_at t table at b x k i h e l f g = record {
+  inside = h;
+  ascii = subst (λ (y : ℕ). y < 0x80) e l;
+  lead = g ∙ ap (λ (y : ℕ). get_or table y 0) f ∙ ap (λ (s : List ℕ). get_or s b 0) i ∙ lead_at b l ∙ ap lead_of e;
+}
 
-pub stop_not : (f : ℕ → Bool) (t : List ℕ) (at : ℕ) → false ≡ true → run f (decode (drop at t)) ≡ []
-stop_not f t at e = cc
+-- where the text ends, or an ASCII character stands at whose lead no character of a token stands, the token's characters end
+pub run_ends : (f : ℕ → Bool) (P : ℕ → Type 0) (t : List ℕ) (at : ℕ) → EndsAt P t at → ((c : ℕ) → c < 0x80 → P (lead_of c) → f c ≡ false) → run f (decode (drop at t)) ≡ []
+run_ends f P t at e stop =
+    ⊎_elim
+    (λ (h : at < length t). ap (run f) (ascii_decode t at h (e.ascii h)) ∙ run_false f (get_or t at 0) (decode (drop (at + 1) t)) (stop (get_or t at 0) (e.ascii h) (e.lead h)))
+    (λ (h : length t ≤ at). ap (run f) (decode-end t at h) ∙ run-nil f)
+    (lt-or-ge at (length t))
 
 -- what stands at a place where there is an ASCII character
 module _ (t : List ℕ) (at : ℕ) (h : at < length t) (ascii : get_or t at 0 < 0x80) where
@@ -223,82 +235,45 @@ module _ (t : List ℕ) (at end : ℕ) (w : WordAt t at) (g : end ≡ at + 1 + s
       word-seen (Tok 0 end (0x110000 + k) end)
       (word_long t at (get_or t at 0) (at + 1) end (ascii_next t at w.inside w.ascii) (ascii_decode t at w.inside w.ascii) (omega (arith, w.inside)) g name k f p q)
 
-module _ (t table : List ℕ) (at x k : ℕ) (i : table ≡ leads) (h : at < length t) (e : x ≡ get_or t at 0) (l : x < 0x80) (g : k ≡ get_or table x 0) where
-  ascii : get_or t at 0 < 0x80
-  ascii = omega arith
-
-  lead_is : k ≡ lead_of (get_or t at 0)
-  lead_is = g ∙ ap (λ (s : List ℕ). get_or s x 0) i ∙ lead_at x l ∙ ap lead_of e
-
-  pub stop_at-word : (b : Bool) → b ≡ leb 3 k → b ≡ true → run is_word_continue (decode (drop at t)) ≡ []
-  stop_at-word b p q =
-      ap (run is_word_continue) (ascii_decode t at h ascii)
-      ∙ run_false is_word_continue (get_or t at 0) (decode (drop (at + 1) t)) (stop_word (get_or t at 0) ascii (omega (arith, leb-true 3 k (sym p ∙ q), lead_is)))
-
-  pub stop_at-number : (b : Bool) → b ≡ not (eqb k 1) → b ≡ true → run is_ascii_digit (decode (drop at t)) ≡ []
-  stop_at-number b p q =
-      ap (run is_ascii_digit) (ascii_decode t at h ascii)
-      ∙ run_false is_ascii_digit (get_or t at 0) (decode (drop (at + 1) t))
-      (stop_number (get_or t at 0) ascii (λ (z : lead_of (get_or t at 0) ≡ 1). eqb-false k 1 (not_false (eqb k 1) (sym p ∙ q)) (lead_is ∙ z)))
-
-  -- ---- `lead_at`
+-- ---- `lead_at`
+module _ (t : List ℕ) (at k : ℕ) (a : AsciiAt t at k) where
   next : at + 1 ≡ at + size (get_or t at 0)
-  next = ascii_next t at h ascii
+  next = ascii_next t at a.inside a.ascii
 
   seen : (y : Found) → y ≡ piece_of at (at + 1) (decode (drop (at + 1) t)) (step (get_or t at 0) (decode (drop (at + 1) t))) → y ≡ piece at (decode (drop at t))
-  seen = ascii_seen t at h ascii
+  seen = ascii_seen t at a.inside a.ascii
 
   pub no_word : k ≡ 18 → WordAt t at
-  no_word p = absurd (omega (arith, lead_is, ltb-true (lead_of (get_or t at 0)) 18 (all_below_lem (λ (c : ℕ). ltb (lead_of c) 18) 128 leads_low (get_or t at 0) ascii)))
-
-  pub word_here : (j : ℕ) → k ≡ 0 → j ≡ 18 → WordAt t at
-  word_here j p q = record { inside = h; ascii = ascii; lead = sym lead_is ∙ p }
+  no_word p = absurd (omega (arith, a.lead, ltb-true (lead_of (get_or t at 0)) 18 (all_below_lem (λ (c : ℕ). ltb (lead_of c) 18) 128 leads_low (get_or t at 0) a.ascii)))
 
   pub quick_lead : 3 ≤ k → k < 17 → quick_piece at k (get_or t at 0) ≡ piece at (decode (drop at t))
-  quick_lead m n = seen (quick_piece at k (get_or t at 0)) (lead-piece t at (get_or t at 0) next k lead_is m n)
+  quick_lead m n = seen (quick_piece at k (get_or t at 0)) (lead-piece t at (get_or t at 0) next k a.lead m n)
 
-  module _ (b : Bool) (q : b ≡ true) where
-    pub quick_word : k ≡ 0 → (b ≡ true → run is_word_continue (decode (drop (at + 1) t)) ≡ []) → 0 < 17 → quick_piece at 0 (get_or t at 0) ≡ piece at (decode (drop at t))
-    unfolding quick_piece
-    quick_word p f z =
-        let r : List ℕ = decode (drop (at + 1) t) in
-        let o : at + 1 ≡ at + 1 + sizes (run is_word_continue r) = omega (arith, ap sizes (f q), sizes-nil) in
-        seen (Tok 0 (at + 1) (get_or t at 0) (at + 1))
-        (piece_of_lem at (at + 1) r _ _ _ (word-lead (get_or t at 0) r (sym lead_is ∙ p))
-        (word-one t at (get_or t at 0) (at + 1) (at + 1) next (ascii_decode t at h ascii) (omega arith) o refl))
+  pub quick_word : k ≡ 0 → run is_word_continue (decode (drop (at + 1) t)) ≡ [] → quick_piece at k (get_or t at 0) ≡ piece at (decode (drop at t))
+  unfolding quick_piece
+  quick_word p f =
+      let r : List ℕ = decode (drop (at + 1) t) in
+      let o : at + 1 ≡ at + 1 + sizes (run is_word_continue r) = omega (arith, ap sizes f, sizes-nil) in
+      ap (λ (j : ℕ). quick_piece at j (get_or t at 0)) p
+      ∙ seen (Tok 0 (at + 1) (get_or t at 0) (at + 1))
+      (piece_of_lem at (at + 1) r _ _ _ (word-lead (get_or t at 0) r (sym a.lead ∙ p))
+      (word-one t at (get_or t at 0) (at + 1) (at + 1) next (ascii_decode t at a.inside a.ascii) (omega arith) o refl))
 
-    pub quick_number : k ≡ 1 → (b ≡ true → run is_ascii_digit (decode (drop (at + 1) t)) ≡ []) → 1 < 17 → quick_piece at 1 (get_or t at 0) ≡ piece at (decode (drop at t))
-    unfolding quick_piece
-    quick_number p f z =
-        let c : ℕ = get_or t at 0 in
-        let r : List ℕ = decode (drop (at + 1) t) in
-        let w = number-lead c r (sym lead_is ∙ p) in
-        let u = digit_range c w.1 in
-        let o : at + 1 ≡ at + 1 + sizes (run is_ascii_digit r) = omega (arith, ap sizes (f q), sizes-nil) in
-        let v : run is_ascii_digit (decode (drop at t)) ≡ c ∷ [] =
-        ap (run is_ascii_digit) (ascii_decode t at h ascii) ∙ run_true is_ascii_digit c r w.1 ∙ ap (λ (s : List ℕ). c ∷ s) (f q) in
-        seen (Tok 1 (at + 1) (c % 16) (at + 1))
-        (piece_of_lem at (at + 1) r _ _ _ w.0
-        (number_token t at c (at + 1) (at + 1) (c % 16) next (ascii_decode t at h ascii) w.1 o
-        (digit_value c u.0 u.1 ∙ ap (λ (s : List ℕ). min (value s) 256) (sym v))))
-
-pub not_quick : (t : List ℕ) (at c : ℕ) → 17 < 17 → quick_piece at 17 c ≡ piece at (decode (drop at t))
-not_quick t at c h = absurd (omega arith)
-
-pub in_text : (t : List ℕ) (at k : ℕ) → at < length t → k < 17 → at < length t
-in_text t at k h l = h
-
-pub not_in_text : (t : List ℕ) (at : ℕ) → 17 < 17 → at < length t
-not_in_text t at h = absurd (omega arith)
-
-pub is_no_word : (t : List ℕ) (at k : ℕ) → k < 18 → k ≡ 18 → WordAt t at
-is_no_word t at k h e = absurd (omega arith)
-
-pub word-not_in_text : (t : List ℕ) (at : ℕ) → 18 < 17 → at < length t
-word-not_in_text t at h = absurd (omega arith)
-
-pub no_quick_word : (t : List ℕ) (at c : ℕ) → 18 < 17 → quick_piece at 18 c ≡ piece at (decode (drop at t))
-no_quick_word t at c h = absurd (omega arith)
+  pub quick_number : k ≡ 1 → run is_ascii_digit (decode (drop (at + 1) t)) ≡ [] → quick_piece at k (get_or t at 0) ≡ piece at (decode (drop at t))
+  unfolding quick_piece
+  quick_number p f =
+      let c : ℕ = get_or t at 0 in
+      let r : List ℕ = decode (drop (at + 1) t) in
+      let w = number-lead c r (sym a.lead ∙ p) in
+      let u = digit_range c w.1 in
+      let o : at + 1 ≡ at + 1 + sizes (run is_ascii_digit r) = omega (arith, ap sizes f, sizes-nil) in
+      let v : run is_ascii_digit (decode (drop at t)) ≡ c ∷ [] =
+      ap (run is_ascii_digit) (ascii_decode t at a.inside a.ascii) ∙ run_true is_ascii_digit c r w.1 ∙ ap (λ (s : List ℕ). c ∷ s) f in
+      ap (λ (j : ℕ). quick_piece at j c) p
+      ∙ seen (Tok 1 (at + 1) (c % 16) (at + 1))
+      (piece_of_lem at (at + 1) r _ _ _ w.0
+      (number_token t at c (at + 1) (at + 1) (c % 16) next (ascii_decode t at a.inside a.ascii) w.1 o
+      (digit_value c u.0 u.1 ∙ ap (λ (s : List ℕ). min (value s) 256) (sym v))))
 
 -- ---- `value_of`
 module _ (k b c : ℕ) (e : c ≡ b) where

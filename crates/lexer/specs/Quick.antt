@@ -28,6 +28,17 @@ unfoldable pub leads : List ℕ
 unfolding leads_from
 leads = leads_from 128 0
 
+-- an ASCII character that begins k stands at a place
+pub record AsciiAt (t : List ℕ) (at k : ℕ) : Type 0 where
+  pub inside : at < length t
+  pub ascii : get_or t at 0 < 0x80
+  pub lead : k ≡ lead_of (get_or t at 0)
+
+-- the text ends at a place, or an ASCII character stands there of whose lead P holds
+pub record EndsAt (P : ℕ → Type 0) (t : List ℕ) (at : ℕ) : Type 0 where
+  pub ascii : at < length t → get_or t at 0 < 0x80
+  pub lead : at < length t → P (lead_of (get_or t at 0))
+
 -- a word begins at a place with an ASCII character
 pub record WordAt (t : List ℕ) (at : ℕ) : Type 0 where
   pub inside : at < length t

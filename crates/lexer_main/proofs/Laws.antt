@@ -2,14 +2,12 @@
 use mathlib.Core.Path.{◌≡◌, refl, sym, ap, ◌∙◌}
 use Prim.Native.Nat.{ℕ, ◌+◌, ◌-◌, ◌*◌, ◌≤◌, ◌<◌}
 use native.Mathlib.Omega.{arith}
-use mathlib.Core.Bool.{Bool}
 use mathlib.Core.List.{List, ◌++◌}
 use lib.ListN.{length, take, drop, length-append}
 use lib.Seq.{take_at}
 use mir.Syntax.{w64}
 use mir.Val.{Fits}
 use Rattle.chars.specs.Utf8.{decode}
-use Rattle.lexer.specs.Text.{same}
 use Rattle.lexer.specs.Tokens.{tokens}
 use Rattle.lexer.specs.Words.{flat, onto}
 use Rattle.lexer.proofs.Writes.{length-flat, tokens_of_bytes}
@@ -24,9 +22,9 @@ module _ (t : List ℕ) (n : ℕ) (h : length t ≤ 80) (e : n ≡ length (token
       let ts = tokens (decode t) in
       omega (arith, ap length p, length-append (flat ts) (drop (length (flat ts)) w), length-flat ts)
 
-  pub written : (w w' want : List ℕ) (r : Bool) → w' ≡ onto (flat (tokens (decode t))) w → r ≡ same (take (4 * n - 0) (drop 0 w')) want → r ≡ same (flat (tokens (decode t))) want
+  pub written : (w w' : List ℕ) → w' ≡ onto (flat (tokens (decode t))) w → take (4 * n) w' ≡ flat (tokens (decode t))
   unfolding onto
-  written w w' want r p q =
+  written w w' p =
       let ts = tokens (decode t) in
-      let o : length (flat ts) ≡ 4 * n - 0 = omega (arith, length-flat ts) in
-      q ∙ ap (λ (l : List ℕ). same l want) (ap (take (4 * n - 0)) p ∙ take_at (flat ts) (drop (length (flat ts)) w) (4 * n - 0) o)
+      let o : length (flat ts) ≡ 4 * n = omega (arith, length-flat ts) in
+      ap (take (4 * n)) p ∙ take_at (flat ts) (drop (length (flat ts)) w) (4 * n) o

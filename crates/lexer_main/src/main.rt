@@ -1,39 +1,22 @@
 // Tokens of texts at which a lexer may go wrong, word by word: kind, start, end and value of each.
 #![tactic(auto)]
 
-ghost use Rattle.std.specs.Prelude.{◌≡◌, ◌≤◌, length};
+ghost use Rattle.std.specs.Prelude.{◌≡◌, ◌≤◌, ◌↔◌, IsTrue, length};
 ghost use Rattle.chars.specs.Utf8.{decode};
-ghost use Rattle.lexer.specs.Text.{same};
 ghost use Rattle.lexer.specs.Tokens.{tokens};
 ghost use Rattle.lexer.specs.Words.{flat};
-
-// Whether two rows are equal.
-fn same_words(a: &[u32], b: &[u32]) -> bool
-    ensures { result ≡ same a.now b.now }
-{
-    if a.len() != b.len() {
-        return false;
-    }
-    let mut i = 0;
-    while i < a.len() {
-        if a[i] != b[i] {
-            return false;
-        }
-        i += 1;
-    }
-    true
-}
 
 // Whether the words of a text's tokens are those given.
 fn tokens_are(text: &[u8], want: &[u32]) -> bool
     requires { length text.now ≤ 80 }
-    ensures { result ≡ same (flat (tokens (decode text.now))) want.now }
+    ensures { IsTrue result ↔ (flat (tokens (decode text.now)) ≡ want.now) }
 {
-    let mut work = [7u32; 486];
+    let mut work = [7; 486];
     let n = lexer::tokenize(text, &mut work);
-    same_words(&work[0..4 * n], want)
+    &work[..4 * n] == want
 }
 
+#[tactic(auto, unfolding(chars::specs::Utf8::decode, lexer::specs::Tokens::tokens, lexer::specs::Words::flat))]
 fn main() {
     // a quote continues a word
     check::expect(tokens_are(b"a'b'", &[0, 0, 4, 0x110000, 13, 4, 4, 0]));

@@ -8,7 +8,7 @@ ghost use Rattle.tokens.specs.View.{token_in};
 use lexer::Span;
 
 // A token as its four words: kind, start, end and value.
-#[derive(Clone, Copy)]
+#[derive(Clone, Copy, Debug, PartialEq, Eq)]
 pub struct Token {
     pub kind: u32,
     pub start: u32,
