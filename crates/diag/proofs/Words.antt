@@ -5,7 +5,7 @@ use Prim.Native.Nat.{ℕ, ◌+◌, ◌-◌, ◌*◌, ◌/◌, ◌≤◌, ◌<◌
 use native.Mathlib.Omega.{arith}
 use borrow.Author.Tests.{le-leb, lt-leb}
 use lib.ListN.{length, take, drop, replicate, length-take, length-drop, drop_of_length-le}
-use lib.Seq.{sets, length-sets}
+use lib.Seq.{sets}
 use Rattle.diag.specs.declared.Diagnostic.{Diagnostic}
 use Rattle.diag.specs.Log.{words, logged, appended}
 
@@ -26,13 +26,7 @@ module _ (w w' v : List ℕ) (n : ℕ) (d : Diagnostic) (same : w' ≡ v) where
   unfolding appended
   append_stored h e = rw (le-leb (5 * n + 5) (length w) (omega arith)) (ap (λ (w : List ℕ). logged w (n + 1)) (same ∙ e))
 
-  pub stored_length : v ≡ sets w (5 * n) (words d) → length w' ≡ length w
-  stored_length e = ap length (same ∙ e) ∙ length-sets w (5 * n) (words d)
-
 -- there is not
 pub append_full : (w w' : List ℕ) (n : ℕ) (d : Diagnostic) → w' ≡ w → length w / 5 ≤ n → logged w' (n + 1) ≡ appended (logged w n) d
 unfolding appended
 append_full w w' n d e h = rw (lt-leb (5 * n + 5) (length w) (omega arith)) (ap (λ (w : List ℕ). logged w (n + 1)) e)
-
-pub kept-length : (w w' : List ℕ) → w' ≡ w → length w' ≡ length w
-kept-length w w' e = ap length e
