@@ -15,6 +15,7 @@ pub const UNUSED: Diagnostic = Diagnostic {
 };
 
 // Stores a diagnostic behind the `count` before it if there is room for it, and counts it in any case.
+// A twin of diag's, which promises the words of a log, as the crates above need them: one body for both would be longer than the two.
 pub fn append(log: &mut [Diagnostic], count: usize, d: Diagnostic) -> usize
     requires { count + 1 < 2 ^ 64 }
     ensures { (result ≡ count + 1) × (log.new ≡ set log.old count d) }
@@ -24,6 +25,7 @@ pub fn append(log: &mut [Diagnostic], count: usize, d: Diagnostic) -> usize
     }
     count + 1
 }
+
 // Sets every record to zero.
 pub fn clear(log: &mut [Diagnostic])
     ensures { log.new ≡ replicate (length log.old) unused }
