@@ -556,7 +556,7 @@ module _ (text : List ℕ) (E : List Token) (i : ℕ) (t : Lexed Place) (l' : To
       omega (arith, ap (λ (w : Token). w.kind) w, eqb-true (token_of t).kind 12 h.0)
   line_means_lem X of (Read x) e = item_means_lem x e X (of x e)
   line_means_lem X of (Err bad) e =
-      let w : peek E i ≡ failed_entry i c s (line_end W 0) = first_is ∙ ap (λ (y : Answer). peek (enter_as y i W) 0) e in
+      let w : peek E i ≡ failed_entry i bad.code bad.span (line_end W 0) = first_is ∙ ap (λ (y : Answer). peek (enter_as y i W) 0) e in
       (ap (λ (w : Token). w.kind) w, ap place_of w)
 
 -- ---- all lines

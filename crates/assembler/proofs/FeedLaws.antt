@@ -62,7 +62,7 @@ as_feeds (Read x) i t ts h e =
     high z = omega arith
 as_feeds (Err bad) i t ts h e = set_feeds (t ∷ ts) 0 (failed_entry i bad.code bad.span (line_end (t ∷ ts) 0)) e (ne_eqb (failed_entry i bad.code bad.span (line_end (t ∷ ts) 0)).kind 13 (λ z. high z))
   where
-    high : (failed_entry i c s (line_end (t ∷ ts) 0)).kind ≡ 13 → ⊥
+    high : (failed_entry i bad.code bad.span (line_end (t ∷ ts) 0)).kind ≡ 13 → ⊥
     high z = omega arith
 
 enter_feeds : (i : ℕ) (t : Token) (ts : List Token) → line_length (enter_line i (t ∷ ts)) ≡ line_length (t ∷ ts)

@@ -94,7 +94,7 @@ code_low : (t : Token) → code_of t ≤ 8
 unfolding code_of
 code_low t = on_test (λ (n : ℕ). n ≤ 8) (eqb t.kind 14) (λ _. omega arith) (λ _. omega arith)
 
-unexpected_fair : (ts : List Token) (i : ℕ) (t : Token) → Fair ts i (unexpected t)
+unexpected_fair : (ts : List Token) (i : ℕ) (t : Token) → Fair ts i (Err (unexpected t))
 unfolding unexpected
 unexpected_fair ts i t = code_low t
 

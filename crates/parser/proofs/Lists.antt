@@ -22,6 +22,18 @@ use Rattle.lexer.specs.declared.Span.{Span}
 use Rattle.parser.proofs.Laws.{length-tokens, inside}
 use Rattle.parser.proofs.Single.{kind-ended, sign_fits}
 
+-- what was read, and where it ended
+pub done_same : {A : Type 0} {i j : ℕ} {a b : A} → Done i a ≡ Done j b → (i ≡ j) × (a ≡ b)
+done_same {A} {i} {j} {a} {b} e = (ap (λ (r : Parsed A). end_of r) e, ap (λ (r : Parsed A). made_of r) e)
+  where
+    end_of : Parsed A → ℕ
+    end_of (Done k c) = k
+    end_of (Err bad) = i
+
+    made_of : Parsed A → A
+    made_of (Done k c) = c
+    made_of (Err bad) = a
+
 -- what a test makes of two answers
 pub on_test : {A : Type 0} (P : A → Type 0) (b : Bool) {x y : A} → (b ≡ true → P x) → (b ≡ false → P y) → P (cond b x y)
 on_test P true f g = f refl

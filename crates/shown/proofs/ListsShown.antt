@@ -1,4 +1,5 @@
 -- The lists of a rule: their entries stand at every second index, or are sets, and are what the language sees in their tokens.
+use Rattle.parser.proofs.Lists.{done_same}
 use mathlib.Core.Path.{◌≡◌, refl, sym, ap, subst, ◌∙◌}
 use mathlib.Core.Bool.{Bool, true, false, cond}
 use mathlib.Core.List.{List, [], ◌∷◌, map}
@@ -46,7 +47,7 @@ failed_done c s j n e = absurd (let z : ◌≡◌ {A = ℕ} 0 1 = cc in omega ar
 pub direction-takes : Takes direction is_direction
 unfolding direction unexpected
 direction-takes ts i j n e =
-    by_test_lem (is_direction (peek ts i)) (λ y. let z : Done (i + 1) 1 ≡ Done j n = rw y at e in (cc, y))
+    by_test_lem (is_direction (peek ts i)) (λ y. let z : Done (i + 1) 1 ≡ Done j n = rw y at e in (sym (done_same z).0, y))
     (λ x. by_test_lem (is_text (peek ts i)) (λ y. failed_done _ _ j n (rw (x, y) at e)) (λ y. failed_done _ _ j n (rw (x, y) at e)))
 
 module _ (p : Parser) (f : Token → Bool) (takes : Takes p f) (close : ℕ) (ts : List Token) where
@@ -62,7 +63,7 @@ module _ (p : Parser) (f : Token → Bool) (takes : Takes p f) (close : ℕ) (ts
       by_test_lem (eqb more 0)
       (λ y.
       let z : Done b (n + 1) ≡ Done j m = sym (ap (λ (t : Bool). elim t [ true ↦ Done b (n + 1) | false ↦ entries_from p close ts k b (n + 1) ]) y) ∙ w in
-      let h : b ≡ j = cc in
+      let h : b ≡ j = (done_same z).0 in
       last_one o.1 (ap (λ (k : ℕ). eqb (peek ts k).kind close) (sym o.0) ∙ q.closing (eqb-true more 0 y)) (sym h ∙ two))
       (λ y.
       let z : entries_from p close ts k b (n + 1) ≡ Done j m = sym (ap (λ (t : Bool). elim t [ true ↦ Done b (n + 1) | false ↦ entries_from p close ts k b (n + 1) ]) y) ∙ w in
