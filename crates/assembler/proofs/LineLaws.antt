@@ -19,7 +19,7 @@ use Rattle.parser.specs.declared.ItemKind.TheVariants.{Machine, Kind, Input, Out
 use Rattle.parser.specs.declared.Item.{Item}
 use Rattle.parser.specs.Row.{tokens_in}
 use Rattle.parser.specs.declared.Failure.{Failure}
-use Rattle.parser.specs.Lines.{Answer, Empty, Comment, Read, line, line_end}
+use Rattle.parser.specs.Lines.{Answer, Empty, Comment, Read, line, line_end, code_number}
 use Rattle.assembler.specs.Rows.{rows}
 use Rattle.assembler.specs.Entered.{words_of, flat, item_number, item_entry, failed_entry, counts_of, parts_of, PartsFit, with_parts, enter_as, enter_line, enter_at}
 use Rattle.assembler.proofs.Rows.{length-rows}
@@ -200,8 +200,8 @@ module _ (n i : ℕ) (w : List ℕ) (room : 4 * n ≤ length w) (low : i < n) (f
 
   -- of a failure
   module _ (bad : Failure) (read : line (drop i (rows n w)) 0 ≡ Err bad) where
-    pub code_fits : Fits w32 (32 + bad.code)
-    code_fits = let z : bad.code ≤ 8 = subst (LineIn rest) read (line_in rest) in record { fits = omega arith }
+    pub code_fits : Fits w32 (32 + code_number bad.code)
+    code_fits = let z : code_number bad.code ≤ 8 = subst (LineIn rest) read (line_in rest) in record { fits = omega arith }
 
     module _ (m : ℕ) (size : m ≡ line_end (drop i (rows n w)) 0) where
       pub size-sum : Fits w64 (i + m)
@@ -210,14 +210,14 @@ module _ (n i : ℕ) (w : List ℕ) (room : 4 * n ≤ length w) (low : i < n) (f
       pub size_fits : Fits w32 (i + m)
       size_fits = record { fits = omega (arith, line_end_in rest, rest-length) }
 
-      pub failed-entered : (v : List ℕ) → v ≡ sets w (4 * i) (words_of (record { kind = 32 + bad.code; start = bad.span.start; end = bad.span.end; value = i + m })) → v ≡ onto (flat (enter_at i (rows n w))) w
+      pub failed-entered : (v : List ℕ) → v ≡ sets w (4 * i) (words_of (record { kind = 32 + code_number bad.code; start = bad.span.start; end = bad.span.end; value = i + m })) → v ≡ onto (flat (enter_at i (rows n w))) w
       unfolding enter_line enter_as failed_entry
       failed-entered v stored =
-          let t : Token = record { kind = 32 + bad.code; start = bad.span.start; end = bad.span.end; value = i + m } in
+          let t : Token = record { kind = 32 + code_number bad.code; start = bad.span.start; end = bad.span.end; value = i + m } in
           let e : i + 0 ≡ i = omega arith in
           let one : enter_at i (rows n w) ≡ set (rows n w) i t =
           ap (λ (l : Answer). take i (rows n w) ++ enter_as l i (drop i (rows n w))) read
-          ∙ ap (λ (k : ℕ). take i (rows n w) ++ set (drop i (rows n w)) 0 (failed_entry i bad.code bad.span k)) (sym size)
+          ∙ ap (λ (k : ℕ). take i (rows n w) ++ set (drop i (rows n w)) 0 (failed_entry i (code_number bad.code) bad.span k)) (sym size)
           ∙ behind-first (rows n w) i 0 t ∙ ap (λ (k : ℕ). set (rows n w) k t) e in
           put_row n i w v t room low stored ∙ ap (λ (ts : List Token). onto (flat ts) w) (sym one)
 

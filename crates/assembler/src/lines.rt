@@ -113,7 +113,7 @@ fn enter_failed(work: &mut [u32], count: usize, at: usize, failure: Failure)
     let n = size_of(work, count, at);
     let span = failure.span;
     let t = Token {
-        kind: entry::FAILED + failure.code,
+        kind: entry::FAILED + failure.code.number(),
         start: span.start,
         end: span.end,
         value: (at + n) as u32,

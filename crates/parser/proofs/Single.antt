@@ -1,4 +1,5 @@
 -- Laws of the parsers of one token.
+use Rattle.parser.specs.declared.Code.TheVariants.{NoDirection}
 use Rattle.std.specs.Prelude.{Err}
 use mathlib.Core.Path.{◌≡◌, refl, sym, ap, subst, ◌∙◌}
 use Prim.Native.Nat.{ℕ, ◌+◌, ◌<◌, ◌^◌}
@@ -86,7 +87,7 @@ module _ (w : List ℕ) (i : ℕ) (t : Token) (at : t ≡ peek (tokens_in w) i) 
     direction_yes y = rw (← at, ← test, y)
 
     module _ (no : b ≡ false) (d : Bool) (text : d ≡ is_text t) where
-      pub direction_text : (s : Span) → d ≡ true → s ≡ span_of t → Failed 8 s ≡ direction (tokens_in w) i
+      pub direction_text : (s : Span) → d ≡ true → s ≡ span_of t → Failed NoDirection s ≡ direction (tokens_in w) i
       unfolding direction
       direction_text s y e = rw (← at, ← test, no, ← text, y, e)
 

@@ -1,4 +1,5 @@
 -- The elements of an item over the row are those of the language, and their values are what is seen in their tokens.
+use Rattle.parser.specs.declared.Code.TheVariants.{NoDirection}
 use Rattle.std.specs.Prelude.{Err}
 use mathlib.Core.Path.{◌≡◌, refl, sym, ap, ◌∙◌}
 use Prim.Native.Nat.{ℕ, ◌+◌, ◌-◌}
@@ -167,7 +168,7 @@ module _ (ts : List (Token Span)) (junk : List Words) (z : Token Span) (more : L
   pub direction_fits : (i : ℕ) (l : List (Token Span)) → Here i l → Fits i l (One direction_in) once (direction ws i) (directed z.place l)
   unfolding directed direction_in not_direction
   direction_fits =
-      token_fits ts junk z more ends direction is_direction (λ t. cond (is_text t) 8 (code_of t)) direction_in not_direction direction_tests sees_direction text_view
+      token_fits ts junk z more ends direction is_direction (λ t. cond (is_text t) NoDirection (code_of t)) direction_in not_direction direction_tests sees_direction text_view
       (record { at_newline = refl; at-comment = λ s. refl; bad_newline = refl; bad_comment = λ s. refl })
 
   pub string_fits : (i : ℕ) (l : List (Token Span)) → Here i l → Fits i l Texts once (one (is_kind 3) ws i) (string z.place l)

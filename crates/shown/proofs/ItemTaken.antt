@@ -1,4 +1,5 @@
 -- What the line parser took for the value of an item: the answer of the value's parser, and its last token, which is no comment.
+use Rattle.parser.specs.declared.Code.{Code}
 use Rattle.std.specs.Prelude.{Err, None, Option, Some}
 use Rattle.parser.specs.Lines.{Parsed, Done, Failed, Empty, Comment, Read}
 use mathlib.Core.Path.{◌≡◌, refl, sym, ap, subst, ◌∙◌}
@@ -26,7 +27,7 @@ use Rattle.assembler.proofs.Inside.{then_done, done_within}
 use Rattle.shown.proofs.ListsShown.{Series, last_one, one_more, entries_series}
 
 -- two cases of a line
-absurd_line : {X : Type 0} (c : ℕ) (s : Place) (x : Found) → Failed c s ≡ Read x → X
+absurd_line : {X : Type 0} (c : Code) (s : Place) (x : Found) → Failed c s ≡ Read x → X
 absurd_line c s x e = absurd (let z : ◌≡◌ {A = ℕ} 0 1 = cc in omega arith)
 
 -- behind the value stands the line's end
@@ -94,8 +95,8 @@ module _ (ts : List Token) (x : Found) where
     unfolding P.then P.value_at P.one P.unexpected
     behind-equals e =
         by_test_lem (is_kind 9 (peek ts 1))
-        (λ y. plain-taken 2 (p ts 2) refl (sym (ap (λ (b : Bool). P.then (cond b (Done 2 1) (Err (P.unexpected (peek ts 1)))) (λ v n. P.then (P.plain (p ts v)) (λ j q. P.finish k ts 0 v j q))) y) ∙ e))
-        (λ m. absurd_line _ _ x (sym (ap (λ (b : Bool). P.then (cond b (Done 2 1) (Err (P.unexpected (peek ts 1)))) (λ v n. P.then (P.plain (p ts v)) (λ j q. P.finish k ts 0 v j q))) m) ∙ e))
+        (λ y. plain-taken 2 (p ts 2) refl (sym (ap (λ (b : Bool). P.then (cond b (Done {A = ℕ} 2 1) (Err (P.unexpected (peek ts 1)))) (λ v n. P.then (P.plain (p ts v)) (λ j q. P.finish k ts 0 v j q))) y) ∙ e))
+        (λ m. absurd_line _ _ x (sym (ap (λ (b : Bool). P.then (cond b (Done {A = ℕ} 2 1) (Err (P.unexpected (peek ts 1)))) (λ v n. P.then (P.plain (p ts v)) (λ j q. P.finish k ts 0 v j q))) m) ∙ e))
 
 -- ---- the item of each kind
 abbrev pub TakenAs : ItemKind → List Token → Found → Type 0

@@ -1,4 +1,5 @@
 -- The lists of a rule: their entries stand at every second index, or are sets, and are what the language sees in their tokens.
+use Rattle.parser.specs.declared.Code.{Code}
 use Rattle.parser.proofs.Lists.{done_same}
 use mathlib.Core.Path.{◌≡◌, refl, sym, ap, subst, ◌∙◌}
 use mathlib.Core.Bool.{Bool, true, false, cond}
@@ -41,7 +42,7 @@ series_high f close ts i j (one_more y c s) = omega (arith, series_high f close 
 abbrev pub Takes : Parser → (Token → Bool) → Type 0
 Takes p f = (ts : List Token) (i j n : ℕ) → p ts i ≡ Done j n → (j ≡ i + 1) × (f (peek ts i) ≡ true)
 
-pub failed_done : {X : Type 0} (c : ℕ) (s : Place) (j n : ℕ) → Failed c s ≡ Done j n → X
+pub failed_done : {X : Type 0} (c : Code) (s : Place) (j n : ℕ) → Failed c s ≡ Done j n → X
 failed_done c s j n e = absurd (let z : ◌≡◌ {A = ℕ} 0 1 = cc in omega arith)
 
 pub direction-takes : Takes direction is_direction

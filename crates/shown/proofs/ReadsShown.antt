@@ -216,7 +216,7 @@ module _ (E : List Token) (o b : ℕ) (l : Tokens) (row : RowOf E o b l) where
       by_test_lem (eqb (peek W i).kind 6)
       (λ y.
       then_done (entries (one is_symbol) 7 W (i + 1) 0) (λ j _. Done j 1) j n (rw y at e) λ a x u v.
-      let a_is : a ≡ j = cc in
+      let a_is : a ≡ j = (done_same v).0 in
       let ser : Series is_symbol 7 W (i + 1) j = subst (Series is_symbol 7 W (i + 1)) a_is (entries_series (one is_symbol) is_symbol (one_done is_symbol) 7 W (i + 1) a x u) in
       let m = set_shown (i + 1) j k (omega arith) ser h top in
       let ms : List Token = S.members (drop (o + (i + 1)) E) in
