@@ -114,7 +114,7 @@ unfolding direction
 direction_fair = record {
   fair = λ ts i.
       on_test (Fair ts i) (is_direction (peek ts i)) (λ y. (omega arith, free_one ts i (solid_direction (peek ts i) y)))
-      (λ _. on_test (Fair ts i) (is_text (peek ts i)) (λ _. omega arith) (λ _. unexpected_fair ts i (peek ts i)));
+      (λ _. on_test (Fair ts i) (is_text (peek ts i)) (λ _. code_low NoDirection) (λ _. unexpected_fair ts i (peek ts i)));
 }
 
 separator_fair : (close : ℕ) → close < 13 → Fairly (separator close)

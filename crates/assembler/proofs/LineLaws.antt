@@ -210,16 +210,16 @@ module _ (n i : ℕ) (w : List ℕ) (room : 4 * n ≤ length w) (low : i < n) (f
       pub size_fits : Fits w32 (i + m)
       size_fits = record { fits = omega (arith, line_end_in rest, rest-length) }
 
-      pub failed-entered : (v : List ℕ) → v ≡ sets w (4 * i) (words_of (record { kind = 32 + code_number bad.code; start = bad.span.start; end = bad.span.end; value = i + m })) → v ≡ onto (flat (enter_at i (rows n w))) w
+      pub failed-entered : (v : List ℕ) (k : ℕ) → k ≡ code_number bad.code → v ≡ sets w (4 * i) (words_of (record { kind = 32 + k; start = bad.span.start; end = bad.span.end; value = i + m })) → v ≡ onto (flat (enter_at i (rows n w))) w
       unfolding enter_line enter_as failed_entry
-      failed-entered v stored =
+      failed-entered v k number stored =
           let t : Token = record { kind = 32 + code_number bad.code; start = bad.span.start; end = bad.span.end; value = i + m } in
           let e : i + 0 ≡ i = omega arith in
           let one : enter_at i (rows n w) ≡ set (rows n w) i t =
           ap (λ (l : Answer). take i (rows n w) ++ enter_as l i (drop i (rows n w))) read
           ∙ ap (λ (k : ℕ). take i (rows n w) ++ set (drop i (rows n w)) 0 (failed_entry i (code_number bad.code) bad.span k)) (sym size)
           ∙ behind-first (rows n w) i 0 t ∙ ap (λ (k : ℕ). set (rows n w) k t) e in
-          put_row n i w v t room low stored ∙ ap (λ (ts : List Token). onto (flat ts) w) (sym one)
+          put_row n i w v t room low (rw number at stored) ∙ ap (λ (ts : List Token). onto (flat ts) w) (sym one)
 
 -- ---- a line with nothing to enter
 module _ (n i : ℕ) (w : List ℕ) (l : Answer) (read : l ≡ line (drop i (rows n w)) 0) (room : 4 * n ≤ length w) where
