@@ -172,9 +172,6 @@ module _ (p : Parser) (close : ℕ) (w : List ℕ) (i n : ℕ) (v : Parsed ℕ) 
         pub list_few : n ≤ i → n + 1 ≤ next
         list_few h = omega (arith, list-within)
 
-        pub list_fits : n ≤ i → length w < 2 ^ 64 → Fits w64 (n + 1)
-        list_fits h g = record { fits = omega (arith, list-within, length-tokens w) }
-
 pub state_steps : Steps (one is_state)
 unfolding is_state
 state_steps = one_steps is_state refl
@@ -198,25 +195,6 @@ read_steps = record {
       (λ n. symbol_steps.within ts i);
 }
 
-pub ruleset lists =
-    (rules, entry_failed, list-failed, list_last, list_again, list_falls, list_few, list_fits, state_steps, symbol_steps, read_steps, write_steps, direction_steps)
-
 -- ---- where a `?` hands a failure on
 pub handed : {B : Type 0} (out v : Result B Failure) (bad : Failure) → IsErrAnd out (λ y. y ≡ bad) → Err bad ≡ v → out ≡ v
 handed out v bad h e = let p = err_from_is_err_and out h in p.1 ∙ ap Err p.2 ∙ e
-
--- ---- tests of the token at an index
-module _ {A : Type 0} (ts : List Token) (i n : ℕ) (t : Token) (at : t ≡ peek ts i) (v x y : A) where
-  pub kind_is : t.kind ≡ n → v ≡ x → v ≡ cond (eqb (peek ts i).kind n) x y
-  kind_is e f = rw (← at, eq-eqb t.kind n e) f
-
-  pub kind-not : (t.kind ≡ n → ⊥) → v ≡ y → v ≡ cond (eqb (peek ts i).kind n) x y
-  kind-not e f = rw (← at, ne_eqb t.kind n e) f
-
-  pub value_is : t.value ≡ n → v ≡ x → v ≡ cond (eqb (peek ts i).value n) x y
-  value_is e f = rw (← at, eq-eqb t.value n e) f
-
-  pub value_not : (t.value ≡ n → ⊥) → v ≡ y → v ≡ cond (eqb (peek ts i).value n) x y
-  value_not e f = rw (← at, ne_eqb t.value n e) f
-
-pub ruleset chain = (rules, kind_is, kind-not, value_is, value_not, sign_fits)

@@ -79,7 +79,7 @@ pub(crate) fn is_text(t: Token) -> bool
 }
 
 // The item that a word starts: by its code if it is one character, else by its number among the keywords.
-#[tactic(auto, using(crate::proofs::Laws::keyword_at), unfolding(crate::specs::Views::keyword_of, crate::specs::Views::lookup))]
+#[tactic(auto, unfolding(crate::specs::Views::keyword_of, crate::specs::Views::lookup))]
 pub(crate) fn keyword(t: Token) -> Option<ItemKind>
     ensures { result ≡ keyword_of t }
 {
