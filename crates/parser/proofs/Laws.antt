@@ -1,19 +1,13 @@
 -- Laws of the row and of what is asked of one token, for the proofs of this crate and of those above it.
-use Rattle.std.specs.Prelude.{None, Option, Some}
 use mathlib.Core.Path.{◌≡◌, refl, sym, ap, ◌∙◌}
-use Prim.Native.Nat.{ℕ, zero, suc, ◌+◌, ◌-◌, ◌*◌, ◌/◌, ◌≤◌, ◌<◌}
+use Prim.Native.Nat.{ℕ, zero, suc, ◌+◌, ◌*◌, ◌/◌, ◌≤◌, ◌<◌}
 use native.Mathlib.Omega.{arith}
 use native.Mathlib.Decide.{dec_lt}
 use mathlib.Core.Bool.{Bool, true, false}
 use mathlib.Core.List.{List, [], ◌∷◌}
 use lib.ListN.{length, get_or-eq_default}
-use borrow.Author.Rules.{rules}
-use borrow.Author.Tests.{lt-ltb, le-ltb, le-leb, lt-leb, eq-eqb, ne_eqb}
 use Rattle.tokens.specs.View.{token_in}
 use Rattle.parser.specs.Row.{tokens_in, ended, peek}
-use Rattle.parser.specs.Views.{keyword_of, lookup, starts, lead_of}
-use Rattle.parser.specs.declared.ItemKind.{ItemKind}
-use Rattle.parser.specs.declared.Lead.{Lead}
 use Rattle.tokens.specs.declared.Token.{Token}
 
 -- ---- the row

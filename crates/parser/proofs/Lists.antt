@@ -2,25 +2,21 @@
 use Rattle.std.specs.Prelude.{Err, Result, IsErrAnd}
 use Rattle.std.proofs.lemmas.Result.{err_from_is_err_and}
 use mathlib.Core.Path.{◌≡◌, refl, sym, ap, subst, ◌∙◌}
-use Prim.Native.Nat.{ℕ, zero, suc, ◌+◌, ◌-◌, ◌≤◌, ◌<◌, ◌^◌}
+use Prim.Native.Nat.{ℕ, zero, suc, ◌+◌, ◌-◌, ◌≤◌, ◌<◌}
 use native.Mathlib.Omega.{arith}
 use mathlib.Core.Bool.{Bool, true, false, cond}
-use mathlib.Core.List.{List, []}
+use mathlib.Core.List.{List}
 use lib.ListN.{length}
 use lib.Dec.{eqb}
-use mir.Syntax.{w64}
-use mir.Val.{Fits}
-use borrow.Author.Rules.{rules}
 use borrow.Author.Tests.{eq-eqb, ne_eqb}
 use Rattle.parser.specs.Row.{tokens_in, ended, peek}
 use Rattle.parser.specs.Views.{is_kind, is_state, is_symbol, is_write, is_direction, is_text}
-use Rattle.parser.specs.Lines.{Parsed, Done, Failed, Parser, then, unexpected, one, direction, separator, entries_from, entries, read_entry}
+use Rattle.parser.specs.Lines.{Parsed, Done, Parser, then, unexpected, one, direction, separator, entries_from, entries, read_entry}
 pub use Rattle.parser.specs.Calls.{Within, Steps}
 use Rattle.tokens.specs.declared.Token.{Token}
 use Rattle.parser.specs.declared.Failure.{Failure}
-use Rattle.lexer.specs.declared.Span.{Span}
-use Rattle.parser.proofs.Laws.{length-tokens, inside}
-use Rattle.parser.proofs.Single.{kind-ended, sign_fits}
+use Rattle.parser.proofs.Laws.{inside}
+use Rattle.parser.proofs.Single.{kind-ended}
 
 -- what was read, and where it ended
 pub done_same : {A : Type 0} {i j : ℕ} {a b : A} → Done i a ≡ Done j b → (i ≡ j) × (a ≡ b)

@@ -1,16 +1,15 @@
 -- Laws of symbols with a comma behind each: a list of symbols goes on behind them.
 use mathlib.Core.Path.{◌≡◌, refl, sym, ap, ◌∙◌}
-use mathlib.Core.Bool.{Bool, true, false, cond}
+use mathlib.Core.Bool.{Bool, true, false}
 use mathlib.Core.List.{List}
-use Prim.Native.Nat.{ℕ, zero, suc, ◌+◌, ◌-◌, ◌*◌, ◌/◌, ◌≤◌, ◌<◌}
+use Prim.Native.Nat.{ℕ, zero, suc, ◌+◌, ◌-◌, ◌*◌, ◌/◌, ◌<◌}
 use native.Mathlib.Omega.{arith}
 use native.Mathlib.Decide.{dec_lt}
-use borrow.Author.Tests.{eq-eqb, ne_eqb}
 use lib.Dec.{eqb}
 use lib.ListN.{length}
 use Rattle.parser.specs.Row.{tokens_in, peek}
 use Rattle.parser.specs.Views.{is_symbol, is_pair, Pairs}
-use Rattle.parser.specs.Lines.{Parsed, Done, unexpected, one, separator, entries}
+use Rattle.parser.specs.Lines.{Done, one, separator, entries}
 use Rattle.tokens.specs.declared.Token.{Token}
 use Rattle.parser.proofs.Laws.{length-tokens}
 use Rattle.parser.proofs.Lists.{symbol_steps, list_again}

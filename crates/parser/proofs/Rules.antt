@@ -1,12 +1,12 @@
 -- Laws of items and lines: a value ends behind where it began, in the row, and each part goes on where the one before it ended.
-use Rattle.std.specs.Prelude.{Err, None, Option, Some}
+use Rattle.std.specs.Prelude.{Err}
 use mathlib.Core.Path.{◌≡◌, refl, sym, ap, subst, ◌∙◌}
 use Prim.Native.Nat.{ℕ, suc, ◌+◌, ◌-◌, ◌≤◌, ◌<◌, ◌^◌}
 use native.Mathlib.Omega.{arith}
 use native.Mathlib.Numerals.{add-one}
 use native.Mathlib.Decide.{dec_lt}
 use mathlib.Core.Bool.{Bool, true, false, cond}
-use mathlib.Core.List.{List, []}
+use mathlib.Core.List.{List}
 use lib.ListN.{length, drop, drop_of_length-le, get_or-eq_default}
 use lib.Seq.{drop-cons}
 use lib.Dec.{eqb}
@@ -15,14 +15,12 @@ use mir.Val.{Fits}
 use borrow.Author.Rules.{rules}
 use borrow.Author.Tests.{eq-eqb, ne_eqb}
 use Rattle.parser.specs.Row.{tokens_in, ended, peek}
-use Rattle.parser.specs.Views.{span_of, is_kind, is_choice, is_state, is_symbol, is_write, keyword_of, lead_of}
-use Rattle.parser.specs.Lines.{Parsed, Done, Failed, Answer, Empty, Comment, Read, Parser, then, code_of, one, direction, entries, set, tuple, read_entry, output, side, equals, left_parts, no_parts, left, right, transition, plain, value, spanning, newline_at, finish, value_at, item_from, item_of, item, is_comment, line, line_length, line_end}
+use Rattle.parser.specs.Views.{is_kind, is_choice, is_state, is_symbol, is_write}
+use Rattle.parser.specs.Lines.{Parsed, Done, Parser, then, one, direction, entries, set, tuple, read_entry, output, side, equals, left_parts, no_parts, left, right, transition, plain, value, line_length, line_end}
 use Rattle.tokens.specs.declared.Token.{Token}
-use Rattle.lexer.specs.declared.Span.{Span}
 use Rattle.parser.specs.declared.Parts.{Parts}
 use Rattle.parser.specs.declared.ItemKind.{ItemKind}
 use Rattle.parser.specs.declared.ItemKind.TheVariants.{Machine, Kind, Input, Output, Tapes, States, InputAlphabet, TapeAlphabet, Blank, Start, Final, Transition}
-use Rattle.parser.specs.declared.Lead.{Lead}
 use Rattle.parser.proofs.Laws.{inside}
 use Rattle.parser.proofs.Single.{kind-ended, next_fits}
 use Rattle.parser.proofs.Lists.{Within, Steps, on_test, then_steps, further, one_steps, state_steps, symbol_steps, read_steps, write_steps, direction_steps, entries-within}

@@ -1,22 +1,19 @@
 -- Laws of the parsers of one token.
-use Rattle.parser.specs.declared.Code.TheVariants.{NoDirection}
 use Rattle.std.specs.Prelude.{Err}
 use mathlib.Core.Path.{◌≡◌, refl, sym, ap, subst, ◌∙◌}
 use Prim.Native.Nat.{ℕ, ◌+◌, ◌<◌, ◌^◌}
 use native.Mathlib.Omega.{arith}
 use native.Mathlib.Decide.{dec_lt}
 use mathlib.Core.Bool.{Bool, true, false}
-use mathlib.Core.List.{List, []}
+use mathlib.Core.List.{List}
 use lib.ListN.{length, get_or-eq_default}
 use mir.Syntax.{w64}
 use mir.Val.{Fits}
-use borrow.Author.Rules.{rules}
 use borrow.Author.Tests.{eq-eqb, ne_eqb}
 use Rattle.parser.specs.Row.{tokens_in, ended, peek}
-use Rattle.parser.specs.Views.{span_of, is_kind, is_choice, is_state, is_symbol, is_write, is_direction, is_text}
-use Rattle.parser.specs.Lines.{Parsed, Done, Failed, unexpected, one, direction, separator}
+use Rattle.parser.specs.Views.{is_kind, is_direction}
+use Rattle.parser.specs.Lines.{Parsed, Done, unexpected, one}
 use Rattle.tokens.specs.declared.Token.{Token}
-use Rattle.lexer.specs.declared.Span.{Span}
 use Rattle.parser.proofs.Laws.{length-tokens, inside}
 
 -- an index in the row of a slice has a next one

@@ -9,7 +9,6 @@ use mathlib.Core.Option.{Option, none, some}
 use lib.Dec.{eqb}
 use lib.ListN.{length}
 use borrow.Author.Tests.{eqb-true, eq-eqb, ne_eqb, lt-ltb, le-ltb}
-use Rattle.lexer.specs.Text.{codes}
 use Rattle.lexer.specs.Tokens.{TokenKind, word, number, quoted, str, sign, comment, newline, unterminated_string, unterminated_quote, Span, Token}
 use Rattle.lexer.specs.Words.{sign_number, kind_number, keyword, word_value, token_value}
 use Rattle.language.specs.Machine.{Dir, left, right, stay}

@@ -6,7 +6,7 @@ use Rattle.lexer.specs.Words.{kind_number, token_value}
 use Rattle.language.specs.Machine.{Located, transducer, lsb}
 use Rattle.language.specs.Parser.{is_sign}
 use Rattle.language.specs.Lines.{RawSymbol, raw_blank, RawDecoder, raw_word, raw_unary, raw_binary, RawTransition, Text, Item, machine_item, input_item, kind_item, output_item, tapes_item, states_item, final_item, input_alphabet_item, tape_alphabet_item, blank_item, start_item, transition_item, Line, blank_line, comment_line, item_line, error_line, state_in, symbol_in, write_in, direction_in, string_in, number_in, word_in, kinds, outputs, orders, word_output, unary_output, binary_output, Ending, line_feed, goes_by, remark, ending_of, lines, covering}
-use Rattle.parser.specs.Lines.{Failed, Answer, Empty, Comment, Read, code_number, line, line_end}
+use Rattle.parser.specs.Lines.{Answer, Empty, Comment, Read, code_number, line, line_end}
 use Rattle.tokens.specs.declared.Token.{Token as Words}
 use Rattle.tokens.specs.View.{words_of}
 use Rattle.parser.specs.declared.Parts.{Parts}

@@ -134,10 +134,8 @@ fn entries<F: Fn(usize) -> Parsed<usize>>(
     requires reads { (p : Parser) × ReadsEntries (F.post entry) p (tokens_in work.now) }
     requires sign { close < 13 }
     requires count { before ≤ at }
-    ensures {
-        (p : Parser) → ReadsEntries (F.post entry) p (tokens_in work.now)
-            → result ≡ entries p close (tokens_in work.now) at before
-    }
+    ensures { (p : Parser) → ReadsEntries (F.post entry) p (tokens_in work.now)
+        → result ≡ entries p close (tokens_in work.now) at before }
 {
     let mut i = at;
     let mut n = before;
