@@ -15,7 +15,7 @@ use Rattle.parser.specs.Row.{peek, ended}
 use Rattle.parser.specs.Views.{is_kind, is_symbol}
 use Rattle.parser.specs.Lines.{Parsed, Done, Failed, Parser, then, code_of, unexpected, one, separator, entries_from, entries, tuple, read_entry}
 use Rattle.parser.proofs.Laws.{inside}
-use Rattle.parser.proofs.Lists.{Within, Steps, on_test, separator_steps, symbol_steps, read_steps, entries-within}
+use Rattle.parser.proofs.Lists.{done_same, Within, Steps, on_test, separator_steps, symbol_steps, read_steps, entries-within}
 
 -- braces open and close by turns; `true`: one is open
 unfoldable pub balanced : Bool → List Token → Bool
@@ -101,7 +101,7 @@ symbol_brace t e =
 pub one_done : (f : Token → Bool) (ts : List Token) (i j n : ℕ) → one f ts i ≡ Done j n → (j ≡ i + 1) × (f (peek ts i) ≡ true)
 unfolding one unexpected
 one_done f ts i j n e =
-    by_test_lem (f (peek ts i)) (λ y. let z : Done (i + 1) 1 ≡ Done j n = rw y at e in (cc, y)) (λ x. let z : Failed (code_of (peek ts i)) (record { start = (peek ts i).start; end = (peek ts i).end }) ≡ Done j n = rw x at e in absurd (let q : ◌≡◌ {A = ℕ} 0 1 = cc in omega arith))
+    by_test_lem (f (peek ts i)) (λ y. let z : Done (i + 1) 1 ≡ Done j n = rw y at e in (sym (done_same z).0, y)) (λ x. let z : Failed (code_of (peek ts i)) (record { start = (peek ts i).start; end = (peek ts i).end }) ≡ Done j n = rw x at e in absurd (let q : ◌≡◌ {A = ℕ} 0 1 = cc in omega arith))
 
 -- a comma where more follow, else the closing sign
 pub record Parted (close : ℕ) (ts : List Token) (i j n : ℕ) : Type 0 where
@@ -113,9 +113,9 @@ pub separator_done : (close : ℕ) (ts : List Token) (i j n : ℕ) → separator
 unfolding separator unexpected
 separator_done close ts i j n e =
     by_test_lem (eqb (peek ts i).kind 8)
-    (λ y. let z : Done (i + 1) 1 ≡ Done j n = rw y at e in let m : n ≡ 1 = cc in record { next = cc; comma = λ _. y; closing = λ q. absurd (omega arith) }) λ x.
+    (λ y. let z : Done (i + 1) 1 ≡ Done j n = rw y at e in let m : n ≡ 1 = sym (done_same z).1 in record { next = sym (done_same z).0; comma = λ _. y; closing = λ q. absurd (omega arith) }) λ x.
     by_test_lem (eqb (peek ts i).kind close)
-    (λ y. let z : Done (i + 1) 0 ≡ Done j n = rw (x, y) at e in let m : n ≡ 0 = cc in record { next = cc; comma = λ q. absurd (q m); closing = λ _. y })
+    (λ y. let z : Done (i + 1) 0 ≡ Done j n = rw (x, y) at e in let m : n ≡ 0 = sym (done_same z).1 in record { next = sym (done_same z).0; comma = λ q. absurd (q m); closing = λ _. y })
     (λ w. let z : Failed (code_of (peek ts i)) (record { start = (peek ts i).start; end = (peek ts i).end }) ≡ Done j n = rw (x, w) at e in absurd (let q : ◌≡◌ {A = ℕ} 0 1 = cc in omega arith))
 
 -- ---- the parsers of what is read

@@ -16,7 +16,7 @@ use Rattle.parser.specs.declared.Parts.{Parts}
 use Rattle.parser.specs.declared.ItemKind.{ItemKind}
 use Rattle.parser.specs.declared.ItemKind.TheVariants.{Machine, Kind, Input, Output, Tapes, States, InputAlphabet, TapeAlphabet, Blank, Start, Final, Transition}
 use Rattle.parser.specs.Row.{peek, ended}
-use Rattle.parser.specs.Lines.{Failed, Answer, Empty, Comment, Read, line, line_end}
+use Rattle.parser.specs.Lines.{Failed, Answer, Empty, Comment, Read, line, line_end, code_number}
 use Rattle.parser.specs.Meaning.{token_of, Closed, AllLexed}
 use Rattle.language.specs.Lines.{line_feed, goes_by, remark, ending_of}
 use Rattle.assembler.specs.Entries.{behind}
@@ -139,9 +139,9 @@ as_like (Read x) i t ts h e =
     high : (item_entry i x).kind ≡ 12 → ⊥
     high z = omega arith
 as_like (Err bad) i t ts h e =
-    like_set (t ∷ ts) (t ∷ ts) 0 (failed_entry i c s (line_end (t ∷ ts) 0)) (like_refl (t ∷ ts)) e (ne_eqb (failed_entry i c s (line_end (t ∷ ts) 0)).kind 12 (λ z. high z))
+    like_set (t ∷ ts) (t ∷ ts) 0 (failed_entry i (code_number bad.code) bad.span (line_end (t ∷ ts) 0)) (like_refl (t ∷ ts)) e (ne_eqb (failed_entry i (code_number bad.code) bad.span (line_end (t ∷ ts) 0)).kind 12 (λ z. high z))
   where
-    high : (failed_entry i c s (line_end (t ∷ ts) 0)).kind ≡ 12 → ⊥
+    high : (failed_entry i (code_number bad.code) bad.span (line_end (t ∷ ts) 0)).kind ≡ 12 → ⊥
     high z = omega arith
 
 enter_like : (i : ℕ) (t : Token) (ts : List Token) → Like (t ∷ ts) (enter_line i (t ∷ ts))

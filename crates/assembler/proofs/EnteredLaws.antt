@@ -18,7 +18,7 @@ use Rattle.parser.specs.declared.ItemKind.{ItemKind}
 use Rattle.parser.specs.declared.ItemKind.TheVariants.{Machine, Kind, Input, Output, Tapes, States, InputAlphabet, TapeAlphabet, Blank, Start, Final, Transition}
 use Rattle.parser.specs.declared.Item.{Item}
 use Rattle.parser.specs.Row.{peek, ended}
-use Rattle.parser.specs.Lines.{Failed, Answer, Empty, Comment, Read, line, line_end}
+use Rattle.parser.specs.Lines.{Failed, Answer, Empty, Comment, Read, line, line_end, code_number}
 use Rattle.assembler.specs.Rows.{rows}
 use Rattle.assembler.specs.Entries.{behind}
 use Rattle.assembler.specs.Entered.{flat, item_entry, item_number, failed_entry, counts_of, parts_of, with_parts, enter_as, enter_line, enter_at, entered_from, entered}
@@ -47,7 +47,7 @@ unfolding enter_as
 as_length Empty i ts = refl
 as_length (Comment k) i ts = refl
 as_length (Read x) i ts = parts-length x.kind i x.parts (set ts 0 (item_entry i x)) ∙ length-set ts 0 (item_entry i x)
-as_length (Err bad) i ts = length-set ts 0 (failed_entry i bad.code bad.span (line_end ts 0))
+as_length (Err bad) i ts = length-set ts 0 (failed_entry i (code_number bad.code) bad.span (line_end ts 0))
 
 pub enter-length : (i : ℕ) (ts : List Token) → length (enter_line i ts) ≡ length ts
 unfolding enter_line

@@ -24,7 +24,7 @@ use Rattle.parser.specs.declared.Lead.TheVariants.{Equals}
 use Rattle.parser.specs.declared.Item.{Item as Found}
 use Rattle.parser.specs.Row.{peek, ended}
 use Rattle.parser.specs.Views.{is_kind, lead_of}
-use Rattle.parser.specs.Lines.{Failed, Answer, Empty, Comment, Read, line, line_end, line_length, newline_at}
+use Rattle.parser.specs.Lines.{Failed, Answer, Empty, Comment, Read, line, line_end, line_length, newline_at, code_number}
 use Rattle.parser.specs.Meaning.{token_of, nothing, at, between, located, or_else, Sound, seen, read_sets, rule_of, item_means, line_means, Counted, CountedAs, LineCounted, Closed, AllLexed, LineAt}
 use Rattle.parser.proofs.Lines.{line_at}
 use Rattle.parser.proofs.Views.{is_some, tok, sees_number}
@@ -161,7 +161,7 @@ line-behind i w ws (Comment k) h =
     second [] e = refl
     second (u ∷ us) e = length_by u us true e
 line-behind i w ws (Read x) h = ap (behind i) (parts_first x.kind i x.parts (item_entry i x) ws) ∙ entry_behind i x ∙ sym h.feeds
-line-behind i w ws (Err bad) h = failed-behind i bad.code (line_end (w ∷ ws) 0) bad.span
+line-behind i w ws (Err bad) h = failed-behind i (code_number bad.code) (line_end (w ∷ ws) 0) bad.span
 
 tail_of : (n : ℕ) (l r : List Token) → 0 < length l → drop 1 (take (suc n) l ++ r) ≡ take n (drop 1 l) ++ r
 tail_of n [] r h = absurd (omega arith)
@@ -556,7 +556,7 @@ module _ (text : List ℕ) (E : List Token) (i : ℕ) (t : Lexed Place) (l' : To
       omega (arith, ap (λ (w : Token). w.kind) w, eqb-true (token_of t).kind 12 h.0)
   line_means_lem X of (Read x) e = item_means_lem x e X (of x e)
   line_means_lem X of (Err bad) e =
-      let w : peek E i ≡ failed_entry i c s (line_end W 0) = first_is ∙ ap (λ (y : Answer). peek (enter_as y i W) 0) e in
+      let w : peek E i ≡ failed_entry i (code_number bad.code) bad.span (line_end W 0) = first_is ∙ ap (λ (y : Answer). peek (enter_as y i W) 0) e in
       (ap (λ (w : Token). w.kind) w, ap place_of w)
 
 -- ---- all lines

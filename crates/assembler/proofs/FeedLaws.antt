@@ -15,7 +15,7 @@ use Rattle.parser.specs.declared.Parts.{Parts}
 use Rattle.parser.specs.declared.ItemKind.{ItemKind}
 use Rattle.parser.specs.declared.ItemKind.TheVariants.{Machine, Kind, Input, Output, Tapes, States, InputAlphabet, TapeAlphabet, Blank, Start, Final, Transition}
 use Rattle.parser.specs.Row.{peek, ended}
-use Rattle.parser.specs.Lines.{Failed, Answer, Empty, Comment, Read, line, line_end, line_length}
+use Rattle.parser.specs.Lines.{Failed, Answer, Empty, Comment, Read, line, line_end, line_length, code_number}
 use Rattle.assembler.specs.Entries.{Entry, behind, entries_from, entries}
 use Rattle.assembler.specs.Feeds.{AllFed, Fed}
 use Rattle.assembler.specs.Entered.{item_entry, failed_entry, counts_of, parts_of, with_parts, enter_as, enter_line, entered_from, entered}
@@ -60,9 +60,9 @@ as_feeds (Read x) i t ts h e =
   where
     high : (item_entry i x).kind ≡ 13 → ⊥
     high z = omega arith
-as_feeds (Err bad) i t ts h e = set_feeds (t ∷ ts) 0 (failed_entry i bad.code bad.span (line_end (t ∷ ts) 0)) e (ne_eqb (failed_entry i bad.code bad.span (line_end (t ∷ ts) 0)).kind 13 (λ z. high z))
+as_feeds (Err bad) i t ts h e = set_feeds (t ∷ ts) 0 (failed_entry i (code_number bad.code) bad.span (line_end (t ∷ ts) 0)) e (ne_eqb (failed_entry i (code_number bad.code) bad.span (line_end (t ∷ ts) 0)).kind 13 (λ z. high z))
   where
-    high : (failed_entry i c s (line_end (t ∷ ts) 0)).kind ≡ 13 → ⊥
+    high : (failed_entry i (code_number bad.code) bad.span (line_end (t ∷ ts) 0)).kind ≡ 13 → ⊥
     high z = omega arith
 
 enter_feeds : (i : ℕ) (t : Token) (ts : List Token) → line_length (enter_line i (t ∷ ts)) ≡ line_length (t ∷ ts)

@@ -1,4 +1,6 @@
 -- What the line parser answers lies in the row: codes are small, counts and indices at most the number of tokens.
+use Rattle.parser.specs.declared.Code.{Code}
+use Rattle.parser.specs.declared.Code.TheVariants.{Unexpected, UnterminatedString, NoDirection}
 use Rattle.std.specs.Prelude.{Err, None, Option, Some}
 use mathlib.Core.Path.{◌≡◌, refl, sym, ap, subst, ◌∙◌}
 use mathlib.Core.Bool.{Bool, true, false, cond}
@@ -20,7 +22,7 @@ use Rattle.parser.specs.declared.Item.{Item}
 use Rattle.diag.proofs.Cases.{by_test_lem}
 use Rattle.parser.specs.Row.{peek, ended}
 use Rattle.parser.specs.Views.{is_kind, is_choice, is_state, is_symbol, is_write, is_direction, is_text, keyword_of, lead_of}
-use Rattle.parser.specs.Lines.{Parsed, Done, Failed, Answer, Empty, Comment, Read, Parser, then, code_of, unexpected, one, direction, separator, entries_from, entries, set, tuple, read_entry, output, side, equals, left_parts, no_parts, left, right, transition, plain, value, newline_at, finish, value_at, item_of, item_from, item, is_comment, line, line_length, line_end}
+use Rattle.parser.specs.Lines.{Parsed, Done, Failed, Answer, Empty, Comment, Read, Parser, then, code_of, unexpected, one, direction, separator, entries_from, entries, set, tuple, read_entry, output, side, equals, left_parts, no_parts, left, right, transition, plain, value, newline_at, finish, value_at, item_of, item_from, item, is_comment, line, line_length, line_end, code_number}
 use Rattle.parser.proofs.Laws.{inside}
 use Rattle.assembler.proofs.Braces.{balanced, between, Even, one_done, reads_even, balanced_sign}
 use Rattle.parser.proofs.Lists.{Within, Steps, on_test, one_steps, direction_steps, separator_steps, entries-within, state_steps, symbol_steps, write_steps, read_steps}
@@ -80,7 +82,7 @@ solid_direction t e =
 -- ---- a parser's answer: no more entries than the index behind them, no line feed among them, and a code that fits an entry
 abbrev pub Fair : List Token → ℕ → Parsed ℕ → Type 0
 Fair ts i (Done j n) = (n ≤ j) × Free ts i j
-Fair ts i (Err bad) = bad.code ≤ 8
+Fair ts i (Err bad) = code_number bad.code ≤ 8
 
 pub record Fairly (p : Parser) : Type 0 where
   pub fair : (ts : List Token) (i : ℕ) → Fair ts i (p ts i)
@@ -90,13 +92,15 @@ fair_from : (ts : List Token) (i j : ℕ) (r : Parsed ℕ) → Free ts i j → F
 fair_from ts i j (Done k n) f h = (h.0, free_on ts i j k f h.1)
 fair_from ts i j (Err bad) f h = h
 
-code_low : (t : Token) → code_of t ≤ 8
-unfolding code_of
-code_low t = on_test (λ (n : ℕ). n ≤ 8) (eqb t.kind 14) (λ _. omega arith) (λ _. omega arith)
+code_low : (c : Code) → code_number c ≤ 8
+unfolding code_number
+code_low Unexpected = omega arith
+code_low UnterminatedString = omega arith
+code_low NoDirection = omega arith
 
-unexpected_fair : (ts : List Token) (i : ℕ) (t : Token) → Fair ts i (unexpected t)
+unexpected_fair : (ts : List Token) (i : ℕ) (t : Token) → Fair ts i (Err (unexpected t))
 unfolding unexpected
-unexpected_fair ts i t = code_low t
+unexpected_fair ts i t = code_low (code_of t)
 
 one_fair : (f : Token → Bool) → Solid f → Fairly (one f)
 unfolding one
@@ -110,7 +114,7 @@ unfolding direction
 direction_fair = record {
   fair = λ ts i.
       on_test (Fair ts i) (is_direction (peek ts i)) (λ y. (omega arith, free_one ts i (solid_direction (peek ts i) y)))
-      (λ _. on_test (Fair ts i) (is_text (peek ts i)) (λ _. omega arith) (λ _. unexpected_fair ts i (peek ts i)));
+      (λ _. on_test (Fair ts i) (is_text (peek ts i)) (λ _. code_low NoDirection) (λ _. unexpected_fair ts i (peek ts i)));
 }
 
 separator_fair : (close : ℕ) → close < 13 → Fairly (separator close)
@@ -240,7 +244,7 @@ equals_done ts i j n e =
 -- ---- the value of an item: where it fails the code fits, where it ends a property holds
 abbrev Gives : (ℕ → Parts → Type 0) → Parsed Parts → Type 0
 Gives Q (Done j q) = Q j q
-Gives Q (Err bad) = bad.code ≤ 8
+Gives Q (Err bad) = code_number bad.code ≤ 8
 
 on_gives : (Q : ℕ → Parts → Type 0) (ts : List Token) (i : ℕ) (r : Parsed ℕ) (f : ℕ → ℕ → Parsed Parts) → Fair ts i r → ((j n : ℕ) → r ≡ Done j n → Gives Q (f j n)) → Gives Q (then r f)
 unfolding then
@@ -431,7 +435,7 @@ abbrev pub LineIn : List Token → Answer → Type 0
 LineIn ts Empty = eqb (peek ts 0).kind 13 ≡ true
 LineIn ts (Comment i) = (eqb (peek ts 0).kind 12 ≡ true) × (eqb (peek ts 1).kind 13 ≡ true)
 LineIn ts (Read x) = ItemIn ts x
-LineIn ts (Err bad) = bad.code ≤ 8
+LineIn ts (Err bad) = code_number bad.code ≤ 8
 
 -- the first line feed
 feed_at : (ts : List Token) (n : ℕ) → n ≤ length ts → Free ts 0 n → eqb (peek ts n).kind 13 ≡ true → line_length ts ≡ n
@@ -469,7 +473,7 @@ module _ (k : ItemKind) (ts : List Token) (v j : ℕ) (q : Parts) (h : j ≤ len
         assigned = a;
         tapes = t;
         parts = p;
-      }) (λ _. code_low (peek ts (newline_at ts j)))
+      }) (λ _. code_low (code_of (peek ts (newline_at ts j))))
 
 line_on_in : (ts : List Token) (i : ℕ) (r : Parsed ℕ) (f : ℕ → ℕ → Answer) → Fair ts i r → ((v n : ℕ) → r ≡ Done v n → LineIn ts (f v n)) → LineIn ts (then r f)
 unfolding then
@@ -546,7 +550,7 @@ item_in ts = go (keyword_of (peek ts 0)) refl
   where
     go : (k : Option ItemKind) → keyword_of (peek ts 0) ≡ k → LineIn ts (item_from k ts 0)
     go (Some k) e = item_of_in k ts (keyword-word (peek ts 0) k e)
-    go None e = code_low (peek ts 0)
+    go None e = code_low (code_of (peek ts 0))
 
 comment_in : (ts : List Token) → is_comment ts 0 ≡ true → (eqb (peek ts 0).kind 12 ≡ true) × (eqb (peek ts 1).kind 13 ≡ true)
 unfolding is_comment

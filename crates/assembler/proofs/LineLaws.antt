@@ -1,4 +1,5 @@
 -- Laws of the pass that enters the lines.
+use Rattle.std.specs.Prelude.{Err}
 use mathlib.Core.Path.{◌≡◌, refl, sym, ap, subst, ◌∙◌}
 use mathlib.Core.Bool.{Bool, true, false, cond}
 use mathlib.Core.List.{List, [], ◌∷◌, ◌++◌}
@@ -17,7 +18,8 @@ use Rattle.parser.specs.declared.ItemKind.{ItemKind}
 use Rattle.parser.specs.declared.ItemKind.TheVariants.{Machine, Kind, Input, Output, Tapes, States, InputAlphabet, TapeAlphabet, Blank, Start, Final, Transition}
 use Rattle.parser.specs.declared.Item.{Item}
 use Rattle.parser.specs.Row.{tokens_in}
-use Rattle.parser.specs.Lines.{Failed, Answer, Empty, Comment, Read, line, line_end}
+use Rattle.parser.specs.declared.Failure.{Failure}
+use Rattle.parser.specs.Lines.{Answer, Empty, Comment, Read, line, line_end, code_number}
 use Rattle.assembler.specs.Rows.{rows}
 use Rattle.assembler.specs.Entered.{words_of, flat, item_number, item_entry, failed_entry, counts_of, parts_of, PartsFit, with_parts, enter_as, enter_line, enter_at}
 use Rattle.assembler.proofs.Rows.{length-rows}
@@ -197,9 +199,9 @@ module _ (n i : ℕ) (w : List ℕ) (room : 4 * n ≤ length w) (low : i < n) (f
             ∙ ap (onto (flat b)) with_entry ∙ onto-onto b a w size ∙ ap (λ (l : List Token). onto (flat l) w) (sym all)
 
   -- of a failure
-  module _ (c : ℕ) (s : Span) (read : line (drop i (rows n w)) 0 ≡ Failed c s) where
-    pub code_fits : Fits w32 (32 + c)
-    code_fits = let z : c ≤ 8 = subst (LineIn rest) read (line_in rest) in record { fits = omega arith }
+  module _ (bad : Failure) (read : line (drop i (rows n w)) 0 ≡ Err bad) where
+    pub code_fits : Fits w32 (32 + code_number bad.code)
+    code_fits = let z : code_number bad.code ≤ 8 = subst (LineIn rest) read (line_in rest) in record { fits = omega arith }
 
     module _ (m : ℕ) (size : m ≡ line_end (drop i (rows n w)) 0) where
       pub size-sum : Fits w64 (i + m)
@@ -208,16 +210,16 @@ module _ (n i : ℕ) (w : List ℕ) (room : 4 * n ≤ length w) (low : i < n) (f
       pub size_fits : Fits w32 (i + m)
       size_fits = record { fits = omega (arith, line_end_in rest, rest-length) }
 
-      pub failed-entered : (v : List ℕ) → v ≡ sets w (4 * i) (words_of (record { kind = 32 + c; start = s.start; end = s.end; value = i + m })) → v ≡ onto (flat (enter_at i (rows n w))) w
+      pub failed-entered : (v : List ℕ) (k : ℕ) → k ≡ code_number bad.code → v ≡ sets w (4 * i) (words_of (record { kind = 32 + k; start = bad.span.start; end = bad.span.end; value = i + m })) → v ≡ onto (flat (enter_at i (rows n w))) w
       unfolding enter_line enter_as failed_entry
-      failed-entered v stored =
-          let t : Token = record { kind = 32 + c; start = s.start; end = s.end; value = i + m } in
+      failed-entered v k number stored =
+          let t : Token = record { kind = 32 + code_number bad.code; start = bad.span.start; end = bad.span.end; value = i + m } in
           let e : i + 0 ≡ i = omega arith in
           let one : enter_at i (rows n w) ≡ set (rows n w) i t =
           ap (λ (l : Answer). take i (rows n w) ++ enter_as l i (drop i (rows n w))) read
-          ∙ ap (λ (k : ℕ). take i (rows n w) ++ set (drop i (rows n w)) 0 (failed_entry i c s k)) (sym size)
+          ∙ ap (λ (k : ℕ). take i (rows n w) ++ set (drop i (rows n w)) 0 (failed_entry i (code_number bad.code) bad.span k)) (sym size)
           ∙ behind-first (rows n w) i 0 t ∙ ap (λ (k : ℕ). set (rows n w) k t) e in
-          put_row n i w v t room low stored ∙ ap (λ (ts : List Token). onto (flat ts) w) (sym one)
+          put_row n i w v t room low (rw number at stored) ∙ ap (λ (ts : List Token). onto (flat ts) w) (sym one)
 
 -- ---- a line with nothing to enter
 module _ (n i : ℕ) (w : List ℕ) (l : Answer) (read : l ≡ line (drop i (rows n w)) 0) (room : 4 * n ≤ length w) where

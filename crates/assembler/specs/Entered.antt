@@ -7,7 +7,7 @@ use Rattle.parser.specs.declared.ItemKind.{ItemKind}
 use Rattle.parser.specs.declared.ItemKind.TheVariants.{Machine, Kind, Input, Output, Tapes, States, InputAlphabet, TapeAlphabet, Blank, Start, Final, Transition}
 use Rattle.parser.specs.declared.Item.{Item}
 use Rattle.parser.specs.Row.{peek}
-use Rattle.parser.specs.Lines.{Failed, Answer, Empty, Comment, Read, line, line_end}
+use Rattle.parser.specs.Lines.{Failed, Answer, Empty, Comment, Read, line, line_end, code_number}
 use Rattle.assembler.specs.Entries.{behind}
 
 -- a token's words
@@ -81,7 +81,7 @@ unfolding item_entry failed_entry with_parts
 enter_as Empty i ts = ts
 enter_as (Comment k) i ts = ts
 enter_as (Read x) i ts = with_parts x.kind i x.parts (set ts 0 (item_entry i x))
-enter_as (Err bad) i ts = set ts 0 (failed_entry i bad.code bad.span (line_end ts 0))
+enter_as (Err bad) i ts = set ts 0 (failed_entry i (code_number bad.code) bad.span (line_end ts 0))
 
 unfoldable pub enter_line : ℕ → List Token → List Token
 unfolding enter_as

@@ -1,37 +1,25 @@
 // Parses the lines, once, and enters the result of each in its first token.
-ghost use Rattle.std.specs.Prelude.{◌≡◌, ◌+◌, ◌*◌, ◌<◌, ◌≤◌, ◌^◌, length, drop, set};
+ghost use Rattle.std.specs.Prelude.{◌≡◌, ◌+◌, ◌*◌, ◌<◌, ◌≤◌, ◌^◌, length, drop, set, Err};
 ghost use Rattle.std.proofs.lemmas.List.Edits.{sets};
 ghost use Rattle.lexer.specs.Words.{onto};
-ghost use Rattle.parser.specs.Lines.{line, line_end};
+ghost use Rattle.parser.specs.Lines.{Read, line, line_end};
 ghost use Rattle.assembler.specs.Rows.{rows};
 ghost use Rattle.assembler.specs.Entered.{words_of, flat, item_number, item_entry, PartsFit, counts_of, parts_of, enter_at, entered};
 
 use crate::entry;
-use lexer::{Span, kind};
-use parser::{Item, ItemKind, Line, Parts, items};
+use lexer::kind;
+use parser::{Failure, Item, ItemKind, Line, Parts, items};
 use tokens::Token;
 
 // The number of a rule's item.
 const TRANSITION: u32 = 11;
 
 // The number of an item, in the source's order.
+#[tactic(auto, unfolding(crate::specs::Entered::item_number))]
 pub fn item_number(k: ItemKind) -> u32
     ensures { result ≡ item_number k }
 {
-    match k {
-        ItemKind::Machine => 0,
-        ItemKind::Kind => 1,
-        ItemKind::Input => 2,
-        ItemKind::Output => 3,
-        ItemKind::Tapes => 4,
-        ItemKind::States => 5,
-        ItemKind::InputAlphabet => 6,
-        ItemKind::TapeAlphabet => 7,
-        ItemKind::Blank => 8,
-        ItemKind::Start => 9,
-        ItemKind::Final => 10,
-        ItemKind::Transition => 11,
-    }
+    k as u32
 }
 
 // A token at an index.
@@ -46,8 +34,8 @@ fn put(work: &mut [u32], at: usize, t: Token)
     work[o + 3] = t.value;
 }
 
-// The line at an index.
-fn line_at(work: &[u32], count: usize, at: usize) -> Line
+// The line at an index, or why it is refused.
+fn line_at(work: &[u32], count: usize, at: usize) -> Result<Line, Failure>
     requires { (4 * count ≤ length work.now) × (at < count) }
     ensures { result ≡ line (drop at (rows count work.now)) 0 }
 {
@@ -105,7 +93,7 @@ fn put_item(work: &mut [u32], at: usize, x: Item)
 
 // An item of the line at an index, entered.
 fn enter_item(work: &mut [u32], count: usize, at: usize, x: Item)
-    requires { (4 * count ≤ length work.old) × (at < count) × (count < 2 ^ 31) × (line (drop at (rows count work.old)) 0 ≡ Line.Item x) }
+    requires { (4 * count ≤ length work.old) × (at < count) × (count < 2 ^ 31) × (line (drop at (rows count work.old)) 0 ≡ Read x) }
     ensures { work.new ≡ onto (flat (enter_at at (rows count work.old))) work.old }
 {
     put_item(work, at, x);
@@ -118,13 +106,14 @@ fn enter_item(work: &mut [u32], count: usize, at: usize, x: Item)
 }
 
 // A failure of the line at an index, entered.
-fn enter_failed(work: &mut [u32], count: usize, at: usize, code: u32, span: Span)
-    requires { (4 * count ≤ length work.old) × (at < count) × (count < 2 ^ 31) × (line (drop at (rows count work.old)) 0 ≡ Line.Error code span) }
+fn enter_failed(work: &mut [u32], count: usize, at: usize, failure: Failure)
+    requires { (4 * count ≤ length work.old) × (at < count) × (count < 2 ^ 31) × (line (drop at (rows count work.old)) 0 ≡ Err failure) }
     ensures { work.new ≡ onto (flat (enter_at at (rows count work.old))) work.old }
 {
     let n = size_of(work, count, at);
+    let span = failure.span;
     let t = Token {
-        kind: entry::FAILED + code,
+        kind: entry::FAILED + failure.code.number(),
         start: span.start,
         end: span.end,
         value: (at + n) as u32,
@@ -137,12 +126,11 @@ fn enter(work: &mut [u32], count: usize, at: usize)
     requires { (4 * count ≤ length work.old) × (at < count) × (count < 2 ^ 31) }
     ensures { work.new ≡ onto (flat (enter_at at (rows count work.old))) work.old }
 {
-    let l = line_at(work, count, at);
-    match l {
-        Line::Blank => {}
-        Line::Comment(_) => {}
-        Line::Item(x) => enter_item(work, count, at, x),
-        Line::Error(code, span) => enter_failed(work, count, at, code, span),
+    match line_at(work, count, at) {
+        Ok(Line::Blank) => {}
+        Ok(Line::Comment(_)) => {}
+        Ok(Line::Item(x)) => enter_item(work, count, at, x),
+        Err(failure) => enter_failed(work, count, at, failure),
     }
 }
 

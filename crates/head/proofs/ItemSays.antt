@@ -1,4 +1,5 @@
 -- The tokens behind an entry say of the head what its item declares: the line parser took each of them for what was due.
+use Rattle.parser.proofs.Lists.{done_same}
 use Rattle.parser.specs.Lines.{Done, Read}
 use Rattle.std.proofs.Common.{◌≡◌, ℕ, suc, ◌+◌, ◌^◌, ◌<◌, ◌≤◌, min, Bool, true, false, cond, eqb, leb, List, [], map, length, sym, refl, ap, ◌∙◌, subst, arith, get_or-drop}
 use mathlib.Core.Option.{Option, none, some}
@@ -74,7 +75,7 @@ module _ (ts : List Token) (x : Found) where
       by_test_lem (eqb (peek ts 1).value 0x110015) (λ y. omega (arith, (third is_symbol (rw y at q)).1)) λ m.
       by_test_lem (eqb (peek ts 1).value 0x110016) (λ y. omega (arith, (third (is_choice 0x110017 0x110018) (rw (m, y) at q)).1)) λ k.
       let z : Done a 1 ≡ Done x.end t.count = rw (m, k) at q in
-      let w : a ≡ x.end = cc in
+      let w : a ≡ x.end = (done_same z).0 in
       omega arith in
       record {
         choice = c.1;

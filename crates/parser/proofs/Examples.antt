@@ -1,4 +1,5 @@
 -- Lines at which a parser may go wrong, computed over the row.
+use Rattle.parser.specs.declared.Code.TheVariants.{Unexpected, UnterminatedString, NoDirection}
 use mathlib.Core.Path.{◌≡◌, refl}
 use Prim.Native.Nat.{ℕ}
 use mathlib.Core.List.{List, [], ◌∷◌, map}
@@ -31,29 +32,29 @@ samples =
     record { text = codes "Q = {}"; gives = item States 2 4 4 6 4 no_parts } ∷
     -- the comment is no part of the item
     record { text = codes "Q = {a, b} // two"; gives = item States 2 7 8 10 4 no_parts } ∷
-    record { text = codes "Q = {a,}"; gives = Failed 1 (span 7 8) } ∷
+    record { text = codes "Q = {a,}"; gives = Failed Unexpected (span 7 8) } ∷
     -- a comment where a value is due, and a line's end
-    record { text = codes "Q={a // c "; gives = Failed 1 (span 5 9) } ∷
-    record { text = codes "blank =\n"; gives = Failed 1 (span 7 8) } ∷
+    record { text = codes "Q={a // c "; gives = Failed Unexpected (span 5 9) } ∷
+    record { text = codes "blank =\n"; gives = Failed Unexpected (span 7 8) } ∷
     record { text = codes "blank = '''"; gives = item Blank 2 3 3 11 8 no_parts } ∷
-    record { text = codes "blank = '"; gives = Failed 1 (span 8 9) } ∷
-    record { text = codes "input \"a"; gives = Failed 2 (span 6 8) } ∷
-    record { text = codes "kind beaver Q"; gives = Failed 1 (span 12 13) } ∷
-    record { text = codes "output unary'x'"; gives = Failed 1 (span 7 15) } ∷
+    record { text = codes "blank = '"; gives = Failed Unexpected (span 8 9) } ∷
+    record { text = codes "input \"a"; gives = Failed UnterminatedString (span 6 8) } ∷
+    record { text = codes "kind beaver Q"; gives = Failed Unexpected (span 12 13) } ∷
+    record { text = codes "output unary'x'"; gives = Failed Unexpected (span 7 15) } ∷
     record { text = codes "output binary msb"; gives = item Output 1 3 3 17 7 no_parts } ∷
     -- directions: 'L' is one, 76 is none, a bracket is no word
-    record { text = codes "δ(a,a)=(a,a,r)"; gives = Failed 8 (span 13 14) } ∷
-    record { text = codes "δ(a,a)=(a,a,76)"; gives = Failed 8 (span 13 15) } ∷
-    record { text = codes "δ(a,a)=(a,a,;)"; gives = Failed 8 (span 13 14) } ∷
-    record { text = codes "δ(a,a)=(a,a,))"; gives = Failed 1 (span 13 14) } ∷
+    record { text = codes "δ(a,a)=(a,a,r)"; gives = Failed NoDirection (span 13 14) } ∷
+    record { text = codes "δ(a,a)=(a,a,76)"; gives = Failed NoDirection (span 13 15) } ∷
+    record { text = codes "δ(a,a)=(a,a,;)"; gives = Failed NoDirection (span 13 14) } ∷
+    record { text = codes "δ(a,a)=(a,a,))"; gives = Failed Unexpected (span 13 14) } ∷
     record { text = codes "δ(a,a)=(a,a,'L')"; gives = item Transition 0 14 14 17 0 (record { from = 2; read = 4; reads = 1; to = 8; write = 10; writes = 1; dir = 12; dirs = 1 }) } ∷
     -- read sets are not empty, and no state is `_`
-    record { text = codes "δ(a,{})=(a,a,R)"; gives = Failed 1 (span 6 7) } ∷
-    record { text = codes "δ(a,())=(a,(),())"; gives = Failed 1 (span 6 7) } ∷
-    record { text = codes "δ(_,a)=(a,a,R)"; gives = Failed 1 (span 3 4) } ∷
+    record { text = codes "δ(a,{})=(a,a,R)"; gives = Failed Unexpected (span 6 7) } ∷
+    record { text = codes "δ(a,())=(a,(),())"; gives = Failed Unexpected (span 6 7) } ∷
+    record { text = codes "δ(_,a)=(a,a,R)"; gives = Failed Unexpected (span 3 4) } ∷
     record {
       text = codes "delta(a,({0,1},_))=(b,(*,;),(L,R))";
-      gives = Failed 1 (span 25 26);
+      gives = Failed Unexpected (span 25 26);
     } ∷
     record {
       text = codes "delta(a,({0,1},_))=(b,(*,x),(L,R))";

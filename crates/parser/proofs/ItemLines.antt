@@ -1,5 +1,5 @@
 -- A line over the row means the language's line.
-use Rattle.std.specs.Prelude.{Err, None, Option as Optional, Some}
+use Rattle.std.specs.Prelude.{Err, Option as Optional}
 use mathlib.Core.Path.{◌≡◌, refl, sym, ap, subst, ◌∙◌}
 use Prim.Native.Nat.{ℕ, ◌+◌, ◌-◌}
 use native.Mathlib.Omega.{arith}
@@ -19,7 +19,7 @@ use Rattle.language.specs.Parser.{then as bind, one as token, expect, set as bra
 use Rattle.language.specs.Lines.{RawSymbol, raw_blank, RawTransition, Text, Item, machine_item, input_item, kind_item, output_item, tapes_item, states_item, final_item, input_alphabet_item, tape_alphabet_item, blank_item, start_item, transition_item, Line, item_line, error_line, state_in, symbol_in, number_in, Spelled, word_in, kinds, outputs, Keyword as Name, machine_word, kind_word, input_word, output_word, tapes_word, states_word, sigma_word, gamma_word, blank_word, start_word, final_word, delta_word, keywords, string, numeral, choice, state, symbol, output as decoder, transition as ruled, item_of as item_by, item as item_at, Ending, line_feed, goes_by, remark, ending_of, last_place, finished, empty_line, line_from, covering}
 use Rattle.parser.specs.Row.{peek}
 use Rattle.parser.specs.Views.{is_kind, is_choice, is_state, is_symbol, keyword_of, lead_of}
-use Rattle.parser.specs.Lines.{Parsed, Done, Failed, Answer, one, set, output, no_parts, then, plain, value, transition, spanning, newline_at, finish, value_at, item_of, item_from, item, is_comment, line}
+use Rattle.parser.specs.Lines.{Parsed, Done, Answer, one, set, output, no_parts, then, plain, value, transition, spanning, newline_at, finish, value_at, item_of, item_from, item, is_comment, line}
 use Rattle.parser.specs.Meaning.{token_of, at, between, seen, text_of, decoder_at, item_means, remark_of, own_comment, line_means, CountedAs, LineCounted, Closed}
 use Rattle.tokens.specs.declared.Token.{Token as Words}
 use Rattle.parser.specs.declared.Parts.{Parts}

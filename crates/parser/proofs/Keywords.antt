@@ -14,7 +14,7 @@ use Rattle.lexer.specs.Words.{kind_number, word_value, token_value, keyword, pos
 use Rattle.language.specs.Machine.{Kind, acceptor, transducer, enumerator, beaver, BitOrder, lsb, msb}
 use Rattle.language.specs.Lines.{Spelled, keywords, Keyword as Name, meaning_of, word_in, kinds, outputs, orders, OutputWord, word_output, unary_output, binary_output, machine_word, kind_word, input_word, output_word, tapes_word, states_word, sigma_word, gamma_word, blank_word, start_word, final_word, delta_word}
 use Rattle.language.proofs.Every.{by_test}
-use Rattle.parser.specs.Views.{Row as Start, row as start, is_choice, lookup, starts, keyword_of}
+use Rattle.parser.specs.Views.{Row as Start, row as start, is_choice, lookup, keyword_of}
 use Rattle.parser.specs.Meaning.{token_of, SoundAs}
 use Rattle.parser.specs.declared.ItemKind.{ItemKind}
 use Rattle.parser.specs.declared.ItemKind.TheVariants.{Machine, Kind as KindOf, Input, Output, Tapes, States, InputAlphabet, TapeAlphabet, Blank, Start as StartOf, Final, Transition}

@@ -1,23 +1,14 @@
 -- Laws of the row and of what is asked of one token, for the proofs of this crate and of those above it.
-use Rattle.std.specs.Prelude.{None, Option, Some}
 use mathlib.Core.Path.{◌≡◌, refl, sym, ap, ◌∙◌}
-use Prim.Native.Nat.{ℕ, zero, suc, ◌+◌, ◌-◌, ◌*◌, ◌/◌, ◌≤◌, ◌<◌}
+use Prim.Native.Nat.{ℕ, zero, suc, ◌+◌, ◌*◌, ◌/◌, ◌≤◌, ◌<◌}
 use native.Mathlib.Omega.{arith}
 use native.Mathlib.Decide.{dec_lt}
 use mathlib.Core.Bool.{Bool, true, false}
 use mathlib.Core.List.{List, [], ◌∷◌}
 use lib.ListN.{length, get_or-eq_default}
-use borrow.Author.Rules.{rules}
-use borrow.Author.Tests.{lt-ltb, le-ltb, le-leb, lt-leb, eq-eqb, ne_eqb}
 use Rattle.tokens.specs.View.{token_in}
 use Rattle.parser.specs.Row.{tokens_in, ended, peek}
-use Rattle.parser.specs.Views.{keyword_of, lookup, starts, lead_of}
-use Rattle.parser.specs.declared.ItemKind.{ItemKind}
-use Rattle.parser.specs.declared.Lead.{Lead}
 use Rattle.tokens.specs.declared.Token.{Token}
-
--- what closes a `return` of a function whose definition goes by the same tests
-pub ruleset tests = (rules, lt-ltb, le-ltb, le-leb, lt-leb, eq-eqb, ne_eqb)
 
 -- ---- the row
 pub length-tokens : (w : List ℕ) → (4 * length (tokens_in w) ≤ length w) × (length w < 4 * length (tokens_in w) + 4)
@@ -59,11 +50,3 @@ inside f ts i e p = go (dec_lt i (length ts))
     go : Dec (i < length ts) → i < length ts
     go (yes q) = q
     go (no q) = let z : true ≡ false = sym p ∙ ap f (get_or-eq_default ts ended (omega arith)) ∙ e in absurd (false_true z)
-
--- ---- the word that starts an item
-pub keyword_at : (n : ℕ) (r : Option ItemKind) (t : Token) → t.kind ≡ 0 → t.value ≡ n → r ≡ lookup starts n → r ≡ keyword_of t
-unfolding keyword_of lookup
-keyword_at n r t a b e = rw (a, b) e
-
-pub lead_at : (k x : ItemKind) (r : Lead) → k ≡ x → r ≡ lead_of x → r ≡ lead_of k
-lead_at k x r p q = q ∙ ap lead_of (sym p)

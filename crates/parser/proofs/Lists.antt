@@ -2,25 +2,33 @@
 use Rattle.std.specs.Prelude.{Err, Result, IsErrAnd}
 use Rattle.std.proofs.lemmas.Result.{err_from_is_err_and}
 use mathlib.Core.Path.{◌≡◌, refl, sym, ap, subst, ◌∙◌}
-use Prim.Native.Nat.{ℕ, zero, suc, ◌+◌, ◌-◌, ◌≤◌, ◌<◌, ◌^◌}
+use Prim.Native.Nat.{ℕ, zero, suc, ◌+◌, ◌-◌, ◌≤◌, ◌<◌}
 use native.Mathlib.Omega.{arith}
 use mathlib.Core.Bool.{Bool, true, false, cond}
-use mathlib.Core.List.{List, []}
+use mathlib.Core.List.{List}
 use lib.ListN.{length}
 use lib.Dec.{eqb}
-use mir.Syntax.{w64}
-use mir.Val.{Fits}
-use borrow.Author.Rules.{rules}
 use borrow.Author.Tests.{eq-eqb, ne_eqb}
 use Rattle.parser.specs.Row.{tokens_in, ended, peek}
 use Rattle.parser.specs.Views.{is_kind, is_state, is_symbol, is_write, is_direction, is_text}
-use Rattle.parser.specs.Lines.{Parsed, Done, Failed, Parser, then, unexpected, one, direction, separator, entries_from, entries, read_entry}
+use Rattle.parser.specs.Lines.{Parsed, Done, Parser, then, unexpected, one, direction, separator, entries_from, entries, read_entry}
 pub use Rattle.parser.specs.Calls.{Within, Steps}
 use Rattle.tokens.specs.declared.Token.{Token}
 use Rattle.parser.specs.declared.Failure.{Failure}
-use Rattle.lexer.specs.declared.Span.{Span}
-use Rattle.parser.proofs.Laws.{length-tokens, inside}
-use Rattle.parser.proofs.Single.{kind-ended, sign_fits}
+use Rattle.parser.proofs.Laws.{inside}
+use Rattle.parser.proofs.Single.{kind-ended}
+
+-- what was read, and where it ended
+pub done_same : {A : Type 0} {i j : ℕ} {a b : A} → Done i a ≡ Done j b → (i ≡ j) × (a ≡ b)
+done_same {A} {i} {j} {a} {b} e = (ap (λ (r : Parsed A). end_of r) e, ap (λ (r : Parsed A). made_of r) e)
+  where
+    end_of : Parsed A → ℕ
+    end_of (Done k c) = k
+    end_of (Err bad) = i
+
+    made_of : Parsed A → A
+    made_of (Done k c) = c
+    made_of (Err bad) = a
 
 -- what a test makes of two answers
 pub on_test : {A : Type 0} (P : A → Type 0) (b : Bool) {x y : A} → (b ≡ true → P x) → (b ≡ false → P y) → P (cond b x y)
@@ -160,9 +168,6 @@ module _ (p : Parser) (close : ℕ) (w : List ℕ) (i n : ℕ) (v : Parsed ℕ) 
         pub list_few : n ≤ i → n + 1 ≤ next
         list_few h = omega (arith, list-within)
 
-        pub list_fits : n ≤ i → length w < 2 ^ 64 → Fits w64 (n + 1)
-        list_fits h g = record { fits = omega (arith, list-within, length-tokens w) }
-
 pub state_steps : Steps (one is_state)
 unfolding is_state
 state_steps = one_steps is_state refl
@@ -186,25 +191,6 @@ read_steps = record {
       (λ n. symbol_steps.within ts i);
 }
 
-pub ruleset lists =
-    (rules, entry_failed, list-failed, list_last, list_again, list_falls, list_few, list_fits, state_steps, symbol_steps, read_steps, write_steps, direction_steps)
-
 -- ---- where a `?` hands a failure on
 pub handed : {B : Type 0} (out v : Result B Failure) (bad : Failure) → IsErrAnd out (λ y. y ≡ bad) → Err bad ≡ v → out ≡ v
 handed out v bad h e = let p = err_from_is_err_and out h in p.1 ∙ ap Err p.2 ∙ e
-
--- ---- tests of the token at an index
-module _ {A : Type 0} (ts : List Token) (i n : ℕ) (t : Token) (at : t ≡ peek ts i) (v x y : A) where
-  pub kind_is : t.kind ≡ n → v ≡ x → v ≡ cond (eqb (peek ts i).kind n) x y
-  kind_is e f = rw (← at, eq-eqb t.kind n e) f
-
-  pub kind-not : (t.kind ≡ n → ⊥) → v ≡ y → v ≡ cond (eqb (peek ts i).kind n) x y
-  kind-not e f = rw (← at, ne_eqb t.kind n e) f
-
-  pub value_is : t.value ≡ n → v ≡ x → v ≡ cond (eqb (peek ts i).value n) x y
-  value_is e f = rw (← at, eq-eqb t.value n e) f
-
-  pub value_not : (t.value ≡ n → ⊥) → v ≡ y → v ≡ cond (eqb (peek ts i).value n) x y
-  value_not e f = rw (← at, ne_eqb t.value n e) f
-
-pub ruleset chain = (rules, kind_is, kind-not, value_is, value_not, sign_fits)

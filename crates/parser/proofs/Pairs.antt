@@ -1,60 +1,21 @@
 -- Laws of symbols with a comma behind each: a list of symbols goes on behind them.
 use mathlib.Core.Path.{◌≡◌, refl, sym, ap, ◌∙◌}
-use mathlib.Core.Bool.{Bool, true, false, cond}
+use mathlib.Core.Bool.{Bool, true, false}
 use mathlib.Core.List.{List}
-use Prim.Native.Nat.{ℕ, zero, suc, ◌+◌, ◌-◌, ◌*◌, ◌/◌, ◌≤◌, ◌<◌}
+use Prim.Native.Nat.{ℕ, zero, suc, ◌+◌, ◌-◌, ◌*◌, ◌/◌, ◌<◌}
 use native.Mathlib.Omega.{arith}
 use native.Mathlib.Decide.{dec_lt}
-use borrow.Author.Tests.{eq-eqb, ne_eqb}
 use lib.Dec.{eqb}
 use lib.ListN.{length}
 use Rattle.parser.specs.Row.{tokens_in, peek}
 use Rattle.parser.specs.Views.{is_symbol, is_pair, Pairs}
-use Rattle.parser.specs.Lines.{Parsed, Done, unexpected, one, separator, entries}
+use Rattle.parser.specs.Lines.{Done, one, separator, entries}
 use Rattle.tokens.specs.declared.Token.{Token}
 use Rattle.parser.proofs.Laws.{length-tokens}
 use Rattle.parser.proofs.Lists.{symbol_steps, list_again}
 
--- ---- the kinds that a symbol may have
-pub high_0 : (k : ℕ) → 3 ≤ k → eqb k 0 ≡ false
-high_0 k h = ne_eqb k 0 (λ e. omega arith)
-
-pub high_1 : (k : ℕ) → 3 ≤ k → eqb k 1 ≡ false
-high_1 k h = ne_eqb k 1 (λ e. omega arith)
-
-pub high_2 : (k : ℕ) → 3 ≤ k → eqb k 2 ≡ false
-high_2 k h = ne_eqb k 2 (λ e. omega arith)
-
-pub quoted_is : (t : Token) → t.kind < 3 → (t.kind ≡ 0 → ⊥) → (t.kind ≡ 1 → ⊥) → true ≡ is_symbol t
-unfolding is_symbol
-quoted_is t h n₀ n₁ =
-    let e : eqb t.kind 2 ≡ true = two t.kind h n₀ n₁ in
-    rw (ne_eqb t.kind 0 n₀, ne_eqb t.kind 1 n₁, e)
-  where
-    two : (k : ℕ) → k < 3 → (k ≡ 0 → ⊥) → (k ≡ 1 → ⊥) → eqb k 2 ≡ true
-    two zero h a b = absurd (a refl)
-    two (suc zero) h a b = absurd (b refl)
-    two (suc (suc zero)) h a b = refl
-    two (suc (suc (suc k))) h a b = absurd (omega arith)
-
--- ---- one pair
-module _ (ts : List Token) (i : ℕ) (t : Token) (b : Bool) (at : t ≡ peek ts i) (test : b ≡ is_symbol t) where
-  is : is_symbol (peek ts i) ≡ b
-  is = ap is_symbol (sym at) ∙ sym test
-
-  pub pair_yes : (u : Token) → b ≡ true → u ≡ peek ts (i + 1) → eqb u.kind 8 ≡ is_pair ts i
-  unfolding is_pair
-  pair_yes u y e = let q : is_symbol (peek ts i) ≡ true = is ∙ y in rw q (ap (λ (u : Token). eqb u.kind 8) e)
-
-  pub pair_no : b ≡ false → false ≡ is_pair ts i
-  unfolding is_pair
-  pair_no n = let q : is_symbol (peek ts i) ≡ false = is ∙ n in rw q
-
 -- ---- more of them
 module _ (w : List ℕ) (at : ℕ) where
-  pub pairs_start : Pairs (tokens_in w) at 0
-  pairs_start = record { inside = omega arith; pairs = λ j h. absurd (omega arith) }
-
   pub pairs-on : (i m : ℕ) (b : Bool) → Pairs (tokens_in w) at m → i ≡ at + 2 * m → 1 < length w / 4 - i → b ≡ is_pair (tokens_in w) i → b ≡ true → Pairs (tokens_in w) at (m + 1)
   pairs-on i m b p e l q y = record {
     inside = omega (arith, p.inside, length-tokens w);
@@ -101,9 +62,3 @@ module _ (w : List ℕ) where
 
   pub pairs-entries : (at m : ℕ) → Pairs ts at m → entries (one is_symbol) 7 ts (at + 2 * m) m ≡ entries (one is_symbol) 7 ts at 0
   pairs-entries at m p = first-pairs at m p.pairs
-
-  pub pairs-inside : (at m : ℕ) → Pairs ts at m → 4 * (2 * m) ≤ length w
-  pairs-inside at m p = omega (arith, p.inside, length-tokens w)
-
-  pub pairs_end : (at m : ℕ) → Pairs ts at m → 2 * m ≤ length ts - at
-  pairs_end at m p = p.inside

@@ -1,12 +1,12 @@
 -- Laws of items and lines: a value ends behind where it began, in the row, and each part goes on where the one before it ended.
-use Rattle.std.specs.Prelude.{Err, None, Option, Some}
+use Rattle.std.specs.Prelude.{Err}
 use mathlib.Core.Path.{◌≡◌, refl, sym, ap, subst, ◌∙◌}
 use Prim.Native.Nat.{ℕ, suc, ◌+◌, ◌-◌, ◌≤◌, ◌<◌, ◌^◌}
 use native.Mathlib.Omega.{arith}
 use native.Mathlib.Numerals.{add-one}
 use native.Mathlib.Decide.{dec_lt}
 use mathlib.Core.Bool.{Bool, true, false, cond}
-use mathlib.Core.List.{List, []}
+use mathlib.Core.List.{List}
 use lib.ListN.{length, drop, drop_of_length-le, get_or-eq_default}
 use lib.Seq.{drop-cons}
 use lib.Dec.{eqb}
@@ -15,17 +15,15 @@ use mir.Val.{Fits}
 use borrow.Author.Rules.{rules}
 use borrow.Author.Tests.{eq-eqb, ne_eqb}
 use Rattle.parser.specs.Row.{tokens_in, ended, peek}
-use Rattle.parser.specs.Views.{span_of, is_kind, is_choice, is_state, is_symbol, is_write, keyword_of, lead_of}
-use Rattle.parser.specs.Lines.{Parsed, Done, Failed, Answer, Empty, Comment, Read, Parser, then, code_of, one, direction, entries, set, tuple, read_entry, output, side, equals, left_parts, no_parts, left, right, transition, plain, value, spanning, newline_at, finish, value_at, item_from, item_of, item, is_comment, line, line_length, line_end}
+use Rattle.parser.specs.Views.{is_kind, is_choice, is_state, is_symbol, is_write}
+use Rattle.parser.specs.Lines.{Parsed, Done, Parser, then, one, direction, entries, set, tuple, read_entry, output, side, equals, left_parts, no_parts, left, right, transition, plain, value, line_length, line_end}
 use Rattle.tokens.specs.declared.Token.{Token}
-use Rattle.lexer.specs.declared.Span.{Span}
 use Rattle.parser.specs.declared.Parts.{Parts}
 use Rattle.parser.specs.declared.ItemKind.{ItemKind}
 use Rattle.parser.specs.declared.ItemKind.TheVariants.{Machine, Kind, Input, Output, Tapes, States, InputAlphabet, TapeAlphabet, Blank, Start, Final, Transition}
-use Rattle.parser.specs.declared.Lead.{Lead}
 use Rattle.parser.proofs.Laws.{inside}
 use Rattle.parser.proofs.Single.{kind-ended, next_fits}
-use Rattle.parser.proofs.Lists.{Within, Steps, on_test, then_steps, further, one_steps, state_steps, symbol_steps, read_steps, write_steps, direction_steps, entries-within, chain}
+use Rattle.parser.proofs.Lists.{Within, Steps, on_test, then_steps, further, one_steps, state_steps, symbol_steps, read_steps, write_steps, direction_steps, entries-within}
 
 -- ---- the parts of a rule
 pub side_steps : Steps side
@@ -37,11 +35,6 @@ side_steps = record {
       (then_steps ts j (one is_state ts j) (λ k _. one (is_kind 8) ts k) (state_steps.within ts j) λ k _ b _.
       further ts j k (one (is_kind 8) ts k) (omega arith) ((one_steps (is_kind 8) (kind-ended 8 (omega arith))).within ts k));
 }
-
-pub side_fits : (w : List ℕ) (i : ℕ) (r : Parsed ℕ) (j m : ℕ) → r ≡ side (tokens_in w) i → r ≡ Done j m → length w < 2 ^ 64 → Fits w64 (i + 1)
-side_fits w i r j m e d g =
-    let a : Within (tokens_in w) i (Done j m) = subst (Within (tokens_in w) i) (sym e ∙ d) (side_steps.within (tokens_in w) i) in
-    next_fits w i (omega arith) g
 
 pub kind_steps : (k : ℕ) → k < 13 → Steps (one (is_kind k))
 kind_steps k h = one_steps (is_kind k) (kind-ended k h)
@@ -157,16 +150,6 @@ value_ends Transition ts i = transition_ends ts i
 pub value_high : (k : ItemKind) (ts : List Token) (v j : ℕ) (q : Parts) (y : Parsed Parts) → y ≡ value k ts v → y ≡ Done j q → 0 < j
 value_high k ts v j q y e d = let a : Ends ts v (Done j q) = subst (Ends ts v) (sym e ∙ d) (value_ends k ts v) in omega arith
 
-pub value_by : (k x : ItemKind) (ts : List Token) (i : ℕ) (v : Parsed Parts) → k ≡ x → v ≡ value x ts i → v ≡ value k ts i
-value_by k x ts i v e f = f ∙ ap (λ (y : ItemKind). value y ts i) (sym e)
-
-pub lead_by : (l x : Lead) (ts : List Token) (i : ℕ) (r : Parsed ℕ) → l ≡ x → r ≡ value_at x ts i → r ≡ value_at l ts i
-lead_by l x ts i r e f = f ∙ ap (λ (y : Lead). value_at y ts i) (sym e)
-
-pub spanning_of : (ts : List Token) (i j : ℕ) (a b : Token) (s e : ℕ) → a ≡ peek ts i → b ≡ peek ts (j - 1) → s ≡ a.start → e ≡ b.end → record { start = s; end = e } ≡ spanning ts i j
-spanning_of ts i j a b s e f g p q = rw (p, q, f, g)
-
--- ---- the line of an item
 -- ---- the line's end
 module _ (w : List ℕ) (i v : ℕ) (inv : line_end (tokens_in w) i ≡ v) (t : Token) (e : t ≡ peek (tokens_in w) i) where
   pub end_here : t.kind ≡ 13 → i ≡ v

@@ -1,4 +1,6 @@
 -- Each parser over the row does what the language's parser does on the tokens from the index on, up to what ends the line's tokens.
+use Rattle.parser.specs.declared.Code.{Code}
+use Rattle.parser.specs.declared.Code.TheVariants.{NoDirection}
 use Rattle.std.specs.Prelude.{Err}
 use mathlib.Core.Path.{◌≡◌, refl, sym, ap, subst, ◌∙◌}
 use Prim.Native.Nat.{ℕ, zero, suc, ◌+◌, ◌-◌, ◌≤◌, ◌<◌}
@@ -19,7 +21,7 @@ use Rattle.language.specs.Lines.{goes_by, ending_of}
 use Rattle.language.proofs.Every.{by_test, Every}
 use Rattle.parser.specs.Row.{peek}
 use Rattle.parser.specs.Views.{span_of, is_kind, is_direction, is_text}
-use Rattle.parser.specs.Lines.{Parsed, Done, Failed, then, code_of, unexpected as refused, one, direction, separator, entries, set, tuple}
+use Rattle.parser.specs.Lines.{Parsed, Done, Failed, then, code_of, unexpected as refused, one, direction, separator, entries, set, tuple, code_number}
 use Rattle.parser.specs.Meaning.{token_of, nothing, at, between, SoundAs, Sound}
 use Rattle.tokens.specs.declared.Token.{Token as Words}
 use Rattle.parser.proofs.Lists.{Within, Steps, turn, entries-turn}
@@ -35,11 +37,11 @@ abbrev pub Fits : {A : Type 0} → ℕ → List (Token Span) → (List (Token Sp
 Fits i l Means count (Done j n) (ok a r) = (f : List (Token Span)) × (l ≡ f ++ r) × (j ≡ i + length f) × (n ≡ count a) × Means f a
 Fits i l Means count (Done j n) (fail c p) = ⊥
 Fits i l Means count (Err bad) (ok a r) = ⊥
-Fits i l Means count (Err bad) (fail d p) = (bad.code ≡ d) × (bad.span ≡ p)
+Fits i l Means count (Err bad) (fail d p) = (code_number bad.code ≡ d) × (bad.span ≡ p)
 
 -- ---- one token
 -- a parser that goes by a test of the token, with the code where it fails
-pub record Tests (p : List Words → ℕ → Parsed ℕ) (f : Words → Bool) (code : Words → ℕ) : Type 0 where
+pub record Tests (p : List Words → ℕ → Parsed ℕ) (f : Words → Bool) (code : Words → Code) : Type 0 where
   pub tests : (ws : List Words) (i : ℕ) → p ws i ≡ cond (f (peek ws i)) (Done (i + 1) 1) (Failed (code (peek ws i)) (span_of (peek ws i)))
 
 -- a view that takes nothing that ends a line's tokens, with the code there
@@ -72,12 +74,12 @@ pub one_tests : (f : Words → Bool) → Tests (one f) f code_of
 unfolding one refused
 one_tests f = record { tests = λ ws i. refl }
 
-pub direction_tests : Tests direction is_direction (λ t. cond (is_text t) 8 (code_of t))
+pub direction_tests : Tests direction is_direction (λ t. cond (is_text t) NoDirection (code_of t))
 unfolding direction refused
 direction_tests = record { tests = λ ws i. go (is_direction (peek ws i)) (is_text (peek ws i)) i (peek ws i) }
   where
     go : (a b : Bool) (i : ℕ) (t : Words)
-        → cond a (Done {A = ℕ} (i + 1) 1) (cond b (Failed 8 (span_of t)) (Failed (code_of t) (span_of t))) ≡ cond a (Done {A = ℕ} (i + 1) 1) (Failed (cond b 8 (code_of t)) (span_of t))
+        → cond a (Done {A = ℕ} (i + 1) 1) (cond b (Failed NoDirection (span_of t)) (Failed (code_of t) (span_of t))) ≡ cond a (Done {A = ℕ} (i + 1) 1) (Failed (cond b NoDirection (code_of t)) (span_of t))
     go true b i t = refl
     go false true i t = refl
     go false false i t = refl
@@ -194,29 +196,27 @@ module _ (ts : List (Token Span)) (junk : List Words) (z : Token Span) (more : L
       rw q (ap (take (length f)) (a.here ∙ ap (λ (x : List (Token Span)). x ++ (z ∷ more)) e ∙ append_assoc f r (z ∷ more)) ∙ take-append_seam f (r ++ (z ∷ more)))
 
   module _ (ends : Stops z.kind) where
-    module _ {A : Type 0} (p : List Words → ℕ → Parsed ℕ) (f : Words → Bool) (code : Words → ℕ) (view : TokenKind → Option A) (bad : TokenKind → ℕ)
-        (goes : Tests p f code) (sees : Sees f view) (codes : (k : TokenKind) (p q : Span) → code (token_of (tok k p q)) ≡ bad k) (quiet : Quiet view bad) where
+    module _ {A : Type 0} (p : List Words → ℕ → Parsed ℕ) (f : Words → Bool) (code : Words → Code) (view : TokenKind → Option A) (bad : TokenKind → ℕ)
+        (goes : Tests p f code) (sees : Sees f view) (codes : (k : TokenKind) (p q : Span) → code_number (code (token_of (tok k p q))) ≡ bad k) (quiet : Quiet view bad) where
       -- the answer over the row, by the view
-      answer : (i : ℕ) (t : Token Span) → peek row i ≡ token_of t → Sound t → p row i ≡ cond (is_some (view t.kind)) (Done (i + 1) 1) (Failed (bad t.kind) (span_of (token_of t)))
+      answer : (i : ℕ) (t : Token Span) → peek row i ≡ token_of t → Sound t → p row i ≡ cond (is_some (view t.kind)) (Done (i + 1) 1) (Failed (code (token_of t)) (span_of (token_of t)))
       answer i t e s =
           goes.tests row i ∙ ap (λ (x : Words). cond (f x) (Done (i + 1) 1) (Failed (code x) (span_of x))) e ∙
-          ap (λ (b : Bool). cond b (Done (i + 1) 1) (Failed (code (token_of t)) (span_of (token_of t)))) (sees t.kind t.place t.inner s) ∙
-          ap (λ (c : ℕ). cond (is_some (view t.kind)) (Done (i + 1) 1) (Failed c (span_of (token_of t)))) (codes t.kind t.place t.inner)
+          ap (λ (b : Bool). cond b (Done (i + 1) 1) (Failed (code (token_of t)) (span_of (token_of t)))) (sees t.kind t.place t.inner s)
 
       pub token_fits : (i : ℕ) (l : List (Token Span)) → At i l → Fits i l (One view) once (p row i) (token z.place view bad l)
       unfolding token taken token_of
       token_fits i [] a =
           let q = quiet_view view bad quiet z.kind ends in
-          let e : p row i ≡ Failed 1 (span_of (token_of z)) =
+          let e : p row i ≡ Failed (code (token_of z)) (span_of (token_of z)) =
           answer i z (at_stop i a).1 (stop_sound z.kind z.place ends)
-          ∙ ap (λ (o : Option A). cond (is_some o) (Done (i + 1) 1) (Failed (bad z.kind) (span_of (token_of z)))) q.0
-          ∙ ap (λ (c : ℕ). Failed c (span_of (token_of z))) q.1 in
-          subst (λ (x : Parsed ℕ). Fits {A = Located Span A} i [] (One view) once x (fail 1 z.place)) (sym e) (refl, refl)
+          ∙ ap (λ (o : Option A). cond (is_some o) (Done (i + 1) 1) (Failed (code (token_of z)) (span_of (token_of z)))) q.0 in
+          subst (λ (x : Parsed ℕ). Fits {A = Located Span A} i [] (One view) once x (fail 1 z.place)) (sym e) (codes z.kind z.place z.inner ∙ q.1, refl)
       token_fits i (t ∷ r) a =
           subst (λ (x : Parsed ℕ). Fits i (t ∷ r) (One view) once x (taken (view t.kind) bad t r)) (sym (answer i t (at_first i t r a).1 a.sound.0)) (go (view t.kind) refl)
         where
-          go : (o : Option A) → view t.kind ≡ o → Fits i (t ∷ r) (One view) once (cond (is_some o) (Done (i + 1) 1) (Failed (bad t.kind) (span_of (token_of t)))) (taken o bad t r)
-          go none e = (refl, refl)
+          go : (o : Option A) → view t.kind ≡ o → Fits i (t ∷ r) (One view) once (cond (is_some o) (Done (i + 1) 1) (Failed (code (token_of t)) (span_of (token_of t)))) (taken o bad t r)
+          go none e = (codes t.kind t.place t.inner, refl)
           go (some v) e = (t ∷ [], refl, refl, refl, record { taker = t; front = refl; says = e; there = refl })
 
     -- ---- behind an entry
@@ -225,25 +225,24 @@ module _ (ts : List (Token Span)) (junk : List Words) (z : Token Span) (more : L
 
     module _ (c close : ℕ) (names : Names c close) where
       parted : (i : ℕ) (t : Token Span) → peek row i ≡ token_of t → Sound t
-          → separator close row i ≡ cond (is_some (is_sign 0x2C t.kind)) (Done (i + 1) 1) (cond (is_some (is_sign c t.kind)) (Done (i + 1) 0) (Failed (unexpected t.kind) (span_of (token_of t))))
+          → separator close row i ≡ cond (is_some (is_sign 0x2C t.kind)) (Done (i + 1) 1) (cond (is_some (is_sign c t.kind)) (Done (i + 1) 0) (Failed (code_of (token_of t)) (span_of (token_of t))))
       unfolding separator is_kind refused
       parted i t e s =
           ap (λ (x : Words). cond (is_kind 8 x) (Done (i + 1) 1) (cond (is_kind close x) (Done (i + 1) 0) (Failed (code_of x) (span_of x)))) e ∙
           ap (λ (b : Bool). cond b (Done (i + 1) 1) (cond (is_kind close (token_of t)) (Done (i + 1) 0) (Failed (code_of (token_of t)) (span_of (token_of t)))))
           (sees_sign 0x2C 8 names-comma t.kind t.place t.inner s) ∙
           ap (λ (b : Bool). cond (is_some (is_sign 0x2C t.kind)) (Done (i + 1) 1) (cond b (Done (i + 1) 0) (Failed (code_of (token_of t)) (span_of (token_of t)))))
-          (sees_sign c close names t.kind t.place t.inner s) ∙
-          ap (λ (n : ℕ). cond (is_some (is_sign 0x2C t.kind)) (Done (i + 1) 1) (cond (is_some (is_sign c t.kind)) (Done (i + 1) 0) (Failed n (span_of (token_of t)))))
-          (code_view t.kind t.place t.inner)
+          (sees_sign c close names t.kind t.place t.inner s)
 
       pub separator_fits : (i : ℕ) (l : List (Token Span)) → At i l → Fits i l (One (goes_on c)) follows (separator close row i) (token z.place (goes_on c) unexpected l)
       unfolding token taken token_of picked is_sign sign_in unexpected
       separator_fits i [] a =
           let e₀ = parted i z (at_stop i a).1 (stop_sound z.kind z.place ends) in
-          subst (λ (x : Parsed ℕ). Fits {A = Located Span Bool} i [] (One (goes_on c)) follows x (fail 1 z.place)) (sym (e₀ ∙ quietly z.kind ends)) (refl, refl)
+          subst (λ (x : Parsed ℕ). Fits {A = Located Span Bool} i [] (One (goes_on c)) follows x (fail 1 z.place)) (sym (e₀ ∙ quietly z.kind ends))
+          (code_view z.kind z.place z.inner ∙ (quiet_view (is_sign c) unexpected (quiet_sign c) z.kind ends).1, refl)
         where
           quietly : (k : TokenKind) → Stops k
-              → cond (is_some (is_sign 0x2C k)) (Done {A = ℕ} (i + 1) 1) (cond (is_some (is_sign c k)) (Done (i + 1) 0) (Failed (unexpected k) (span_of (token_of z)))) ≡ Failed {A = ℕ × ℕ} 1 (span_of (token_of z))
+              → cond (is_some (is_sign 0x2C k)) (Done {A = ℕ} (i + 1) 1) (cond (is_some (is_sign c k)) (Done (i + 1) 0) (Failed (code_of (token_of z)) (span_of (token_of z)))) ≡ Failed {A = ℕ × ℕ} (code_of (token_of z)) (span_of (token_of z))
           quietly k (inl e) = rw e
           quietly k (inr (s, e)) = rw e
       separator_fits i (t ∷ r) a =
@@ -251,12 +250,12 @@ module _ (ts : List (Token Span)) (junk : List Words) (z : Token Span) (more : L
           (go (is_some (is_sign 0x2C t.kind)) (is_some (is_sign c t.kind)) (goes_on c t.kind) refl (goes_on_lem c t.kind))
         where
           go : (a b : Bool) (o : Option Bool) → goes_on c t.kind ≡ o → o ≡ picked a b
-              → Fits i (t ∷ r) (One (goes_on c)) follows (cond a (Done (i + 1) 1) (cond b (Done (i + 1) 0) (Failed (unexpected t.kind) (span_of (token_of t))))) (taken o unexpected t r)
+              → Fits i (t ∷ r) (One (goes_on c)) follows (cond a (Done (i + 1) 1) (cond b (Done (i + 1) 0) (Failed (code_of (token_of t)) (span_of (token_of t))))) (taken o unexpected t r)
           go true b none e q = none-some true q
           go true b (some v) e q = (t ∷ [], refl, refl, (let h : v ≡ true = cc in rw h), record { taker = t; front = refl; says = e; there = refl })
           go false true none e q = none-some false q
           go false true (some v) e q = (t ∷ [], refl, refl, (let h : v ≡ false = cc in rw h), record { taker = t; front = refl; says = e; there = refl })
-          go false false none e q = (refl, refl)
+          go false false none e q = (code_view t.kind t.place t.inner, refl)
           go false false (some v) e q = none-some v (sym q)
 
     -- ---- entries: R reads them off the tokens, `push` puts one in front of what is read behind it, and Rc is what is read behind the closing sign

@@ -5,17 +5,15 @@ use Prim.Native.Nat.{ℕ, ◌+◌, ◌<◌, ◌^◌}
 use native.Mathlib.Omega.{arith}
 use native.Mathlib.Decide.{dec_lt}
 use mathlib.Core.Bool.{Bool, true, false}
-use mathlib.Core.List.{List, []}
+use mathlib.Core.List.{List}
 use lib.ListN.{length, get_or-eq_default}
 use mir.Syntax.{w64}
 use mir.Val.{Fits}
-use borrow.Author.Rules.{rules}
 use borrow.Author.Tests.{eq-eqb, ne_eqb}
 use Rattle.parser.specs.Row.{tokens_in, ended, peek}
-use Rattle.parser.specs.Views.{span_of, is_kind, is_choice, is_state, is_symbol, is_write, is_direction, is_text}
-use Rattle.parser.specs.Lines.{Parsed, Done, Failed, unexpected, one, direction, separator}
+use Rattle.parser.specs.Views.{is_kind, is_direction}
+use Rattle.parser.specs.Lines.{Parsed, Done, unexpected, one}
 use Rattle.tokens.specs.declared.Token.{Token}
-use Rattle.lexer.specs.declared.Span.{Span}
 use Rattle.parser.proofs.Laws.{length-tokens, inside}
 
 -- an index in the row of a slice has a next one
@@ -53,25 +51,6 @@ module _ (w : List ℕ) (i : ℕ) (t : Token) (at : t ≡ peek (tokens_in w) i) 
     one_no r n e = let q : f (peek (tokens_in w) i) ≡ false = ap f (sym at) ∙ sym test ∙ n in rw (q, ← at) e
 
   module _ (b : Bool) (y : b ≡ true) (g : length w < 2 ^ 64) where
-    pub kind_fits : (k : ℕ) → b ≡ is_kind k t → k < 13 → Fits w64 (i + 1)
-    kind_fits k e h = one_fits (is_kind k) b e (kind-ended k h) y g
-
-    pub choice_fits : (k m : ℕ) → b ≡ is_choice k m t → Fits w64 (i + 1)
-    unfolding is_choice
-    choice_fits k m e = one_fits (is_choice k m) b e refl y g
-
-    pub state_fits : b ≡ is_state t → Fits w64 (i + 1)
-    unfolding is_state
-    state_fits e = one_fits is_state b e refl y g
-
-    pub symbol_fits : b ≡ is_symbol t → Fits w64 (i + 1)
-    unfolding is_symbol
-    symbol_fits e = one_fits is_symbol b e refl y g
-
-    pub write_fits : b ≡ is_write t → Fits w64 (i + 1)
-    unfolding is_write
-    write_fits e = one_fits is_write b e refl y g
-
     pub direction_fits : b ≡ is_direction t → Fits w64 (i + 1)
     unfolding is_direction
     direction_fits e = one_fits is_direction b e refl y g
@@ -79,49 +58,3 @@ module _ (w : List ℕ) (i : ℕ) (t : Token) (at : t ≡ peek (tokens_in w) i) 
   pub sign_fits : (k : ℕ) → t.kind ≡ k → k < 13 → length w < 2 ^ 64 → Fits w64 (i + 1)
   unfolding is_kind
   sign_fits k e h g = one_fits (is_kind k) true (sym (eq-eqb t.kind k e)) (kind-ended k h) refl g
-
-  module _ (b : Bool) (test : b ≡ is_direction t) where
-    pub direction_yes : b ≡ true → Done (i + 1) 1 ≡ direction (tokens_in w) i
-    unfolding direction
-    direction_yes y = rw (← at, ← test, y)
-
-    module _ (no : b ≡ false) (d : Bool) (text : d ≡ is_text t) where
-      pub direction_text : (s : Span) → d ≡ true → s ≡ span_of t → Failed 8 s ≡ direction (tokens_in w) i
-      unfolding direction
-      direction_text s y e = rw (← at, ← test, no, ← text, y, e)
-
-      pub direction_no : (r : Parsed ℕ) → d ≡ false → r ≡ Err (unexpected t) → r ≡ direction (tokens_in w) i
-      unfolding direction
-      direction_no r n e = rw (← at, ← test, no, ← text, n) e
-
-  pub separator_more : (close : ℕ) → t.kind ≡ 8 → Done (i + 1) 1 ≡ separator close (tokens_in w) i
-  unfolding separator
-  separator_more close e = rw (← at, eq-eqb t.kind 8 e)
-
-  module _ (close : ℕ) (no : t.kind ≡ 8 → ⊥) where
-    pub separator_last : t.kind ≡ close → Done (i + 1) 0 ≡ separator close (tokens_in w) i
-    unfolding separator
-    separator_last e = rw (← at, ne_eqb t.kind 8 no, eq-eqb t.kind close e)
-
-    pub separator_no : (r : Parsed ℕ) → (t.kind ≡ close → ⊥) → r ≡ Err (unexpected t) → r ≡ separator close (tokens_in w) i
-    unfolding separator
-    separator_no r f e = rw (← at, ne_eqb t.kind 8 no, ne_eqb t.kind close f) e
-
-pub ruleset single = (
-  rules,
-  kind_fits,
-  choice_fits,
-  state_fits,
-  symbol_fits,
-  write_fits,
-  direction_fits,
-  sign_fits,
-  one_yes,
-  one_no,
-  direction_yes,
-  direction_text,
-  direction_no,
-  separator_more,
-  separator_last,
-  separator_no,
-)

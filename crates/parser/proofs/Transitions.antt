@@ -1,7 +1,7 @@
 -- A rule over the row is the language's, and its parts say where its lists stand and how long they are.
 use Rattle.std.specs.Prelude.{Err}
 use mathlib.Core.Path.{◌≡◌, refl, sym, ap, subst, ◌∙◌}
-use Prim.Native.Nat.{ℕ, ◌+◌, ◌-◌}
+use Prim.Native.Nat.{ℕ, ◌+◌}
 use native.Mathlib.Omega.{arith}
 use mathlib.Core.Bool.{Bool, true, false}
 use mathlib.Core.List.{List, [], ◌∷◌, ◌++◌, append-nil, append_assoc}
@@ -13,7 +13,7 @@ use Rattle.language.specs.Parser.{Result, ok, fail, Parser, is_sign, give, ◌>>
 use Rattle.language.specs.Parser.{then as bind, expect, tuple as tupled}
 use Rattle.language.specs.Lines.{RawSymbol, RawTransition, state_in, symbol_in, bracket, write_in, direction_in, state, direction as directed, read_entry as read_one, write_entry, transition as ruled}
 use Rattle.parser.specs.Views.{is_kind, is_state, is_write}
-use Rattle.parser.specs.Lines.{Parsed, Done, Failed, then, one, direction, tuple, read_entry, side, equals, left_parts, left, right, transition}
+use Rattle.parser.specs.Lines.{Parsed, Done, then, one, direction, tuple, read_entry, side, equals, left_parts, left, right, transition, code_number}
 use Rattle.parser.specs.Row.{peek}
 use Rattle.parser.specs.Meaning.{token_of, at, between, or_else, located, seen, read_sets, read_part, passes, rule_of}
 use Rattle.lexer.specs.Words.{kind_number}
@@ -29,7 +29,7 @@ abbrev pub Gives : {B : Type 0} → ℕ → List (Token Span) → (Parts → ℕ
 Gives i l Means (Done j q) (ok b r) = (f : List (Token Span)) × (l ≡ f ++ r) × (j ≡ i + length f) × Means q j b
 Gives i l Means (Done j q) (fail c p) = ⊥
 Gives i l Means (Err bad) (ok b r) = ⊥
-Gives i l Means (Err bad) (fail d p) = (bad.code ≡ d) × (bad.span ≡ p)
+Gives i l Means (Err bad) (fail d p) = (code_number bad.code ≡ d) × (bad.span ≡ p)
 
 -- one part behind another
 on_then : (x : Parsed ℕ) (k : ℕ → ℕ → Parsed ℕ) (f : ℕ → ℕ → Parsed Parts) → then (then x k) f ≡ then x (λ j n. then (k j n) f)

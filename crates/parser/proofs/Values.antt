@@ -1,7 +1,8 @@
 -- The elements of an item over the row are those of the language, and their values are what is seen in their tokens.
+use Rattle.parser.specs.declared.Code.TheVariants.{NoDirection}
 use Rattle.std.specs.Prelude.{Err}
 use mathlib.Core.Path.{◌≡◌, refl, sym, ap, ◌∙◌}
-use Prim.Native.Nat.{ℕ, ◌+◌, ◌-◌}
+use Prim.Native.Nat.{ℕ, ◌+◌}
 use native.Mathlib.Omega.{arith}
 use mathlib.Core.Bool.{Bool, true, false, cond}
 use mathlib.Core.List.{List, [], ◌∷◌, ◌++◌}
@@ -13,7 +14,7 @@ use Rattle.language.specs.Parser.{Result, ok, fail, Parser, unexpected, sign_in,
 use Rattle.language.specs.Parser.{one as token, entries as listed, single, tuple as tupled, set as braced, taken}
 use Rattle.language.specs.Lines.{RawSymbol, Text, state_in, symbol_in, bracket, write_in, direction_in, not_direction, string_in, number_in, word_in, kinds, outputs, orders, string_taken, string, numeral, choice, state, symbol, direction as directed, read_entry as read_one, write_entry}
 use Rattle.parser.specs.Views.{is_kind, is_choice, is_state, is_symbol, is_write, is_direction, is_text}
-use Rattle.parser.specs.Lines.{Parsed, Done, Failed, then, code_of, one, direction, entries, set, tuple, read_entry}
+use Rattle.parser.specs.Lines.{Parsed, Done, then, code_of, one, direction, entries, set, tuple, read_entry}
 use Rattle.parser.specs.Meaning.{seen_on, seen, text_of, ReadPart, opens, closes, passes, reads, read_part, joins, outside, inside, read_sets}
 use Rattle.tokens.specs.declared.Token.{Token as Words}
 use Rattle.parser.proofs.Lists.{Steps, state_steps, symbol_steps, read_steps, write_steps, direction_steps}
@@ -167,7 +168,7 @@ module _ (ts : List (Token Span)) (junk : List Words) (z : Token Span) (more : L
   pub direction_fits : (i : ℕ) (l : List (Token Span)) → Here i l → Fits i l (One direction_in) once (direction ws i) (directed z.place l)
   unfolding directed direction_in not_direction
   direction_fits =
-      token_fits ts junk z more ends direction is_direction (λ t. cond (is_text t) 8 (code_of t)) direction_in not_direction direction_tests sees_direction text_view
+      token_fits ts junk z more ends direction is_direction (λ t. cond (is_text t) NoDirection (code_of t)) direction_in not_direction direction_tests sees_direction text_view
       (record { at_newline = refl; at-comment = λ s. refl; bad_newline = refl; bad_comment = λ s. refl })
 
   pub string_fits : (i : ℕ) (l : List (Token Span)) → Here i l → Fits i l Texts once (one (is_kind 3) ws i) (string z.place l)

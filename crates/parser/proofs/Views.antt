@@ -1,4 +1,5 @@
 -- What the words of a token say is what the views of the language say of the token.
+use Rattle.parser.specs.declared.Code.TheVariants.{Unexpected, UnterminatedString, NoDirection}
 use mathlib.Core.Path.{◌≡◌, refl, sym, ap, subst, ◌∙◌}
 use Prim.Native.Nat.{ℕ, ◌+◌, ◌<◌}
 use native.Mathlib.Omega.{arith}
@@ -8,7 +9,6 @@ use mathlib.Core.Option.{Option, none, some}
 use lib.Dec.{eqb}
 use lib.ListN.{length}
 use borrow.Author.Tests.{eqb-true, eq-eqb, ne_eqb, lt-ltb, le-ltb}
-use Rattle.lexer.specs.Text.{codes}
 use Rattle.lexer.specs.Tokens.{TokenKind, word, number, quoted, str, sign, comment, newline, unterminated_string, unterminated_quote, Span, Token}
 use Rattle.lexer.specs.Words.{sign_number, kind_number, keyword, word_value, token_value}
 use Rattle.language.specs.Machine.{Dir, left, right, stay}
@@ -16,7 +16,7 @@ use Rattle.language.specs.Parser.{when, unexpected, sign_in, is_sign}
 use Rattle.language.specs.Lines.{RawSymbol, glyph, one_character, bare, bracket, state_in, symbol_in, write_in, from_char, direction_in, not_direction, string_in, number_in}
 use Rattle.language.proofs.Every.{by_test}
 use Rattle.parser.specs.Views.{is_kind, is_state, is_symbol, is_write, is_move, is_direction, is_text}
-use Rattle.parser.specs.Lines.{code_of}
+use Rattle.parser.specs.Lines.{code_of, code_number}
 use Rattle.parser.specs.Meaning.{token_of, SoundAs}
 use Rattle.tokens.specs.declared.Token.{Token as Words}
 
@@ -57,14 +57,14 @@ abbrev pub tok : TokenKind → Span → Span → Token Span
 tok k p q = record { kind = k; place = p; inner = q }
 
 -- ---- codes
-pub code_view : (k : TokenKind) (p q : Span) → code_of (token_of (tok k p q)) ≡ unexpected k
-unfolding code_of token_of unexpected kind_number
+pub code_view : (k : TokenKind) (p q : Span) → code_number (code_of (token_of (tok k p q))) ≡ unexpected k
+unfolding code_number code_of token_of unexpected kind_number
 code_view (word w) p q = refl
 code_view (number w) p q = refl
 code_view (quoted c) p q = refl
 code_view (str s) p q = refl
 code_view (sign c) p q =
-    sign_rule (λ d. cond (eqb (sign_number d) 14) 2 1) (λ d. 1) refl refl refl refl refl refl refl (λ d u. rw (unnamed_number d u)) c
+    sign_rule (λ d. code_number (cond (eqb (sign_number d) 14) UnterminatedString Unexpected)) (λ d. 1) refl refl refl refl refl refl refl (λ d u. rw (unnamed_number d u)) c
 code_view (comment s) p q = refl
 code_view newline p q = refl
 code_view unterminated_string p q = refl
@@ -263,15 +263,15 @@ sees_direction unterminated_string p q s = refl
 sees_direction unterminated_quote p q s = refl
 
 -- E008 for what may look like a direction, else as for any token
-pub text_view : (k : TokenKind) (p q : Span) → cond (is_text (token_of (tok k p q))) 8 (code_of (token_of (tok k p q))) ≡ not_direction k
-unfolding is_text code_of token_of kind_number not_direction bracket
+pub text_view : (k : TokenKind) (p q : Span) → code_number (cond (is_text (token_of (tok k p q))) NoDirection (code_of (token_of (tok k p q)))) ≡ not_direction k
+unfolding is_text code_number code_of token_of kind_number not_direction bracket
 text_view (word w) p q = refl
 text_view (number w) p q = refl
 text_view (quoted c) p q = refl
 text_view (str s) p q = refl
 text_view (sign c) p q =
     sign_rule
-    (λ d. cond (is_text (token_of (tok (sign d) p q))) 8 (code_of (token_of (tok (sign d) p q))))
+    (λ d. code_number (cond (is_text (token_of (tok (sign d) p q))) NoDirection (code_of (token_of (tok (sign d) p q)))))
     (λ d. not_direction (sign d))
     refl refl refl refl refl refl refl
     (λ d u.

@@ -4,6 +4,8 @@ use Rattle.parser.specs.Row.{peek}
 use Rattle.parser.specs.Views.{span_of, is_kind, is_choice, is_state, is_symbol, is_write, is_direction, is_text, keyword_of, lead_of}
 use Rattle.tokens.specs.declared.Token.{Token}
 use Rattle.lexer.specs.declared.Span.{Span}
+use Rattle.parser.specs.declared.Code.{Code}
+use Rattle.parser.specs.declared.Code.TheVariants.{Unexpected, UnterminatedString, NoDirection}
 use Rattle.parser.specs.declared.Failure.{Failure}
 use Rattle.parser.specs.declared.Parts.{Parts}
 use Rattle.parser.specs.declared.ItemKind.{ItemKind}
@@ -21,7 +23,7 @@ Parsed A = Result (ℕ × A) Failure
 pattern abbrev pub Done : {A : Type 0} → ℕ → A → Parsed A
 Done i a = Ok (i, a)
 
-abbrev pub Failed : {A : Type 0} → ℕ → Span → Result A Failure
+abbrev pub Failed : {A : Type 0} → Code → Span → Result A Failure
 Failed c s = Err (record { code = c; span = s })
 
 -- a parser: it makes a count of entries
@@ -33,9 +35,15 @@ unfoldable pub then : {A B : Type 0} → Parsed A → (ℕ → A → Result B Fa
 then (Done i a) f = f i a
 then (Err bad) f = Err bad
 
+-- the number of an error
+unfoldable pub code_number : Code → ℕ
+code_number Unexpected = 1
+code_number UnterminatedString = 2
+code_number NoDirection = 8
+
 -- the code of a token that is not what is due: E002 for an unterminated string, else E001
-unfoldable pub code_of : Token → ℕ
-code_of t = cond (eqb t.kind 14) 2 1
+unfoldable pub code_of : Token → Code
+code_of t = cond (eqb t.kind 14) UnterminatedString Unexpected
 
 -- the failure at such a token
 unfoldable pub unexpected : Token → Failure
@@ -52,7 +60,7 @@ unfoldable pub direction : Parser
 unfolding unexpected is_direction is_text
 direction ts i =
     let t = peek ts i in
-    cond (is_direction t) (Done (i + 1) 1) (cond (is_text t) (Failed 8 (span_of t)) (Err (unexpected t)))
+    cond (is_direction t) (Done (i + 1) 1) (cond (is_text t) (Failed NoDirection (span_of t)) (Err (unexpected t)))
 
 -- behind an entry: a comma, and 1 for more to come; or the closing sign, and 0
 unfoldable pub separator : ℕ → Parser

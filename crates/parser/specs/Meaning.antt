@@ -6,7 +6,7 @@ use Rattle.lexer.specs.Words.{kind_number, token_value}
 use Rattle.language.specs.Machine.{Located, transducer, lsb}
 use Rattle.language.specs.Parser.{is_sign}
 use Rattle.language.specs.Lines.{RawSymbol, raw_blank, RawDecoder, raw_word, raw_unary, raw_binary, RawTransition, Text, Item, machine_item, input_item, kind_item, output_item, tapes_item, states_item, final_item, input_alphabet_item, tape_alphabet_item, blank_item, start_item, transition_item, Line, blank_line, comment_line, item_line, error_line, state_in, symbol_in, write_in, direction_in, string_in, number_in, word_in, kinds, outputs, orders, word_output, unary_output, binary_output, Ending, line_feed, goes_by, remark, ending_of, lines, covering}
-use Rattle.parser.specs.Lines.{Failed, Answer, Empty, Comment, Read, line, line_end}
+use Rattle.parser.specs.Lines.{Answer, Empty, Comment, Read, code_number, line, line_end}
 use Rattle.tokens.specs.declared.Token.{Token as Words}
 use Rattle.tokens.specs.View.{words_of}
 use Rattle.parser.specs.declared.Parts.{Parts}
@@ -151,7 +151,7 @@ unfolding item_means own_comment remark_of
 line_means ts Empty = blank_line
 line_means ts (Comment i) = comment_line (comment_of (at ts i))
 line_means ts (Read r) = item_line (item_means ts r.kind r.value r.end r.parts) r.span (own_comment ts r.end r.newline)
-line_means ts (Err bad) = error_line bad.code bad.span
+line_means ts (Err bad) = error_line (code_number bad.code) bad.span
 
 -- the counts of a rule's parts are the lengths of its lists
 pub record Counted (ts : List (Token Span)) (r : Found) : Type 0 where

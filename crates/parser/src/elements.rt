@@ -6,19 +6,19 @@ ghost use Rattle.parser.specs.Lines.{Parsed, Parser, code_of, unexpected, one, d
 ghost use Rattle.parser.specs.Calls.{Tells, Reads, ReadsEntries};
 
 use crate::row::token_at;
-use crate::{Failure, Parsed, view};
+use crate::{Code, Failure, Parsed, view};
 use lexer::kind;
 use tokens::{Token, span_of};
 
 // E002 for an unterminated string, E001 for any other token that is not what is due.
 #[tactic(auto, unfolding(crate::specs::Lines::code_of))]
-fn code_of(t: Token) -> u32
+fn code_of(t: Token) -> Code
     ensures { result ≡ code_of t }
 {
     if t.kind == kind::UNTERMINATED_STRING {
-        2
+        Code::UnterminatedString
     } else {
-        1
+        Code::Unexpected
     }
 }
 
@@ -98,7 +98,7 @@ fn direction(work: &[u32], at: usize) -> Parsed<usize>
         Ok((at + 1, 1))
     } else if view::is_text(t) {
         Err(Failure {
-            code: 8,
+            code: Code::NoDirection,
             span: span_of(t),
         })
     } else {
@@ -134,10 +134,8 @@ fn entries<F: Fn(usize) -> Parsed<usize>>(
     requires reads { (p : Parser) × ReadsEntries (F.post entry) p (tokens_in work.now) }
     requires sign { close < 13 }
     requires count { before ≤ at }
-    ensures {
-        (p : Parser) → ReadsEntries (F.post entry) p (tokens_in work.now)
-            → result ≡ entries p close (tokens_in work.now) at before
-    }
+    ensures { (p : Parser) → ReadsEntries (F.post entry) p (tokens_in work.now)
+        → result ≡ entries p close (tokens_in work.now) at before }
 {
     let mut i = at;
     let mut n = before;

@@ -1,6 +1,9 @@
 // Lines of a description, read from the tokens in a row of words (the source's dsl/parser.rs, Parser).
 #![tactic(auto)]
 
+ghost use Rattle.std.specs.Prelude.{◌≡◌};
+ghost use Rattle.parser.specs.Lines.{code_number};
+
 mod elements;
 pub mod items;
 mod row;
@@ -33,10 +36,28 @@ pub enum Lead {
     Whole,
 }
 
-// Why a line is refused: the number of the error, and its place.
+// What is wrong with a line, by the source's numbers of the errors.
+#[derive(Clone, Copy, Debug, PartialEq, Eq)]
+pub enum Code {
+    Unexpected = 1,
+    UnterminatedString = 2,
+    NoDirection = 8,
+}
+
+impl Code {
+    // The number of the error.
+    #[tactic(auto, unfolding(crate::specs::Lines::code_number))]
+    pub fn number(self) -> u32
+        ensures { result ≡ code_number self }
+    {
+        self as u32
+    }
+}
+
+// Why a line is refused, and the place that is wrong.
 #[derive(Clone, Copy)]
 pub struct Failure {
-    pub code: u32,
+    pub code: Code,
     pub span: Span,
 }
 

@@ -1,4 +1,5 @@
 -- What the line parser took for the value of an item: the answer of the value's parser, and its last token, which is no comment.
+use Rattle.parser.specs.declared.Code.{Code}
 use Rattle.std.specs.Prelude.{Err, None, Option, Some}
 use Rattle.parser.specs.Lines.{Parsed, Done, Failed, Empty, Comment, Read}
 use mathlib.Core.Path.{◌≡◌, refl, sym, ap, subst, ◌∙◌}
@@ -20,13 +21,13 @@ use Rattle.parser.specs.Row.{peek}
 use Rattle.parser.specs.Views.{span_of, is_kind, is_choice, is_state, is_symbol, keyword_of, lead_of}
 use Rattle.parser.specs.Lines as P
 use Rattle.assembler.proofs.Braces.{false_true, one_done}
-use Rattle.parser.proofs.Lists.{Steps, state_steps, symbol_steps}
+use Rattle.parser.proofs.Lists.{done_same, Steps, state_steps, symbol_steps}
 use Rattle.parser.proofs.Rules.{kind_steps, choice_steps, set_steps, output_steps}
 use Rattle.assembler.proofs.Inside.{then_done, done_within}
 use Rattle.shown.proofs.ListsShown.{Series, last_one, one_more, entries_series}
 
 -- two cases of a line
-absurd_line : {X : Type 0} (c : ℕ) (s : Place) (x : Found) → Failed c s ≡ Read x → X
+absurd_line : {X : Type 0} (c : Code) (s : Place) (x : Found) → Failed c s ≡ Read x → X
 absurd_line c s x e = absurd (let z : ◌≡◌ {A = ℕ} 0 1 = cc in omega arith)
 
 -- behind the value stands the line's end
@@ -51,12 +52,12 @@ module _ (ts : List Token) (x : Found) where
   value_of : (k : ItemKind) (v : ℕ) (y : Parsed Parts) → P.then y (λ j q. P.finish k ts 0 v j q) ≡ Read x → x.kind ≡ k
   unfolding P.then
   value_of k v (Done j q) e = (finished k ts v j q x e).0
-  value_of k v (Err bad) e = absurd_line c s x e
+  value_of k v (Err bad) e = absurd_line bad.code bad.span x e
 
   kind_of_lem : (k : ItemKind) (p : Parsed ℕ) → P.then p (λ v n. P.then (P.value k ts v) (λ j q. P.finish k ts 0 v j q)) ≡ Read x → x.kind ≡ k
   unfolding P.then
   kind_of_lem k (Done v n) e = value_of k v (P.value k ts v) e
-  kind_of_lem k (Err bad) e = absurd_line c s x e
+  kind_of_lem k (Err bad) e = absurd_line bad.code bad.span x e
 
   item_from_lem : (w : Option ItemKind) → P.item_from w ts 0 ≡ Read x → P.item_of x.kind ts 0 ≡ Read x
   unfolding P.item_from P.item_of
@@ -84,7 +85,7 @@ module _ (ts : List Token) (x : Found) where
     plain-taken : (v : ℕ) (r : Parsed ℕ) → p ts v ≡ r → P.then (P.plain r) (λ j q. P.finish k ts 0 v j q) ≡ Read x → Taken p ts v x
     unfolding P.then P.plain
     plain-taken v (Done j n) q e = let f = finished k ts v j P.no_parts x e in record { count = n; read = q ∙ ap (λ (j : ℕ). Done j n) (sym f.2); value = f.1 }
-    plain-taken v (Err bad) q e = absurd_line c s x e
+    plain-taken v (Err bad) q e = absurd_line bad.code bad.span x e
 
     behind-keyword : P.then (P.value_at Nothing ts 0) (λ v n. P.then (P.plain (p ts v)) (λ j q. P.finish k ts 0 v j q)) ≡ Read x → Taken p ts 1 x
     unfolding P.then P.value_at
@@ -94,8 +95,8 @@ module _ (ts : List Token) (x : Found) where
     unfolding P.then P.value_at P.one P.unexpected
     behind-equals e =
         by_test_lem (is_kind 9 (peek ts 1))
-        (λ y. plain-taken 2 (p ts 2) refl (sym (ap (λ (b : Bool). P.then (cond b (Done 2 1) (P.unexpected (peek ts 1))) (λ v n. P.then (P.plain (p ts v)) (λ j q. P.finish k ts 0 v j q))) y) ∙ e))
-        (λ m. absurd_line _ _ x (sym (ap (λ (b : Bool). P.then (cond b (Done 2 1) (P.unexpected (peek ts 1))) (λ v n. P.then (P.plain (p ts v)) (λ j q. P.finish k ts 0 v j q))) m) ∙ e))
+        (λ y. plain-taken 2 (p ts 2) refl (sym (ap (λ (b : Bool). P.then (cond b (Done {A = ℕ} 2 1) (Err (P.unexpected (peek ts 1)))) (λ v n. P.then (P.plain (p ts v)) (λ j q. P.finish k ts 0 v j q))) y) ∙ e))
+        (λ m. absurd_line _ _ x (sym (ap (λ (b : Bool). P.then (cond b (Done {A = ℕ} 2 1) (Err (P.unexpected (peek ts 1)))) (λ v n. P.then (P.plain (p ts v)) (λ j q. P.finish k ts 0 v j q))) m) ∙ e))
 
 -- ---- the item of each kind
 abbrev pub TakenAs : ItemKind → List Token → Found → Type 0
@@ -176,7 +177,7 @@ unfolding P.set
 set_ends f ts i j n e =
     then_done (P.one (is_kind 6) ts i) (λ j _. cond (eqb (peek ts j).kind 7) (Done (j + 1) 0) (P.entries (P.one f) 7 ts j 0)) j n e λ a x u v.
     by_test_lem (eqb (peek ts a).kind 7)
-    (λ y. let z : Done (a + 1) 0 ≡ Done j n = rw y at v in let h : j ≡ a + 1 = cc in behind_it ts a j h (kind_spoken (peek ts a) 7 (λ z. omega arith) y))
+    (λ y. let z : Done (a + 1) 0 ≡ Done j n = rw y at v in let h : j ≡ a + 1 = sym (done_same z).0 in behind_it ts a j h (kind_spoken (peek ts a) 7 (λ z. omega arith) y))
     (λ x. series_ends f ts a j (entries_series (P.one f) f (one_done f) 7 ts a j n (rw x at v)))
 
 output_ends : (ts : List Token) (i j n : ℕ) → P.output ts i ≡ Done j n → Last ts j
@@ -187,7 +188,7 @@ output_ends ts i j n e =
     by_test_lem (eqb (peek ts i).value 0x110015) (λ y. one_ends is_symbol spoken_symbol ts a j n (rw y at v)) λ m.
     by_test_lem (eqb (peek ts i).value 0x110016) (λ y. one_ends (is_choice 0x110017 0x110018) (spoken_choice 0x110017 0x110018) ts a j n (rw (m, y) at v)) λ k.
     let z : Done a 1 ≡ Done j n = rw (m, k) at v in
-    let h : j ≡ a = cc in
+    let h : j ≡ a = sym (done_same z).0 in
     subst (Last ts) (sym h) (one_ends c (spoken_choice 0x110014 0x110016) ts i a x u)
 
 pub taken_ends : (ts : List Token) (x : Found) (k : ItemKind) → (k ≡ Transition → ⊥) → TakenAs k ts x → eqb (peek ts (x.end - 1)).kind 12 ≡ false

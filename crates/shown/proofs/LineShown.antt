@@ -461,7 +461,7 @@ module _ (text : List ℕ) (E : List Token) (i : ℕ) (t : Lexed Place) (l' : To
       let z = comment_zero k e in
       subst (λ (k : ℕ). CommentShows E i (comment_of (at l k))) (sym z) (comment_line_lem small (e ∙ ap Comment z))
   line_as small (Read x) e f = item_shows x e small f
-  line_as small (Err bad) e f = omega (arith, ap (λ (w : Token). w.kind) (first_as (Failed c s) e))
+  line_as small (Err bad) e f = omega (arith, ap (λ (w : Token). w.kind) (first_as (Err bad) e))
 
   pub line_shows : length text < 2 ^ 32 → ExpandsLine (line_means l (line W 0)) → Shows text E i (line_means l (line W 0))
   line_shows small f = line_as small (line W 0) refl f

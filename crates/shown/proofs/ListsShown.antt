@@ -1,4 +1,6 @@
 -- The lists of a rule: their entries stand at every second index, or are sets, and are what the language sees in their tokens.
+use Rattle.parser.specs.declared.Code.{Code}
+use Rattle.parser.proofs.Lists.{done_same}
 use mathlib.Core.Path.{◌≡◌, refl, sym, ap, subst, ◌∙◌}
 use mathlib.Core.Bool.{Bool, true, false, cond}
 use mathlib.Core.List.{List, [], ◌∷◌, map}
@@ -40,13 +42,13 @@ series_high f close ts i j (one_more y c s) = omega (arith, series_high f close 
 abbrev pub Takes : Parser → (Token → Bool) → Type 0
 Takes p f = (ts : List Token) (i j n : ℕ) → p ts i ≡ Done j n → (j ≡ i + 1) × (f (peek ts i) ≡ true)
 
-pub failed_done : {X : Type 0} (c : ℕ) (s : Place) (j n : ℕ) → Failed c s ≡ Done j n → X
+pub failed_done : {X : Type 0} (c : Code) (s : Place) (j n : ℕ) → Failed c s ≡ Done j n → X
 failed_done c s j n e = absurd (let z : ◌≡◌ {A = ℕ} 0 1 = cc in omega arith)
 
 pub direction-takes : Takes direction is_direction
 unfolding direction unexpected
 direction-takes ts i j n e =
-    by_test_lem (is_direction (peek ts i)) (λ y. let z : Done (i + 1) 1 ≡ Done j n = rw y at e in (cc, y))
+    by_test_lem (is_direction (peek ts i)) (λ y. let z : Done (i + 1) 1 ≡ Done j n = rw y at e in (sym (done_same z).0, y))
     (λ x. by_test_lem (is_text (peek ts i)) (λ y. failed_done _ _ j n (rw (x, y) at e)) (λ y. failed_done _ _ j n (rw (x, y) at e)))
 
 module _ (p : Parser) (f : Token → Bool) (takes : Takes p f) (close : ℕ) (ts : List Token) where
@@ -62,7 +64,7 @@ module _ (p : Parser) (f : Token → Bool) (takes : Takes p f) (close : ℕ) (ts
       by_test_lem (eqb more 0)
       (λ y.
       let z : Done b (n + 1) ≡ Done j m = sym (ap (λ (t : Bool). elim t [ true ↦ Done b (n + 1) | false ↦ entries_from p close ts k b (n + 1) ]) y) ∙ w in
-      let h : b ≡ j = cc in
+      let h : b ≡ j = (done_same z).0 in
       last_one o.1 (ap (λ (k : ℕ). eqb (peek ts k).kind close) (sym o.0) ∙ q.closing (eqb-true more 0 y)) (sym h ∙ two))
       (λ y.
       let z : entries_from p close ts k b (n + 1) ≡ Done j m = sym (ap (λ (t : Bool). elim t [ true ↦ Done b (n + 1) | false ↦ entries_from p close ts k b (n + 1) ]) y) ∙ w in

@@ -18,7 +18,7 @@ use Rattle.parser.specs.Row.{peek, ended}
 use Rattle.parser.specs.Views.{is_symbol}
 use Rattle.parser.specs.Lines.{Done, then, unexpected, one, separator, entries_from, entries, tuple, read_entry}
 use Rattle.parser.specs.Meaning.{token_of, at, between, Sound, ReadPart, opens, closes, passes, reads, read_part, joins, outside, inside, read_sets}
-use Rattle.parser.proofs.Lists.{read_steps}
+use Rattle.parser.proofs.Lists.{done_same, read_steps}
 use Rattle.language.specs.Machine.{Located}
 use Rattle.language.specs.Parser.{is_sign}
 use Rattle.language.specs.Lines.{RawSymbol, symbol_in}
@@ -216,7 +216,7 @@ module _ (E : List Token) (o b : ℕ) (l : Tokens) (row : RowOf E o b l) where
       by_test_lem (eqb (peek W i).kind 6)
       (λ y.
       then_done (entries (one is_symbol) 7 W (i + 1) 0) (λ j _. Done j 1) j n (rw y at e) λ a x u v.
-      let a_is : a ≡ j = cc in
+      let a_is : a ≡ j = (done_same v).0 in
       let ser : Series is_symbol 7 W (i + 1) j = subst (Series is_symbol 7 W (i + 1)) a_is (entries_series (one is_symbol) is_symbol (one_done is_symbol) 7 W (i + 1) a x u) in
       let m = set_shown (i + 1) j k (omega arith) ser h top in
       let ms : List Token = S.members (drop (o + (i + 1)) E) in
@@ -268,8 +268,8 @@ module _ (E : List Token) (o b : ℕ) (l : Tokens) (row : RowOf E o b l) where
       by_test_lem (eqb more 0)
       (λ y.
       let z : Done d (n + 1) ≡ Done j m = sym (ap (λ (t : Bool). elim t [ true ↦ Done d (n + 1) | false ↦ entries_from read_entry 5 W s d (n + 1) ]) y) ∙ w in
-      let d-is : d ≡ j = cc in
-      let m-is : n + 1 ≡ m = cc in
+      let d-is : d ≡ j = (done_same z).0 in
+      let m-is : n + 1 ≡ m = (done_same z).1 in
       let r = entry_shown i a x k low u (omega (arith, q.next)) top in
       let one_set : read_sets false (between l i k) ≡ r.set ∷ [] =
       r.sets ∙ ap (λ (y : List Members). r.set ∷ y) (passed a 5 k (omega (arith, q.next)) (omega (arith, q.next)) (omega arith) (omega arith) (λ z. omega arith) (λ z. omega arith) (q.closing (eqb-true more 0 y))
@@ -300,8 +300,8 @@ module _ (E : List Token) (o b : ℕ) (l : Tokens) (row : RowOf E o b l) where
   unfolding read_entry one unexpected
   single_count i j n e =
       by_test_lem (eqb (peek W i).kind 6)
-      (λ y. then_done (entries (one is_symbol) 7 W (i + 1) 0) (λ j _. Done j 1) j n (rw y at e) λ a x u v. cc)
-      (λ x. by_test_lem (is_symbol (peek W i)) (λ y. let z : Done (i + 1) 1 ≡ Done j n = rw (x, y) at e in cc) (λ y. failed_done _ _ j n (rw (x, y) at e)))
+      (λ y. then_done (entries (one is_symbol) 7 W (i + 1) 0) (λ j _. Done j 1) j n (rw y at e) λ a x u v. sym (done_same v).1)
+      (λ x. by_test_lem (is_symbol (peek W i)) (λ y. let z : Done (i + 1) 1 ≡ Done j n = rw (x, y) at e in sym (done_same z).1) (λ y. failed_done _ _ j n (rw (x, y) at e)))
 
   -- one entry, or several in parentheses
   pub reads_shown : (w j n k : ℕ) → 4 ≤ w → tuple read_entry W w ≡ Done j n → j ≤ k → k ≤ suc b → w < k → read_sets false (between l j k) ≡ []

@@ -1,4 +1,4 @@
-use Rattle.std.proofs.Common.{rules, ◌≡◌}
+use Rattle.std.proofs.Common.{rules}
 use Rattle.parser.specs.Lines.{direction}
 use Rattle.parser.proofs.Lists.{direction_steps}
 use Rattle.parser.proofs.elements.directions.Goals as goal

@@ -1,4 +1,3 @@
-use Rattle.std.proofs.Common.{rules, ◌≡◌}
 use Rattle.parser.proofs.Lists.{handed, entry_failed, list-failed, list_last, list_again, list_falls, list_few}
 use Rattle.parser.proofs.elements.entries.Goals as goal
 
@@ -28,11 +27,10 @@ loop-entry-smaller g c =
 pub loop-entry-preserved : goal.loop-entry-preserved
 loop-entry-preserved g c =
     let p = c.requires.reads.0 in
-    let q = c.requires.reads.1 in
-    (
+    let q = c.requires.reads.1 in (
       list_few p c.args.close c.args.work.now c.loop-entry.i c.loop-entry.n _ (c.loop-entry.invariant.1 p q) q.steps c.requires.sign _ (q.reads _ _ c.entry.ensures) _ _ c.in_ok-j.was _
-      c.separator.ensures _ _ c.in_ok-next.was c.loop-entry.invariant.0,
+          c.separator.ensures _ _ c.in_ok-next.was c.loop-entry.invariant.0,
       λ p q.
-      list_again p c.args.close c.args.work.now c.loop-entry.i c.loop-entry.n _ (c.loop-entry.invariant.1 p q) q.steps c.requires.sign _ (q.reads _ _ c.entry.ensures) _ _ c.in_ok-j.was _
-      c.separator.ensures _ _ c.in_ok-next.was c.if-more-eq0.false
+          list_again p c.args.close c.args.work.now c.loop-entry.i c.loop-entry.n _ (c.loop-entry.invariant.1 p q) q.steps c.requires.sign _ (q.reads _ _ c.entry.ensures) _ _ c.in_ok-j.was _
+          c.separator.ensures _ _ c.in_ok-next.was c.if-more-eq0.false,
     )

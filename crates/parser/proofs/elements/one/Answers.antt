@@ -1,4 +1,4 @@
-use Rattle.std.proofs.Common.{rules, ◌≡◌, ap}
+use Rattle.std.proofs.Common.{rules}
 use Rattle.parser.proofs.Single.{test_fits, one_yes, one_no}
 use Rattle.parser.proofs.elements.one.Given as given
 use Rattle.parser.proofs.elements.one.Goals as goal

@@ -1,4 +1,4 @@
-use Rattle.std.proofs.Common.{rules, ◌≡◌}
+use Rattle.std.proofs.Common.{rules}
 use Rattle.parser.proofs.Pairs.{pairs-on}
 use Rattle.parser.proofs.elements.pairs.Goals as goal
 

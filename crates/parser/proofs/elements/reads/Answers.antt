@@ -1,4 +1,4 @@
-use Rattle.std.proofs.Common.{rules, ◌≡◌}
+use Rattle.std.proofs.Common.{rules}
 use Rattle.parser.specs.Lines.{read_entry}
 use Rattle.parser.proofs.Lists.{read_steps}
 use Rattle.parser.proofs.elements.reads.Goals as goal

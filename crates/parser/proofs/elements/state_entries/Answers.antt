@@ -1,4 +1,4 @@
-use Rattle.std.proofs.Common.{rules, ◌≡◌}
+use Rattle.std.proofs.Common.{rules}
 use Rattle.parser.specs.Views.{is_state}
 use Rattle.parser.specs.Lines.{one}
 use Rattle.parser.proofs.Lists.{state_steps}

@@ -1,4 +1,4 @@
-use Rattle.std.proofs.Common.{rules, ◌≡◌}
+use Rattle.std.proofs.Common.{rules}
 use Rattle.parser.specs.Views.{is_write}
 use Rattle.parser.specs.Lines.{one}
 use Rattle.parser.proofs.Lists.{write_steps}
