@@ -9,7 +9,8 @@ use lib.ListN.{length, drop, take, set, length-set, length-drop, drop_of_length-
 use lib.Seq.{take_all, drop-cons, get_or-set_same, drop-set-lt}
 use borrow.Author.Tests.{lt-ltb, le-ltb}
 use Rattle.chars.proofs.Tests.{lt-or-ge}
-use Rattle.emit.specs.Output.{Output, appended}
+use Rattle.emit.specs.declared.Output.{Output}
+use Rattle.emit.specs.Appends.{Appends}
 use Rattle.emit.specs.Decimal.{digits_from, decimal}
 
 -- ---- the digits that are stored, and those that are left
@@ -77,7 +78,7 @@ digits-part i left row d p h n l inv =
     ∙ digits_last i left row d p (omega arith) l inv
 
 pub digits_stored : (i left : ℕ) (row d : List ℕ) (o r : Output) → 1 ≤ i → i ≤ 20 → length row ≡ 20 → left < 10 → digits_from (i - 1) left (drop i row) ≡ d
-    → r ≡ appended o (take (20 - (i - 1)) (drop (i - 1) (set row (i - 1) (0x30 + left)))) → r ≡ appended o d
+    → Appends (take (20 - (i - 1)) (drop (i - 1) (set row (i - 1) (0x30 + left)))) o r → Appends d o r
 digits_stored i left row d o r p h n l inv e = rw (← digits-part i left row d p h n l inv) e
 
 -- ---- how many digits there may be

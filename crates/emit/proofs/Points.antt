@@ -5,7 +5,8 @@ use native.Mathlib.Omega.{arith}
 use mathlib.Core.List.{[], ◌∷◌}
 use Rattle.chars.specs.Utf8.{size, encode_one}
 use Rattle.chars.proofs.Encoding.{Sized, size_1, size_2, size_3, size_4, sized}
-use Rattle.emit.specs.Output.{Output, appended}
+use Rattle.emit.specs.declared.Output.{Output}
+use Rattle.emit.specs.Appends.{Appends}
 
 -- ---- a size, a bound and the bytes
 
@@ -61,16 +62,16 @@ module _ (n c : ℕ) (e : n ≡ size c) where
 
   -- the bytes stored are the code point's
   module _ (o r : Output) where
-    pub one_form : n ≡ 1 → r ≡ appended o (c ∷ []) → r ≡ appended o (encode_one c)
+    pub one_form : n ≡ 1 → Appends (c ∷ []) o r → Appends (encode_one c) o r
     one_form h q = rw (one c (sym e ∙ h)).1 q
 
-    pub two_form : (x : ℕ) → n ≡ 2 → x ≡ 0x80 + c % 64 → r ≡ appended o ((0xC0 + c / 64) ∷ x ∷ []) → r ≡ appended o (encode_one c)
+    pub two_form : (x : ℕ) → n ≡ 2 → x ≡ 0x80 + c % 64 → Appends ((0xC0 + c / 64) ∷ x ∷ []) o r → Appends (encode_one c) o r
     two_form x h p q = rw ((two c (sym e ∙ h)).1, ← p) q
 
     pub three-form : (x y : ℕ) → n ≡ 3 → x ≡ 0x80 + c / 64 % 64 → y ≡ 0x80 + c % 64
-        → r ≡ appended o ((0xE0 + c / 64 / 64) ∷ x ∷ y ∷ []) → r ≡ appended o (encode_one c)
+        → Appends ((0xE0 + c / 64 / 64) ∷ x ∷ y ∷ []) o r → Appends (encode_one c) o r
     three-form x y h p₁ p₂ q = rw ((three c (sym e ∙ h)).1, ← p₁, ← p₂) q
 
     pub four-form : (x y z : ℕ) → (n ≡ 1 → ⊥) → (n ≡ 2 → ⊥) → (n ≡ 3 → ⊥) → x ≡ 0x80 + c / 64 / 64 % 64 → y ≡ 0x80 + c / 64 % 64 → z ≡ 0x80 + c % 64
-        → r ≡ appended o ((0xF0 + c / 64 / 64 / 64) ∷ x ∷ y ∷ z ∷ []) → r ≡ appended o (encode_one c)
+        → Appends ((0xF0 + c / 64 / 64 / 64) ∷ x ∷ y ∷ z ∷ []) o r → Appends (encode_one c) o r
     four-form x y z h k l p₁ p₂ p₃ q = rw ((four c (λ q. h (e ∙ q)) (λ q. k (e ∙ q)) (λ q. l (e ∙ q))).1, ← p₁, ← p₂, ← p₃) q

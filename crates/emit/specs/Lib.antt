@@ -1,2 +1,3 @@
 pub mod Output
 pub mod Decimal
+pub mod Appends

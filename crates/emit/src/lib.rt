@@ -1,5 +1,4 @@
 // Bytes appended to a lent row: each is stored where there is room and counted in any case, so that one body counts and writes.
-// `at` is how many were appended before, and what a function answers is how many were appended then; with an empty row, `&mut out[..0]`, a body only counts.
 #![tactic(auto)]
 
 ghost use Rattle.std.specs.Prelude.{◌≡◌, [], ◌∷◌, ◌+◌, ◌%◌, ◌<◌, min};
@@ -7,50 +6,87 @@ ghost use Rattle.chars.specs.Utf8.{encode_one};
 ghost use Rattle.emit.specs.Output.{output, counted, appended};
 ghost use Rattle.emit.specs.Decimal.{decimal};
 
-// The lesser of two counts.
-pub fn least(a: usize, b: usize) -> usize
-    ensures { result ≡ min a b }
-{
-    if a < b {
-        return a;
-    }
-    b
+// Where bytes are appended: the row lent for them, and how many were appended so far. With an empty row, `&mut row[..0]`, they are only counted.
+#[derive(Drop)]
+pub struct Output<'a> {
+    row: &'a mut [u8],
+    at: usize,
 }
 
-// A count and n more, which stays at the largest count.
-fn counted(at: usize, n: usize) -> usize
-    ensures { result ≡ counted at n }
-{
-    at + least(n, 0xffff_ffff_ffff_ffff - at)
-}
+impl<'a> Output<'a> {
+    ghost use Rattle.emit.specs.Appends.{held, lent_row, Appends};
 
-// A byte.
-pub fn byte(out: &mut [u8], at: usize, b: u8) -> usize
-    ensures { output out.new result ≡ appended (output out.old at) (b ∷ []) }
-{
-    let end = counted(at, 1);
-    if out.len() <= at {
-        return end;
+    pub fn new(row: &'a mut [u8]) -> Output<'a>
+        ensures empty { held result ≡ output row.old 0 }
+        ensures same_row { lent_row result ≡ row.entry.ghost_name }
+    {
+        Output { row, at: 0 }
     }
-    out[at] = b;
-    end
-}
 
-// The bytes of a part of a text. Where there is no room nothing is left to do but to count them.
-pub fn bytes(out: &mut [u8], at: usize, part: &[u8]) -> usize
-    ensures { output out.new result ≡ appended (output out.old at) part.now }
-{
-    let end = counted(at, part.len());
-    if out.len() <= at {
-        return end;
+    // How many bytes were appended.
+    pub fn count(&self) -> usize
+        ensures { result ≡ (held self.now).at }
+    {
+        self.at
     }
-    let n = least(part.len(), out.len() - at);
-    let mut i = 0;
-    while i < n {
-        out[at + i] = part[i];
-        i += 1;
+
+    // A byte.
+    pub fn byte(&mut self, b: u8)
+        ensures { Appends (b ∷ []) self.old self.new }
+    {
+        let end = self.at.saturating_add(1);
+        if self.at < self.row.len() {
+            self.row[self.at] = b;
+        }
+        self.at = end;
     }
-    end
+
+    // The bytes of a part of a text.
+    pub fn bytes(&mut self, part: &[u8])
+        ensures { Appends part.now self.old self.new }
+    {
+        let end = self.at.saturating_add(part.len());
+        if self.at < self.row.len() {
+            let n = part.len().min(self.row.len() - self.at);
+            self.row[self.at..self.at + n].copy_from_slice(&part[..n]);
+        }
+        self.at = end;
+    }
+
+    // A code point in UTF-8.
+    pub fn code_point(&mut self, c: u32)
+        requires { c < 0x110000 }
+        ensures { Appends (encode_one c) self.old self.new }
+    {
+        match chars::len_utf8(c) {
+            1 => self.byte(c as u8),
+            2 => self.bytes(&[(0xC0 + c / 64) as u8, tail(c)]),
+            3 => self.bytes(&[(0xE0 + c / 64 / 64) as u8, tail(c / 64), tail(c)]),
+            _ => self.bytes(&[
+                (0xF0 + c / 64 / 64 / 64) as u8,
+                tail(c / 64 / 64),
+                tail(c / 64),
+                tail(c),
+            ]),
+        }
+    }
+
+    // A number in decimal.
+    pub fn decimal(&mut self, n: u64)
+        ensures { Appends (decimal n) self.old self.new }
+    {
+        let mut digits = [0u8; 20];
+        let mut i = 20;
+        let mut left = n;
+        while 10 <= left {
+            i -= 1;
+            digits[i] = (0x30 + left % 10) as u8;
+            left /= 10;
+        }
+        i -= 1;
+        digits[i] = (0x30 + left) as u8;
+        self.bytes(&digits[i..]);
+    }
 }
 
 // The lowest six bits of c as a continuation byte.
@@ -60,45 +96,12 @@ fn tail(c: u32) -> u8
     (0x80 + c % 64) as u8
 }
 
-// A code point in UTF-8.
-pub fn code_point(out: &mut [u8], at: usize, c: u32) -> usize
-    requires { c < 0x110000 }
-    ensures { output out.new result ≡ appended (output out.old at) (encode_one c) }
+// The lesser of two counts.
+pub fn least(a: usize, b: usize) -> usize
+    ensures { result ≡ min a b }
 {
-    let n = chars::len_utf8(c);
-    if n == 1 {
-        return byte(out, at, c as u8);
+    if a < b {
+        return a;
     }
-    if n == 2 {
-        let form = [(0xC0 + c / 64) as u8, tail(c)];
-        return bytes(out, at, &form);
-    }
-    if n == 3 {
-        let form = [(0xE0 + c / 64 / 64) as u8, tail(c / 64), tail(c)];
-        return bytes(out, at, &form);
-    }
-    let form = [
-        (0xF0 + c / 64 / 64 / 64) as u8,
-        tail(c / 64 / 64),
-        tail(c / 64),
-        tail(c),
-    ];
-    bytes(out, at, &form)
-}
-
-// A number in decimal.
-pub fn decimal(out: &mut [u8], at: usize, n: u64) -> usize
-    ensures { output out.new result ≡ appended (output out.old at) (decimal n) }
-{
-    let mut digits = [0u8; 20];
-    let mut i = 20;
-    let mut left = n;
-    while 10 <= left {
-        i -= 1;
-        digits[i] = (0x30 + left % 10) as u8;
-        left = left / 10;
-    }
-    i -= 1;
-    digits[i] = (0x30 + left) as u8;
-    bytes(out, at, &digits[i..])
+    b
 }

@@ -1,6 +1,6 @@
 -- Strings: what each character between the quotes gives is what the string's value gives, escaped again.
 use mathlib.Core.Path.{◌≡◌, refl, sym, ap, subst, ◌∙◌}
-use Prim.Native.Nat.{ℕ, suc, ◌+◌}
+use Prim.Native.Nat.{ℕ, suc}
 use native.Mathlib.Omega.{arith}
 use mathlib.Core.Bool.{Bool, true, false, not, ◌&&◌, false≢true}
 use mathlib.Core.Option.{Option, none, some}
@@ -15,27 +15,29 @@ use Rattle.chars.proofs.Laws.{char_decode, invalid_decode, end-decode}
 use Rattle.lexer.specs.Tokens.{escape, Inner, ends, breaks, escapes, stands, inner_of, Inside, closed, unclosed, put, pass, inside, unescape}
 use Rattle.language.specs.Plain.{Piece, say, escaped, in_string, escaped_text}
 use Rattle.language.proofs.Every.{by_test}
-use Rattle.emit.specs.Output.{Output}
-use Rattle.pieces.specs.Writes.{Adds, Writes}
+use Rattle.emit.specs.declared.Output.{Output}
+use Rattle.emit.specs.Appends.{Appends}
+use Rattle.pieces.specs.Writes.{Writes}
 use Rattle.pieces.specs.Strings.{is_escape, rewritten, Whole}
 use Rattle.pieces.proofs.Chain.{known, same, ◌▹◌, Goes, goes_start, goes_on, goes_end}
+use Rattle.pieces.proofs.Chain as C
 
 -- ---- one character, escaped
 
 module _ (c : ℕ) (o r : Output) where
-  pub in_quote : c ≡ 0x22 → Adds (0x5C ∷ 0x22 ∷ []) o r → Writes (in_string (escaped c) c) o r
+  pub in_quote : c ≡ 0x22 → Appends (0x5C ∷ 0x22 ∷ []) o r → Writes (in_string (escaped c) c) o r
   unfolding encode in_string escaped
   in_quote e a = rw e (known (0x5C ∷ 0x22 ∷ []) (λ rest. refl) a)
 
-  pub in_slash : c ≡ 0x5C → Adds (0x5C ∷ 0x5C ∷ []) o r → Writes (in_string (escaped c) c) o r
+  pub in_slash : c ≡ 0x5C → Appends (0x5C ∷ 0x5C ∷ []) o r → Writes (in_string (escaped c) c) o r
   unfolding encode in_string escaped
   in_slash e a = rw e (known (0x5C ∷ 0x5C ∷ []) (λ rest. refl) a)
 
-  pub in_feed : c ≡ 10 → Adds (0x5C ∷ 0x6E ∷ []) o r → Writes (in_string (escaped c) c) o r
+  pub in_feed : c ≡ 10 → Appends (0x5C ∷ 0x6E ∷ []) o r → Writes (in_string (escaped c) c) o r
   unfolding encode in_string escaped
   in_feed e a = rw e (known (0x5C ∷ 0x6E ∷ []) (λ rest. refl) a)
 
-  pub in_tab : c ≡ 9 → Adds (0x5C ∷ 0x74 ∷ []) o r → Writes (in_string (escaped c) c) o r
+  pub in_tab : c ≡ 9 → Appends (0x5C ∷ 0x74 ∷ []) o r → Writes (in_string (escaped c) c) o r
   unfolding encode in_string escaped
   in_tab e a = rw e (known (0x5C ∷ 0x74 ∷ []) (λ rest. refl) a)
 
@@ -89,12 +91,12 @@ other-written c h rest = go (escape c) refl
     go none e = rw (e, rewritten)
     go (some v) e = absurd (false≢true (sym (sym (ap (λ (x : Option ℕ). elim x [ some v ↦ true | none ↦ false ]) e) ∙ h)))
 
-module _ (c : ℕ) (o a r : Output) (w : Adds (0x5C ∷ []) o a) (t : Bool) (q : t ≡ is_escape c) where
+module _ (c : ℕ) (o a r : Output) (w : Appends (0x5C ∷ []) o a) (t : Bool) (q : t ≡ is_escape c) where
   pub behind-escape : t ≡ true → Writes (λ rest. c ∷ rest) a r → Writes (rewritten true c) o r
   unfolding encode
   behind-escape e u = same (escape-written c (sym q ∙ e)) (known {p = say "\\"} (0x5C ∷ []) (λ rest. refl) w ▹ u)
 
-  pub behind-other : (b : Output) → t ≡ false → Adds (0x5C ∷ []) a b → Writes (in_string (escaped c) c) b r → Writes (rewritten true c) o r
+  pub behind-other : (b : Output) → t ≡ false → Appends (0x5C ∷ []) a b → Writes (in_string (escaped c) c) b r → Writes (rewritten true c) o r
   unfolding encode
   behind-other b e v u =
       same (other-written c (sym q ∙ e)) (known {p = say "\\"} (0x5C ∷ []) (λ rest. refl) w ▹ known {p = say "\\"} (0x5C ∷ []) (λ rest. refl) v ▹ u)
@@ -106,14 +108,18 @@ rewritten-behind s c o r e w = rw e w
 
 pub rewritten-waits : (s : Bool) (c : ℕ) (o : Output) → s ≡ false → c ≡ 0x5C → Writes (rewritten s c) o o
 unfolding rewritten
-rewritten-waits s c o e h = rw (e, h) (record { written = λ rest. refl })
+rewritten-waits s c o e h = rw (e, h) (C.none o)
 
 pub rewritten-plain : (s : Bool) (c : ℕ) (o r : Output) → s ≡ false → (c ≡ 0x5C → ⊥) → Writes (in_string (escaped c) c) o r → Writes (rewritten s c) o r
 unfolding rewritten
 rewritten-plain s c o r e h w = rw e (same (λ rest. rw (ne_eqb c 0x5C h)) w)
 
-pub waits-not : (s : Bool) (c : ℕ) → s ≡ false → eqb c 0x5C ≡ (not s && eqb c 0x5C)
-waits-not s c e = rw e
+-- a backslash waits unless it stands behind one that waits
+pub waits_then : (s b : Bool) → not s ≡ true → b ≡ (not s && b)
+waits_then s b e = rw e
+
+pub waits_else : (s b : Bool) → not s ≡ false → not s ≡ (not s && b)
+waits_else s b e = rw e
 
 -- ---- all characters of a string
 
@@ -253,8 +259,16 @@ module _ (part : List ℕ) (i : ℕ) (d : Decoded) (s : d ≡ decoded_at i (fron
     text_done : decode (drop i part) ≡ [] → Writes p₀ o₀ o
     text_done e = goes_end (λ rest. ap (λ cs. escaped_text (value_from b cs) rest) e ∙ value_none b (subst (ClosedFrom b) e h) rest) g
 
-    pub text_invalid : d ≡ Invalid → Writes p₀ o₀ o
+    text_invalid : d ≡ Invalid → Writes p₀ o₀ o
     text_invalid e = text_done (invalid_decode part i d s e)
 
-    pub text_end : d ≡ End → Writes p₀ o₀ o
+    text_end : d ≡ End → Writes p₀ o₀ o
     text_end e = text_done (end-decode part i d s e)
+
+    pub text_over : ((c n : ℕ) → d ≡ Char c n → ⊥) → Writes p₀ o₀ o
+    text_over k = go d refl
+      where
+        go : (x : Decoded) → d ≡ x → Writes p₀ o₀ o
+        go (Char c n) e = absurd (k c n e)
+        go Invalid e = text_invalid e
+        go End e = text_end e

@@ -1,4 +1,4 @@
-// The smallest pieces of the plain form: bytes, characters, symbols, what parts the members of a list, and the text of a string.
+// The smallest pieces of the plain form: characters, symbols, what parts the members of a list, and the text of a string.
 // Each is appended to a lent output as crate `emit` does: stored where there is room, counted in any case.
 #![tactic(auto)]
 
@@ -6,138 +6,96 @@ ghost use Rattle.std.specs.Prelude.{true, not, ◌&&◌, ◌≡◌, ◌∷◌, e
 ghost use Rattle.chars.specs.Utf8.{scalar, decode};
 ghost use Rattle.lexer.specs.Tokens.{unescape};
 ghost use Rattle.language.specs.Plain.{say, only, symbol, escaped, in_string, escaped_text};
-ghost use Rattle.emit.specs.Output.{output};
-ghost use Rattle.pieces.specs.Writes.{Adds, Writes};
+ghost use Rattle.pieces.specs.Writes.{Writes};
 ghost use Rattle.pieces.specs.Strings.{is_escape, rewritten, Whole};
 
 use chars::Decoded;
-
-// Bytes as they are.
-pub fn say(out: &mut [u8], at: usize, bytes: &[u8]) -> usize
-    ensures { Adds bytes.now (output out.old at) (output out.new result) }
-{
-    emit::bytes(out, at, bytes)
-}
+use emit::Output;
 
 // A character.
-pub fn character(out: &mut [u8], at: usize, c: u32) -> usize
+pub fn character(out: &mut Output, c: u32)
     requires { scalar c ≡ true }
-    ensures { Writes (λ rest. c ∷ rest) (output out.old at) (output out.new result) }
+    ensures { Writes (λ rest. c ∷ rest) out.old out.new }
 {
-    emit::code_point(out, at, c)
+    out.code_point(c);
 }
 
 // A symbol, which is always quoted.
-pub fn symbol(out: &mut [u8], at: usize, c: u32) -> usize
+pub fn symbol(out: &mut Output, c: u32)
     requires { scalar c ≡ true }
-    ensures { Writes (symbol c) (output out.old at) (output out.new result) }
+    ensures { Writes (symbol c) out.old out.new }
 {
-    let a = say(out, at, b"'");
-    let b = character(out, a, c);
-    say(out, b, b"'")
+    out.bytes(b"'");
+    character(out, c);
+    out.bytes(b"'");
 }
 
 // A comma before every member of a list but the first.
-pub fn comma(out: &mut [u8], at: usize, i: u32) -> usize
-    ensures { Writes (only (ltb 0 i) (say ", ")) (output out.old at) (output out.new result) }
+pub fn comma(out: &mut Output, i: u32)
+    ensures { Writes (only (ltb 0 i) (say ", ")) out.old out.new }
 {
     if 0 < i {
-        return say(out, at, b", ");
+        out.bytes(b", ");
     }
-    at
 }
 
 // A character of a string, escaped where it has to be.
-fn in_string(out: &mut [u8], at: usize, c: u32) -> usize
+fn in_string(out: &mut Output, c: u32)
     requires { scalar c ≡ true }
-    ensures { Writes (in_string (escaped c) c) (output out.old at) (output out.new result) }
+    ensures { Writes (in_string (escaped c) c) out.old out.new }
 {
-    if c == 0x22 {
-        return say(out, at, b"\\\"");
+    match c {
+        0x22 => out.bytes(b"\\\""),
+        0x5C => out.bytes(b"\\\\"),
+        10 => out.bytes(b"\\n"),
+        9 => out.bytes(b"\\t"),
+        _ => character(out, c),
     }
-    if c == 0x5C {
-        return say(out, at, b"\\\\");
-    }
-    if c == 10 {
-        return say(out, at, b"\\n");
-    }
-    if c == 9 {
-        return say(out, at, b"\\t");
-    }
-    character(out, at, c)
 }
 
 // Whether a character makes an escape with a backslash before it.
 fn is_escape(c: u32) -> bool
     ensures { result ≡ is_escape c }
 {
-    if c == 0x22 {
-        return true;
-    }
-    if c == 0x5C {
-        return true;
-    }
-    if c == 0x6E {
-        return true;
-    }
-    c == 0x74
+    matches!(c, 0x22 | 0x5C | 0x6E | 0x74)
 }
 
 // A character behind a backslash: an escape is written as it stands, else the backslash is a character of its own.
-fn behind_slash(out: &mut [u8], at: usize, c: u32) -> usize
+fn behind_slash(out: &mut Output, c: u32)
     requires { scalar c ≡ true }
-    ensures { Writes (rewritten true c) (output out.old at) (output out.new result) }
+    ensures { Writes (rewritten true c) out.old out.new }
 {
-    let a = say(out, at, b"\\");
+    out.bytes(b"\\");
     if is_escape(c) {
-        return character(out, a, c);
+        return character(out, c);
     }
-    let b = say(out, a, b"\\");
-    in_string(out, b, c)
+    out.bytes(b"\\");
+    in_string(out, c);
 }
 
 // A character between the quotes as it is written again. A backslash waits for the character behind it.
-fn rewritten(out: &mut [u8], at: usize, slash: bool, c: u32) -> usize
+fn rewritten(out: &mut Output, slash: bool, c: u32)
     requires { scalar c ≡ true }
-    ensures { Writes (rewritten slash c) (output out.old at) (output out.new result) }
+    ensures { Writes (rewritten slash c) out.old out.new }
 {
     if slash {
-        return behind_slash(out, at, c);
+        return behind_slash(out, c);
     }
-    if c == 0x5C {
-        return at;
+    if c != 0x5C {
+        in_string(out, c);
     }
-    in_string(out, at, c)
-}
-
-// Whether the next character stands behind a backslash that waits for it.
-fn waits(slash: bool, c: u32) -> bool
-    ensures { result ≡ (not slash && eqb c 0x5C) }
-{
-    if slash {
-        return false;
-    }
-    c == 0x5C
 }
 
 // The bytes between the quotes: their escapes are undone and made again.
-pub fn string_text(out: &mut [u8], at: usize, part: &[u8]) -> usize
+pub fn string_text(out: &mut Output, part: &[u8])
     requires { Whole (decode part.now) }
-    ensures { Writes (escaped_text (unescape (decode part.now))) (output out.old at) (output out.new result) }
+    ensures { Writes (escaped_text (unescape (decode part.now))) out.old out.new }
 {
-    let mut end = at;
     let mut i = 0;
     let mut slash = false;
-    loop {
-        let d = chars::char_at(part, i);
-        match d {
-            Decoded::Char(c, next) => {
-                end = rewritten(out, end, slash, c);
-                slash = waits(slash, c);
-                i = next;
-            }
-            Decoded::Invalid => return end,
-            Decoded::End => return end,
-        }
+    while let Decoded::Char(c, next) = chars::char_at(part, i) {
+        rewritten(out, slash, c);
+        slash = !slash && c == 0x5C;
+        i = next;
     }
 }
