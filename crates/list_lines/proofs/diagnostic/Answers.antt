@@ -1,0 +1,14 @@
+-- The pieces one after the other.
+use Rattle.std.proofs.Common.{ap, ◌∙◌}
+use Rattle.lexer.specs.Tokens.{Span}
+use Rattle.list_lines.specs.Listing.{place, related, position, diagnostic}
+use Rattle.list_lines.proofs.Chain.{said, counted, same, ◌▹◌}
+use Rattle.list_lines.proofs.diagnostic.Goals as goal
+
+pub returns : goal.returns
+unfolding diagnostic
+returns c =
+    let at = c.place_at-at.ensures in
+    said c.bytes.ensures ▹ counted (c.into.ensures ∙ c.word.ensures) c.decimal.ensures ▹ said c.bytes-2.ensures ▹ same (ap place at) c.place.ensures
+    ▹ said c.bytes-3.ensures ▹ same (ap related c.place_at.ensures) c.related.ensures
+    ▹ said c.bytes-4.ensures ▹ same (ap (λ (p : Span). position c.args.text.now p.start) at) c.position_of.ensures ▹ said c.bytes-5.ensures
