@@ -11,22 +11,11 @@ ghost use Rattle.list_lines.specs.Puts.{Puts};
 
 use emit::Output;
 use lexer::names::part_of;
-use machine::{Counts, Span};
+use machine::{Head, Span};
 use positions::line_column;
-use sheet_words::{after, record_at, word};
+use sheet_words::{after, place_at, record_at, word};
 
 // ---- names and lists
-
-// The place in the words from an index on.
-fn place_at(words: &[u32], i: usize) -> Span
-    requires { i < usize.MAX }
-    ensures { span_in result ≡ place_at words.now i }
-{
-    Span {
-        start: word(words, i),
-        end: word(words, i + 1),
-    }
-}
 
 // The bytes at a place of the text.
 fn named(out: &mut Output, text: &[u8], at: Span)
@@ -216,9 +205,10 @@ fn transition_lines(out: &mut Output, text: &[u8], n: u32, rules: &[u32])
 }
 
 // The lines of a machine, from the sections of its sheet.
-fn machine_lines(out: &mut Output, text: &[u8], n: Counts, start: Span, sheet: &[u32])
-    ensures { Puts (machine_lines text.now (counts_in n) (span_in start) sheet.now) out.old out.new }
+fn machine_lines(out: &mut Output, text: &[u8], head: &Head, sheet: &[u32])
+    ensures { Puts (machine_lines text.now (counts_in head.now.counts) (span_in head.now.start) sheet.now) out.old out.new }
 {
+    let n = head.counts;
     let sigma = after(sheet, 3 * n.states as usize);
     let gamma = after(sigma, 3 * n.sigma as usize);
     let rules = after(
@@ -229,7 +219,7 @@ fn machine_lines(out: &mut Output, text: &[u8], n: Counts, start: Span, sheet: &
             + 2 * n.trailing as usize,
     );
     out.bytes(b"diagnostics=0\n");
-    state_lines(out, text, n.states, start, sheet);
+    state_lines(out, text, n.states, head.start, sheet);
     symbol_lines(out, n.sigma, sigma, n.gamma, gamma);
     transition_lines(out, text, n.rules, rules);
 }
@@ -265,9 +255,10 @@ pub fn diagnosed(out: &mut Output, text: &[u8], n: usize, log: &[u32])
 }
 
 // All that is printed for a machine.
-pub fn machine(out: &mut Output, text: &[u8], n: Counts, start: Span, sheet: &[u32])
-    ensures { Puts (bytes_line text.now ⨾ machine_lines text.now (counts_in n) (span_in start) sheet.now) out.old out.new }
+pub fn machine(out: &mut Output, text: &[u8], head: &Head, sheet: &[u32])
+    ensures { Puts (bytes_line text.now
+        ⨾ machine_lines text.now (counts_in head.now.counts) (span_in head.now.start) sheet.now) out.old out.new }
 {
     bytes_line(out, text);
-    machine_lines(out, text, n, start, sheet);
+    machine_lines(out, text, head, sheet);
 }

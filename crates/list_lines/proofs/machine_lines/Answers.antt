@@ -7,7 +7,7 @@ use Rattle.list_lines.proofs.machine_lines.Goals as goal
 pub returns : goal.returns
 unfolding machine_lines
 returns c =
-    let n = c.args.n in
+    let n = c.args.head.now.counts in
     let sigma = c.after-sigma.ensures in
     let gamma = c.after-gamma.ensures ∙ ap (drop (3 * n.sigma)) sigma in
     let rules = c.after-rules.ensures ∙ ap (drop (3 * n.gamma + 2 * n.finals + 2 * n.header + 2 * n.trailing)) gamma in
