@@ -10,8 +10,8 @@ ghost use Rattle.rule_form.specs.Rules.{rule_left, rule_right};
 ghost use Rattle.rule_form.specs.Formed.{RuleFormed};
 
 use emit::Output;
-use form_parts::{comment_lines, directions, own_comment, place_at, symbols, verbatim};
-use sheet_words::{after, record_at, word};
+use form_parts::{comment_lines, directions, own_comment, symbols, verbatim};
+use sheet_words::{after, place_at, record_at, word};
 
 // From, and what is read: `δ(a, ('x'))`.
 fn rule_left(out: &mut Output, text: &[u8], words: &[u32])
