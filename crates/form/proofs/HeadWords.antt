@@ -5,12 +5,10 @@ use native.Mathlib.Omega.{arith}
 use mathlib.Core.Logic.{⊎_elim}
 use mathlib.Core.Bool.{Bool, true, false}
 use mathlib.Core.List.{List, [], ◌∷◌, ◌++◌, map}
-use lib.ListN.{length}
 use borrow.Author.Tests.{lt-ltb, le-ltb}
 use Rattle.chars.specs.Utf8.{scalar, encode_one, encode}
 use Rattle.chars.proofs.Tests.{lt-or-ge}
 use Rattle.language.specs.Layout.{Head}
-use Rattle.language.specs.Machine.{as_binary}
 use Rattle.language.specs.Plain.{say, commas, verbatim, symbol, string, decimal_from, decimal, kind_name, decoder, name_set, symbol_set, final_names}
 use Rattle.language.specs.Agreement.{groups, characters_at, string_at, state_in, text_in}
 use Rattle.machine.specs.declared.Kind.{Kind}
@@ -20,17 +18,16 @@ use Rattle.machine.specs.declared.BitOrder.TheVariants.{Lsb, Msb}
 use Rattle.machine.specs.declared.Decoder.{Decoder}
 use Rattle.machine.specs.declared.Decoder.TheVariants.{Word, Unary, Binary}
 use Rattle.machine.specs.declared.Span as D
-use Rattle.emit.specs.Output.{output, appended}
 use Rattle.emit.specs.declared.Output.{Output}
 use Rattle.emit.specs.Decimal as E
 use Rattle.emit.proofs.Digits.{digits-rest, digits-any}
 use Rattle.emit.specs.Appends.{Appends}
 use Rattle.pieces.specs.Writes.{Writes}
-use Rattle.machine.specs.Head.{span_in, kind_in, order_in, decoder_in}
+use Rattle.machine.specs.Head.{span_in, kind_in, decoder_in}
 use Rattle.form.specs.Sections.{head_lines, states_line, symbols_line, blank_line, start_line, finals_line}
 use Rattle.form_parts.specs.Places.{column}
 use Rattle.form.specs.WellFormed.{DecoderFormed}
-use Rattle.pieces.proofs.Chain.{adds, known, spoken, same, none, ◌▹◌}
+use Rattle.pieces.proofs.Chain.{known, spoken, none, ◌▹◌}
 
 -- ---- the number of tapes
 
@@ -47,10 +44,10 @@ digits-encode (suc k) n rest =
     (λ g. rw (le-ltb n 10 g, decimal_from, E.digits_from) (digits-encode k (n / 10) ((0x30 + n % 10) ∷ rest) ∙ ap (E.digits_from k (n / 10)) (ascii (0x30 + n % 10) rest (omega arith))))
     (lt-or-ge n 10)
 
-pub number-written : (row : List ℕ) (at n : ℕ) (r : Output) → length row < 18446744073709551616 → n < 256 → r ≡ appended (output row at) (E.decimal n) → Writes (decimal n) (output row at) r
+pub number-written : (n m : ℕ) (o r : Output) → n < 256 → m ≡ n → Appends (E.decimal m) o r → Writes (decimal n) o r
 unfolding decimal E.decimal
-number-written row at n r h b e =
-    known (E.decimal n) (λ rest. digits-encode 2 n rest ∙ digits-rest 2 n (encode rest) ∙ ap (λ l. l ++ encode rest) (sym (digits-any 17 2 n [] (omega arith)))) (adds row at (E.decimal n) r h e)
+number-written n m o r b e a =
+    known (E.decimal n) (λ rest. digits-encode 2 n rest ∙ digits-rest 2 n (encode rest) ∙ ap (λ l. l ++ encode rest) (sym (digits-any 17 2 n [] (omega arith)))) (rw e at a)
 
 -- ---- kind and output
 
@@ -71,15 +68,6 @@ module _ (k : Kind) (o r : Output) where
   unfolding encode
   kind_beaver e a = rw e (spoken "beaver" (λ rest. refl) a)
 
-module _ (b : BitOrder) (o r : Output) where
-  pub order_lsb : b ≡ Lsb → Appends (say "binary lsb" []) o r → Writes (decoder (as_binary (order_in b))) o r
-  unfolding encode
-  order_lsb e a = rw e (spoken "binary lsb" (λ rest. refl) a)
-
-  pub order_msb : b ≡ Msb → Appends (say "binary msb" []) o r → Writes (decoder (as_binary (order_in b))) o r
-  unfolding encode
-  order_msb e a = rw e (spoken "binary msb" (λ rest. refl) a)
-
 pub decoder-scalar : (d : Decoder) (c : ℕ) → d ≡ Unary c → DecoderFormed (decoder_in d) → scalar c ≡ true
 decoder-scalar d c e h = subst (λ x. DecoderFormed (decoder_in x)) e h
 
@@ -92,8 +80,14 @@ module _ (d : Decoder) (o r : Output) where
   unfolding encode
   decoder_unary c a e u v = rw e (spoken "unary " (λ rest. refl) u ▹ v)
 
-  pub decoder_binary : (b : BitOrder) → d ≡ Binary b → Writes (decoder (as_binary (order_in b))) o r → Writes (decoder (decoder_in d)) o r
-  decoder_binary b e w = rw e w
+  module _ (b : BitOrder) (e : d ≡ Binary b) where
+    pub decoder_lsb : b ≡ Lsb → Appends (say "binary lsb" []) o r → Writes (decoder (decoder_in d)) o r
+    unfolding encode
+    decoder_lsb f a = rw (e, f) (spoken "binary lsb" (λ rest. refl) a)
+
+    pub decoder_msb : b ≡ Msb → Appends (say "binary msb" []) o r → Writes (decoder (decoder_in d)) o r
+    unfolding encode
+    decoder_msb f a = rw (e, f) (spoken "binary msb" (λ rest. refl) a)
 
 -- ---- a line if its part is declared
 

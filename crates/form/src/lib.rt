@@ -5,7 +5,7 @@
 ghost use Rattle.std.specs.Prelude.{true, ◌≡◌, map};
 ghost use Rattle.chars.specs.Utf8.{scalar, scalars, encode};
 ghost use Rattle.language.specs.Machine.{as_binary};
-ghost use Rattle.language.specs.Plain.{say, decimal, kind_name, decoder, plain};
+ghost use Rattle.language.specs.Plain.{say, decimal, kind_name, decoder, pieces, plain};
 ghost use Rattle.language.specs.Agreement.{groups, records, rule_in, content_of_answer};
 ghost use Rattle.machine.specs.Head.{span_in, kind_in, order_in, decoder_in, head_in};
 ghost use Rattle.emit.specs.Output.{output, appended};
@@ -137,7 +137,14 @@ fn finals_line(out: &mut Output, text: &[u8], n: u32, words: &[u32])
 }
 
 // All that is said only if declared, and the final states.
-fn declared_lines(out: &mut Output, text: &[u8], head: Head, states: &[u32], sigma: &[u32], gamma: &[u32])
+fn declared_lines(
+    out: &mut Output,
+    text: &[u8],
+    head: Head,
+    states: &[u32],
+    sigma: &[u32],
+    gamma: &[u32],
+)
     requires { DeclaredFormed text.now (head_in head) states.now sigma.now gamma.now }
     ensures { Writes (declared_lines text.now (head_in head) states.now sigma.now gamma.now) out.old out.new }
 {
@@ -153,10 +160,10 @@ fn declared_lines(out: &mut Output, text: &[u8], head: Head, states: &[u32], sig
 
 // ---- the whole form
 
-// The plain form of the machine that a reading call answered with, at the front of `out` as far as there is room; its length.
-pub fn plain_form(head: Head, sheet: &[u32], text: &[u8], out: &mut [u8]) -> usize
+// All lines of the form.
+fn all_lines(out: &mut Output, head: Head, sheet: &[u32], text: &[u8])
     requires { WellFormed (answer head sheet.now text.now) }
-    ensures { output out.new result ≡ appended (output out.old 0) (encode (plain (content_of_answer (answer head sheet.now text.now)))) }
+    ensures { Writes (pieces (content_of_answer (answer head sheet.now text.now))) out.old out.new }
 {
     let n = head.counts;
     let sigma = after(sheet, 3 * n.states as usize);
@@ -164,11 +171,19 @@ pub fn plain_form(head: Head, sheet: &[u32], text: &[u8], out: &mut [u8]) -> usi
     let header = after(gamma, 3 * n.gamma as usize + 2 * n.finals as usize);
     let trailing = after(header, 2 * n.header as usize);
     let records = after(trailing, 2 * n.trailing as usize);
+    comment_lines(out, text, header, n.header);
+    head_lines(out, text, head);
+    declared_lines(out, text, head, sheet, sigma, gamma);
+    rules(out, text, records, n.rules);
+    comment_lines(out, text, trailing, n.trailing);
+}
+
+// The plain form of the machine that a reading call answered with, at the front of `out` as far as there is room; its length.
+pub fn plain_form(head: Head, sheet: &[u32], text: &[u8], out: &mut [u8]) -> usize
+    requires { WellFormed (answer head sheet.now text.now) }
+    ensures { output out.new result ≡ appended (output out.old 0) (encode (plain (content_of_answer (answer head sheet.now text.now)))) }
+{
     let mut form = Output::new(out);
-    comment_lines(&mut form, text, header, n.header);
-    head_lines(&mut form, text, head);
-    declared_lines(&mut form, text, head, sheet, sigma, gamma);
-    rules(&mut form, text, records, n.rules);
-    comment_lines(&mut form, text, trailing, n.trailing);
+    all_lines(&mut form, head, sheet, text);
     form.count()
 }

@@ -2,11 +2,11 @@
 // Each function appends a piece of the form to a lent output, as crate `emit` does: stored where there is room, counted in any case.
 #![tactic(auto)]
 
-ghost use Rattle.std.specs.Prelude.{true, ◌&&◌, ◌≡◌, map, ◌+◌, ◌<◌, ◌≤◌, eqb};
+ghost use Rattle.std.specs.Prelude.{true, ◌&&◌, ◌≡◌, map, ◌<◌, ◌≤◌, eqb};
 ghost use Rattle.chars.specs.Utf8.{scalars};
 ghost use Rattle.language.specs.Plain.{each, commas, verbatim, symbol, direction, string, comment_line, comment, own_comment, final_names};
-ghost use Rattle.language.specs.Agreement.{groups, place_at, dir_of, characters_at, string_at, comment_at, state_in, text_in};
-ghost use Rattle.machine.specs.Head.{span_of, span_in};
+ghost use Rattle.language.specs.Agreement.{groups, dir_of, characters_at, string_at, comment_at, state_in, text_in};
+ghost use Rattle.machine.specs.Head.{span_in};
 ghost use Rattle.pieces.specs.Writes.{Writes};
 ghost use Rattle.pieces.specs.Strings.{Whole};
 ghost use Rattle.form_parts.specs.Places.{Every, bytes_at, Utf8At, NameIn, column};
@@ -14,20 +14,9 @@ ghost use Rattle.form_parts.specs.Places.{Every, bytes_at, Utf8At, NameIn, colum
 use emit::Output;
 use machine::Span;
 use pieces::{comma, string_text, symbol};
-use sheet_words::word;
+use sheet_words::{place_at, word};
 
-// ---- parts of the sheet and of the text
-
-// The place that stands in two words.
-pub fn place_at(words: &[u32], i: usize) -> Span
-    requires { i + 1 < 18446744073709551616 }
-    ensures { result ≡ span_of (place_at words.now i) }
-{
-    Span {
-        start: word(words, i),
-        end: word(words, i + 1),
-    }
-}
+// ---- parts of the text
 
 // The bytes at a place.
 fn part(text: &[u8], p: Span) -> &[u8]

@@ -3,55 +3,64 @@ use mathlib.Core.Path.{◌≡◌, refl, sym, ap, ◌∙◌}
 use Prim.Native.Nat.{ℕ, ◌≤◌, ◌<◌}
 use mathlib.Core.List.{List, [], ◌∷◌}
 use lib.Dec.{ltb}
-use lib.ListN.{length}
 use borrow.Author.Tests.{lt-ltb, le-ltb}
 use Rattle.language.specs.Plain.{Piece, nothing, only, verbatim, ◌⨾◌}
-use Rattle.emit.specs.Output.{Output, output, appended}
+use Rattle.emit.specs.Output.{appended}
 use Rattle.emit.specs.Decimal.{decimal}
+use Rattle.emit.specs.declared.Output.{Output}
+use Rattle.emit.specs.Appends.{held, lent_row, Appends}
 use Rattle.emit.proofs.Appends.{appended-append}
 use Rattle.emit.proofs.Digits.{digits-rest}
 use Rattle.list_lines.specs.Listing.{number}
 use Rattle.list_lines.specs.Puts.{Puts}
 
--- bytes that were appended to a row
-pub bytes-put : (row : List ℕ) (at : ℕ) (bytes : List ℕ) (after : Output) → length row < 18446744073709551616 → after ≡ appended (output row at) bytes
-    → Puts (verbatim bytes) (output row at) after
-bytes-put row at bytes after h e = record { put = λ rest. ap (λ o. appended o rest) e ∙ appended-append (output row at) h bytes rest }
+-- bytes that were appended
+pub said : {bytes : List ℕ} {o r : Output} → Appends bytes o r → Puts (verbatim bytes) o r
+said {bytes} {o} a = record { put = λ rest. ap (λ x. appended x rest) a.appends ∙ appended-append (held o) a.short bytes rest; same_row = a.same_row }
 
-pub number_put : (row : List ℕ) (at n : ℕ) (after : Output) → length row < 18446744073709551616 → after ≡ appended (output row at) (decimal n) → Puts (number n) (output row at) after
+-- a number that was appended in decimal
+pub counted : {n m : ℕ} {o r : Output} → n ≡ m → Appends (decimal n) o r → Puts (number m) o r
 unfolding number decimal
-number_put row at n after h e =
-    record { put = λ rest. (bytes-put row at (decimal n) after h e).put rest ∙ ap (appended (output row at)) (sym (digits-rest 19 n rest)) }
+counted {n} {m} {o} {r} e a = rw (← e) (record { put = λ rest. (said a).put rest ∙ ap (appended (held o)) (sym (digits-rest 19 n rest)); same_row = a.same_row })
 
 -- nothing was printed
-pub none : (o : Output) → Puts nothing o o
-none o = record { put = λ rest. refl }
+pub none : {o : Output} → Puts nothing o o
+none = record { put = λ rest. refl; same_row = refl }
 
 -- one piece and then another
 infixr 20 ◌▹◌
 pub ◌▹◌ : {p q : Piece} {o a r : Output} → Puts p o a → Puts q a r → Puts (p ⨾ q) o r
-◌▹◌ {q = q} u v = record { put = λ rest. v.put rest ∙ u.put (q rest) }
+◌▹◌ {q = q} u v = record { put = λ rest. v.put rest ∙ u.put (q rest); same_row = v.same_row ∙ u.same_row }
+
+-- another name for the same piece
+pub same : {p q : Piece} {o r : Output} → p ≡ q → Puts p o r → Puts q o r
+same e u = rw e at u
 
 -- a byte before every member but the first
-pub separator-put : (i sep : ℕ) (o r : Output) → 0 < i → Puts (verbatim (sep ∷ [])) o r → Puts (only (ltb 0 i) (λ rest. sep ∷ rest)) o r
-separator-put i sep o r h a = rw (lt-ltb 0 i h) a
+pub separated : {i sep : ℕ} {o r : Output} → 0 < i → Appends (sep ∷ []) o r → Puts (only (ltb 0 i) (λ rest. sep ∷ rest)) o r
+separated {i} h a = rw (lt-ltb 0 i h) (said a)
 
-pub separator-none : (i sep : ℕ) (o : Output) → i ≤ 0 → Puts (only (ltb 0 i) (λ rest. sep ∷ rest)) o o
-separator-none i sep o h = rw (le-ltb 0 i h) (none o)
+pub not_separated : {i : ℕ} (sep : ℕ) {o : Output} → i ≤ 0 → Puts (only (ltb 0 i) (λ rest. sep ∷ rest)) o o
+not_separated {i} sep h = rw (le-ltb 0 i h) none
 
 -- ---- what is still to be printed
 
 -- to go on with p from o is to print p₀ from o₀
 pub record Goes (p : Piece) (o : Output) (p₀ : Piece) (o₀ : Output) : Type 0 where
-  pub goes : (rest : List ℕ) → appended o (p rest) ≡ appended o₀ (p₀ rest)
+  pub goes : (rest : List ℕ) → appended (held o) (p rest) ≡ appended (held o₀) (p₀ rest)
+  pub same_row : lent_row o ≡ lent_row o₀
+
+-- a piece of it was printed
+pub goes_from : {q r : Piece} {o a : Output} → Puts q o a → Goes r a (q ⨾ r) o
+goes_from {r = r} u = record { goes = λ rest. u.put (r rest); same_row = u.same_row }
 
 pub goes_start : {p q : Piece} {o : Output} → ((rest : List ℕ) → p rest ≡ q rest) → Goes p o q o
-goes_start {o = o} e = record { goes = λ rest. ap (appended o) (e rest) }
+goes_start {o = o} e = record { goes = λ rest. ap (appended (held o)) (e rest); same_row = refl }
 
--- a piece of it is printed
 pub goes_on : {p q r : Piece} {o a o₀ : Output} {p₀ : Piece} → ((rest : List ℕ) → p rest ≡ q (r rest)) → Goes p o p₀ o₀ → Puts q o a → Goes r a p₀ o₀
-goes_on {r = r} {o = o} e g w = record { goes = λ rest. w.put (r rest) ∙ ap (appended o) (sym (e rest)) ∙ g.goes rest }
+goes_on {r = r} {o = o} e g w =
+    record { goes = λ rest. w.put (r rest) ∙ ap (appended (held o)) (sym (e rest)) ∙ g.goes rest; same_row = w.same_row ∙ g.same_row }
 
 -- nothing is left
 pub goes_end : {p : Piece} {o o₀ : Output} {p₀ : Piece} → ((rest : List ℕ) → p rest ≡ rest) → Goes p o p₀ o₀ → Puts p₀ o₀ o
-goes_end {o = o} e g = record { put = λ rest. ap (appended o) (sym (e rest)) ∙ g.goes rest }
+goes_end {o = o} e g = record { put = λ rest. ap (appended (held o)) (sym (e rest)) ∙ g.goes rest; same_row = g.same_row }

@@ -1,22 +1,21 @@
--- Lists: the members that are left of a section's records, and what is still to be printed of them.
-use mathlib.Core.Path.{◌≡◌, refl, sym, ap, ap₂, subst, ◌∙◌}
-use Prim.Native.Nat.{ℕ, zero, suc, ◌+◌, ◌≤◌, ◌<◌}
+-- Lists: what is still to be printed of a section's records, whose words are what is left of its words.
+use mathlib.Core.Path.{◌≡◌, refl, sym, ap, ap₂, ◌∙◌}
+use Prim.Native.Nat.{ℕ, zero, suc, ◌+◌, ◌-◌, ◌/◌, ◌≤◌, ◌<◌, min}
 use native.Mathlib.Omega.{arith}
 use native.Mathlib.Numerals.{add-one}
 use mathlib.Core.Bool.{Bool, true, false, ◌||◌}
-use mathlib.Core.List.{List, [], ◌∷◌}
+use mathlib.Core.List.{List, [], ◌∷◌, ◌++◌}
 use lib.Dec.{eqb, ltb}
-use lib.ListN.{get_or, take, drop}
-use borrow.Author.Tests.{lt-ltb}
-use Rattle.lexer.specs.Tokens.{Span, span}
-use Rattle.language.specs.Layout.{flag}
-use Rattle.language.specs.Plain.{Piece, ◌⨾◌, only, each, verbatim, direction}
-use Rattle.language.specs.Agreement.{groups, place_at, dir_of}
-use Rattle.sheet_words.proofs.Records.{left, left-all, left-next, left-none, word_in}
-use Rattle.emit.specs.Output.{Output}
-use Rattle.list_lines.specs.Listing.{number, named, parted, names, codes, moves}
-use Rattle.list_lines.specs.Puts.{Puts, NamePut}
-use Rattle.list_lines.proofs.Chain.{none, ◌▹◌, Goes, goes_start, goes_on, goes_end}
+use lib.ListN.{length, take, drop, length-append}
+use lib.Seq.{get_or-take, take-append_seam, drop-append_seam}
+use borrow.Author.Tests.{lt-ltb, ne_eqb}
+use Rattle.language.specs.Plain.{Piece, ◌⨾◌, only, each, direction, dir_code}
+use Rattle.language.specs.Agreement.{groups, records, at, place_at, dir_of}
+use Rattle.emit.specs.declared.Output.{Output}
+use Rattle.emit.specs.Appends.{Appends}
+use Rattle.list_lines.specs.Listing.{number, named, parted, names, codes, moves, diagnostic, transition}
+use Rattle.list_lines.specs.Puts.{Puts}
+use Rattle.list_lines.proofs.Chain.{said, ◌▹◌, Goes, goes_start, goes_on, goes_end}
 
 -- ---- members that are left of a list
 
@@ -34,10 +33,6 @@ unfolding parted each
 parted-each sep p [] rest = refl
 parted-each sep p (q ∷ ps) rest = ap (λ r. p (sep ∷ r)) (parted-each sep q ps rest)
 
-more_start : (sep : ℕ) (ps : List Piece) (rest : List ℕ) → more sep 0 ps rest ≡ parted sep ps rest
-unfolding more
-more_start sep ps rest = refl
-
 more_next : (sep i : ℕ) (p : Piece) (ps : List Piece) (rest : List ℕ) → more sep i (p ∷ ps) rest ≡ only (ltb 0 i) (one sep) (p (more sep (i + 1) ps rest))
 unfolding more each
 more_next sep zero p ps rest = parted-each sep p ps rest
@@ -48,132 +43,164 @@ unfolding more parted each
 more_none sep zero rest = refl
 more_none sep (suc i) rest = refl
 
--- a list that is there whole, of which a member is printed, of which all are
-list-start : (sep : ℕ) (all ps : List Piece) (o : Output) → all ≡ ps → Goes (more sep 0 all) o (parted sep ps) o
-list-start sep all ps o e = goes_start (λ rest. more_start sep all rest ∙ ap (λ l. parted sep l rest) e)
+pub list_start : (sep : ℕ) {all ps : List Piece} {o : Output} → all ≡ ps → Goes (more sep 0 all) o (parted sep ps) o
+unfolding more
+list_start sep e = goes_start (λ rest. ap (λ l. parted sep l rest) e)
 
-list_on : (sep i : ℕ) (p : Piece) (ps all : List Piece) {o x r o₀ : Output} {p₀ : Piece}
+pub list_on : (sep i : ℕ) (p : Piece) (ps all : List Piece) {o x r o₀ : Output} {p₀ : Piece}
     → all ≡ p ∷ ps → Goes (more sep i all) o p₀ o₀ → Puts (only (ltb 0 i) (one sep)) o x → Puts p x r → Goes (more sep (i + 1) ps) r p₀ o₀
 list_on sep i p ps all e g u v = goes_on (λ rest. ap (λ l. more sep i l rest) e ∙ more_next sep i p ps rest) g (u ▹ v)
 
-list-end : (sep i : ℕ) (ps : List Piece) (o : Output) (p₀ : Piece) (o₀ : Output) → ps ≡ [] → Goes (more sep i ps) o p₀ o₀ → Puts p₀ o₀ o
-list-end sep i ps o p₀ o₀ e g = goes_end (λ rest. ap (λ l. more sep i l rest) e ∙ more_none sep i rest) g
+pub list_end : (sep i : ℕ) (ps : List Piece) {o o₀ : Output} {p₀ : Piece} → ps ≡ [] → Goes (more sep i ps) o p₀ o₀ → Puts p₀ o₀ o
+list_end sep i ps e g = goes_end (λ rest. ap (λ l. more sep i l rest) e ∙ more_none sep i rest) g
+
+-- ---- records that are left
+
+-- of n records of k words, those behind i
+pub groups-start : (k n : ℕ) (ws : List ℕ) → groups k (n - 0) ws ≡ groups k n ws
+groups-start k n ws = let e : n - 0 ≡ n = omega arith in rw e
+
+pub groups-next : (k n i : ℕ) (ws : List ℕ) → i < n → groups k (n - i) ws ≡ take k ws ∷ groups k (n - (i + 1)) (drop k ws)
+unfolding groups
+groups-next k n i ws h = let e : n - i ≡ suc (n - (i + 1)) = omega arith in rw e
+
+pub groups-end : (k n i : ℕ) (ws : List ℕ) → n ≤ i → groups k (n - i) ws ≡ []
+unfolding groups
+groups-end k n i ws h = let e : n - i ≡ 0 = omega arith in rw e
+
+-- of n records that begin with their length, those behind i
+pub records-start : (n : ℕ) (ws : List ℕ) → records (n - 0) ws ≡ records n ws
+records-start n ws = let e : n - 0 ≡ n = omega arith in rw e
+
+pub records-next : (n i : ℕ) (ws : List ℕ) → i < n → records (n - i) ws ≡ take (at ws 0) ws ∷ records (n - (i + 1)) (drop (at ws 0) ws)
+unfolding records
+records-next n i ws h = let e : n - i ≡ suc (n - (i + 1)) = omega arith in rw e
+
+pub records-end : (n i : ℕ) (ws : List ℕ) → n ≤ i → records (n - i) ws ≡ []
+unfolding records
+records-end n i ws h = let e : n - i ≡ 0 = omega arith in rw e
 
 -- ---- codes and moves
 
-module _ (sep k o n : ℕ) (ws : List ℕ) where
-  -- the codes of the records that are left
-  abbrev pub codes_left : ℕ → ℕ → List Piece
-  codes_left i j = codes o (left k n i j ws)
-
-  pub codes-start : (f : Output) → Goes (more sep 0 (codes_left 0 0)) f (parted sep (codes o (groups k n ws))) f
-  codes-start f = list-start sep _ _ f (ap (codes o) (left-all k n ws))
-
-  pub codes-end : (i j : ℕ) (f : Output) (p₀ : Piece) (o₀ : Output) → n ≤ i → Goes (more sep i (codes_left i j)) f p₀ o₀ → Puts p₀ o₀ f
+module _ (sep k o n i : ℕ) (ws : List ℕ) where
+  pub codes-on : i < n → o < k → {f a r o₀ : Output} {p₀ : Piece} → Goes (more sep i (codes o (groups k (n - i) ws))) f p₀ o₀ → Puts (only (ltb 0 i) (one sep)) f a
+      → Puts (number (at ws o)) a r → Goes (more sep (i + 1) (codes o (groups k (n - (i + 1)) (drop k ws)))) r p₀ o₀
   unfolding codes
-  codes-end i j f p₀ o₀ h g = list-end sep i _ f p₀ o₀ (ap (codes o) (left-none k n i j ws h)) g
+  codes-on h low g u v =
+      list_on sep i (number (at ws o)) (codes o (groups k (n - (i + 1)) (drop k ws))) _
+      (ap (codes o) (groups-next k n i ws h) ∙ ap (λ m. number m ∷ codes o (groups k (n - (i + 1)) (drop k ws))) (get_or-take k ws o 0 low)) g u v
 
-  pub codes-on : (i j : ℕ) → i < n → o < k → (c : ℕ) → c ≡ get_or ws (j + o) 0 → (f a r : Output) (p₀ : Piece) (o₀ : Output) → Puts (only (ltb 0 i) (one sep)) f a
-      → Goes (more sep i (codes_left i j)) f p₀ o₀ → Puts (number c) a r → Goes (more sep (i + 1) (codes_left (i + 1) (j + k))) r p₀ o₀
+  pub codes-end : n ≤ i → {f o₀ : Output} {p₀ : Piece} → Goes (more sep i (codes o (groups k (n - i) ws))) f p₀ o₀ → Puts p₀ o₀ f
   unfolding codes
-  codes-on i j h low c e f a r p₀ o₀ u g v =
-      list_on sep i (number c) (codes_left (i + 1) (j + k)) (codes_left i j)
-      (ap (codes o) (left-next k n i j ws h) ∙ ap (λ m. number m ∷ codes_left (i + 1) (j + k)) (word_in k j o ws low ∙ sym e)) g u v
+  codes-end h g = list_end sep i _ (ap (codes o) (groups-end k n i ws h)) g
 
-module _ (sep n : ℕ) (ws : List ℕ) where
-  -- the moves of the actions that are left
-  abbrev pub moves_left : ℕ → ℕ → List Piece
-  moves_left i j = moves (left 7 n i j ws)
-
-  pub moves-start : (f : Output) → Goes (more sep 0 (moves_left 0 0)) f (parted sep (moves (groups 7 n ws))) f
-  moves-start f = list-start sep _ _ f (ap moves (left-all 7 n ws))
-
-  pub moves-end : (i j : ℕ) (f : Output) (p₀ : Piece) (o₀ : Output) → n ≤ i → Goes (more sep i (moves_left i j)) f p₀ o₀ → Puts p₀ o₀ f
+module _ (sep n i : ℕ) (ws : List ℕ) where
+  pub moves-on : i < n → {f a r o₀ : Output} {p₀ : Piece} → Goes (more sep i (moves (groups 7 (n - i) ws))) f p₀ o₀ → Puts (only (ltb 0 i) (one sep)) f a
+      → Puts (direction (dir_of (at ws 6))) a r → Goes (more sep (i + 1) (moves (groups 7 (n - (i + 1)) (drop 7 ws)))) r p₀ o₀
   unfolding moves
-  moves-end i j f p₀ o₀ h g = list-end sep i _ f p₀ o₀ (ap moves (left-none 7 n i j ws h)) g
+  moves-on h g u v =
+      list_on sep i (direction (dir_of (at ws 6))) (moves (groups 7 (n - (i + 1)) (drop 7 ws))) _
+      (ap moves (groups-next 7 n i ws h) ∙ ap (λ m. direction (dir_of m) ∷ moves (groups 7 (n - (i + 1)) (drop 7 ws))) (get_or-take 7 ws 6 0 (omega arith))) g u v
 
-  pub moves-on : (i j : ℕ) → i < n → (c : ℕ) → c ≡ get_or ws (j + 6) 0 → (f a r : Output) (p₀ : Piece) (o₀ : Output) → Puts (only (ltb 0 i) (one sep)) f a
-      → Goes (more sep i (moves_left i j)) f p₀ o₀ → Puts (direction (dir_of c)) a r → Goes (more sep (i + 1) (moves_left (i + 1) (j + 7))) r p₀ o₀
+  pub moves-end : n ≤ i → {f o₀ : Output} {p₀ : Piece} → Goes (more sep i (moves (groups 7 (n - i) ws))) f p₀ o₀ → Puts p₀ o₀ f
   unfolding moves
-  moves-on i j h c e f a r p₀ o₀ u g v =
-      list_on sep i (direction (dir_of c)) (moves_left (i + 1) (j + 7)) (moves_left i j)
-      (ap moves (left-next 7 n i j ws h) ∙ ap (λ m. direction (dir_of m) ∷ moves_left (i + 1) (j + 7)) (word_in 7 j 6 ws (omega arith) ∙ sym e)) g u v
+  moves-end h g = list_end sep i _ (ap moves (groups-end 7 n i ws h)) g
 
 -- a move
-module _ (d : ℕ) (o r : Output) where
-  pub move_left : d ≡ 0 → Puts (verbatim (0x4C ∷ [])) o r → Puts (direction (dir_of d)) o r
-  move_left e a = rw e a
+pub moved : (d : ℕ) {b : ℕ} {o r : Output} → b ≡ dir_code (dir_of d) → Appends (b ∷ []) o r → Puts (direction (dir_of d)) o r
+moved d e a = said (rw e at a)
 
-  pub move_right : d ≡ 1 → Puts (verbatim (0x52 ∷ [])) o r → Puts (direction (dir_of d)) o r
-  move_right e a = rw e a
+-- its letter
+module _ (d b : ℕ) where
+  pub letter-left : d ≡ 0 → b ≡ 0x4C → b ≡ dir_code (dir_of d)
+  letter-left e f = rw e f
 
-pub move_stay : (d : ℕ) (o r : Output) → (d ≡ 0 → ⊥) → (d ≡ 1 → ⊥) → Puts (verbatim (0x4E ∷ [])) o r → Puts (direction (dir_of d)) o r
-move_stay zero o r h k a = absurd (h refl)
-move_stay (suc zero) o r h k a = absurd (k refl)
-move_stay (suc (suc d)) o r h k a = a
+  pub letter-right : d ≡ 1 → b ≡ 0x52 → b ≡ dir_code (dir_of d)
+  letter-right e f = rw e f
+
+pub letter-stay : (d b : ℕ) → (d ≡ 0 → ⊥) → (d ≡ 1 → ⊥) → b ≡ 0x4E → b ≡ dir_code (dir_of d)
+letter-stay zero b h k f = absurd (h refl)
+letter-stay (suc zero) b h k f = absurd (k refl)
+letter-stay (suc (suc d)) b h k f = f
 
 -- ---- names
 
--- the place that stands in two words
-pub place_in : (ws : List ℕ) (j a b : ℕ) → a ≡ get_or ws j 0 → b ≡ get_or ws (j + 1) 0 → span a b ≡ place_at ws j
-place_in ws j a b p q = let r : b ≡ get_or ws (suc j) 0 = q ∙ ap (λ m. get_or ws m 0) (add-one j) in rw (p, r)
+-- whether a name is due
+pub due_all : (all b : Bool) → all ≡ true → (all || b) ≡ true
+due_all all b e = rw e
 
-module _ (text ws : List ℕ) (all : Bool) (j w : ℕ) (e : w ≡ get_or ws (j + 2) 0) (o : Output) (k : ℕ) (d : Bool) (t : d ≡ (all || eqb w 1)) where
-  test : (b : Bool) → d ≡ b → (all || eqb (get_or ws (j + 2) 0) 1) ≡ b
-  test b h = ap (λ v. all || eqb v 1) (sym e) ∙ sym t ∙ h
+pub due_last : (all : Bool) (n : ℕ) → n ≡ 1 → (all || eqb n 1) ≡ true
+due_last true n e = refl
+due_last false n e = rw e
 
-  pub name-none : d ≡ false → NamePut (all || eqb (get_or ws (j + 2) 0) 1) (named text (place_at ws j)) o k o k
-  name-none h = rw (test false h) (record { puts = none o; counts = omega arith })
+pub not_due : (all : Bool) (n : ℕ) → all ≡ false → (n ≡ 1 → ⊥) → (all || eqb n 1) ≡ false
+not_due all n e h = rw (e, ne_eqb n 1 h)
 
-  pub name-put : (a b : ℕ) (x r : Output) → d ≡ true → a ≡ get_or ws j 0 → b ≡ get_or ws (j + 1) 0 → Puts (only (ltb 0 k) (λ rest. 0x20 ∷ rest)) o x
-      → Puts (named text (span a b)) x r → NamePut (all || eqb (get_or ws (j + 2) 0) 1) (named text (place_at ws j)) o k r (k + 1)
-  name-put a b x r h p q u v = rw (test true h) (record { puts = u ▹ subst (λ s. Puts (named text s) x r) (place_in ws j a b p q) v; counts = refl })
+module _ (text : List ℕ) (all : Bool) (n i printed : ℕ) (ws : List ℕ) where
+  -- the name of the state that is next, and those behind it
+  here : Piece
+  here = named text (place_at ws 0)
 
--- a name more at most
-pub names-count : (b : Bool) (name : Piece) (o : Output) (k : ℕ) (r : Output) (k' i : ℕ) → NamePut b name o k r k' → k ≤ i → k' ≤ i + 1
-names-count true name o k r k' i f h = omega (arith, f.counts)
-names-count false name o k r k' i f h = omega (arith, f.counts)
+  abbrev behind : List Piece
+  behind = names text all (groups 3 (n - (i + 1)) (drop 3 ws))
 
-module _ (text : List ℕ) (all : Bool) (n : ℕ) (ws : List ℕ) where
-  -- the names of the states that are left
-  abbrev pub names_left : ℕ → ℕ → List Piece
-  names_left i j = names text all (left 3 n i j ws)
+  abbrev row : ℕ → List Piece → List Piece
+  row v shown = elim (all || eqb v 1) [ true ↦ shown | false ↦ behind ]
 
-  pub names-start : (o : Output) → Goes (more 0x20 0 (names_left 0 0)) o (parted 0x20 (names text all (groups 3 n ws))) o
-  names-start o = list-start 0x20 _ _ o (ap (names text all) (left-all 3 n ws))
+  names-next : i < n → names text all (groups 3 (n - i) ws) ≡ elim (all || eqb (at ws 2) 1) [ true ↦ here ∷ behind | false ↦ behind ]
+  unfolding names here
+  names-next h =
+      let p : place_at (take 3 ws) 0 ≡ place_at ws 0 = ap₂ (λ a b. record { start = a; end = b }) (get_or-take 3 ws 0 0 (omega arith)) (get_or-take 3 ws 1 0 (omega arith)) in
+      ap (names text all) (groups-next 3 n i ws h) ∙ ap₂ row (get_or-take 3 ws 2 0 (omega arith)) (ap (λ s. named text s ∷ behind) p)
 
-  pub names-end : (i j k : ℕ) (o : Output) (p₀ : Piece) (o₀ : Output) → n ≤ i → Goes (more 0x20 k (names_left i j)) o p₀ o₀ → Puts p₀ o₀ o
+  module _ (h : i < n) {o o₀ : Output} {p₀ : Piece} (g : Goes (more 0x20 printed (names text all (groups 3 (n - i) ws))) o p₀ o₀) where
+    pub names-on : (all || eqb (at ws 2) 1) ≡ true → {x r : Output} → Puts (only (ltb 0 printed) (one 0x20)) o x → Puts (named text (place_at ws 0)) x r
+        → Goes (more 0x20 (printed + 1) (names text all (groups 3 (n - (i + 1)) (drop 3 ws)))) r p₀ o₀
+    unfolding here
+    names-on t u v = list_on 0x20 printed here behind _ (names-next h ∙ ap (λ b. elim b [ true ↦ here ∷ behind | false ↦ behind ]) t) g u v
+
+    pub names-pass : (all || eqb (at ws 2) 1) ≡ false → Goes (more 0x20 printed (names text all (groups 3 (n - (i + 1)) (drop 3 ws)))) o p₀ o₀
+    names-pass t =
+        let e : names text all (groups 3 (n - i) ws) ≡ behind = names-next h ∙ ap (λ b. elim b [ true ↦ here ∷ behind | false ↦ behind ]) t in
+        rw e at g
+
+  pub names-end : n ≤ i → {o o₀ : Output} {p₀ : Piece} → Goes (more 0x20 printed (names text all (groups 3 (n - i) ws))) o p₀ o₀ → Puts p₀ o₀ o
   unfolding names
-  names-end i j k o p₀ o₀ h g = list-end 0x20 k _ o p₀ o₀ (ap (names text all) (left-none 3 n i j ws h)) g
+  names-end h g = list_end 0x20 printed _ (ap (names text all) (groups-end 3 n i ws h)) g
 
-  module _ (i j : ℕ) (h : i < n) where
-    -- the name of the state at j, and those behind it
-    here : Piece
-    here = named text (place_at ws j)
+-- ---- transitions
 
-    behind : List Piece
-    behind = names_left (i + 1) (j + 3)
+module _ (text : List ℕ) (n i : ℕ) (ws : List ℕ) where
+  pub rules-on : i < n → {o r o₀ : Output} {p₀ : Piece} → Goes (each (transition text) (records (n - i) ws)) o p₀ o₀ → Puts (transition text (take (at ws 0) ws)) o r
+      → Goes (each (transition text) (records (n - (i + 1)) (drop (at ws 0) ws))) r p₀ o₀
+  unfolding each
+  rules-on h g u = goes_on (λ rest. ap (λ l. each (transition text) l rest) (records-next n i ws h)) g u
 
-    pick : Bool → List Piece
-    pick b = elim b [ true ↦ here ∷ behind | false ↦ behind ]
+  pub rules-end : n ≤ i → {o o₀ : Output} {p₀ : Piece} → Goes (each (transition text) (records (n - i) ws)) o p₀ o₀ → Puts p₀ o₀ o
+  unfolding each
+  rules-end h g = goes_end (λ rest. ap (λ l. each (transition text) l rest) (records-end n i ws h)) g
 
-    row : ℕ → Span → List Piece
-    row v s = elim (all || eqb v 1) [ true ↦ named text s ∷ behind | false ↦ behind ]
+-- ---- diagnostics
 
-    names-next : names_left i j ≡ pick (all || eqb (get_or ws (j + 2) 0) 1)
-    unfolding names here behind pick row
-    names-next =
-        let z : j + 0 ≡ j = omega arith in
-        let p : span (get_or (take 3 (drop j ws)) 0 0) (get_or (take 3 (drop j ws)) 1 0) ≡ place_at ws j =
-        place_in ws j _ _ (word_in 3 j 0 ws (omega arith) ∙ ap (λ m. get_or ws m 0) z) (word_in 3 j 1 ws (omega arith)) in
-        ap (names text all) (left-next 3 n i j ws h)
-        ∙ ap₂ row (word_in 3 j 2 ws (omega arith)) p
+-- at most k records of five words
+log_left : ℕ → List ℕ → List (List ℕ)
+log_left k ws = groups 5 (min k (length ws / 5)) ws
 
-    pub names-on : (k k' : ℕ) (o r : Output) (p₀ : Piece) (o₀ : Output) → Goes (more 0x20 k (names_left i j)) o p₀ o₀
-        → NamePut (all || eqb (get_or ws (j + 2) 0) 1) (named text (place_at ws j)) o k r k' → Goes (more 0x20 k' (names_left (i + 1) (j + 3))) r p₀ o₀
-    unfolding here behind pick
-    names-on k k' o r p₀ o₀ g f = go (all || eqb (get_or ws (j + 2) 0) 1) names-next f.puts f.counts
-      where
-        go : (b : Bool) → names_left i j ≡ pick b → Puts (only b (only (ltb 0 k) (one 0x20) ⨾ here)) o r → k' ≡ k + flag b → Goes (more 0x20 k' behind) r p₀ o₀
-        go true l w c = rw c (goes_on (λ rest. ap (λ m. more 0x20 k m rest) l ∙ more_next 0x20 k here behind rest) g w)
-        go false l w c = let d : k' ≡ k = omega arith in rw d (goes_on (λ rest. ap (λ m. more 0x20 k m rest) l) g w)
+log-next : (k : ℕ) (x ws : List ℕ) → length x ≡ 5 → log_left (k + 1) (x ++ ws) ≡ x ∷ log_left k ws
+unfolding log_left groups
+log-next k x ws five =
+    let long : length (x ++ ws) ≡ length x + length ws = length-append x ws in
+    let count : min (k + 1) (length (x ++ ws) / 5) ≡ suc (min k (length ws / 5)) = omega (arith, long, five) in
+    let first : take 5 (x ++ ws) ≡ x = rw five at (take-append_seam x ws) in
+    let rest : drop 5 (x ++ ws) ≡ ws = rw five at (drop-append_seam x ws) in
+    rw (count, first, rest)
+
+module _ (text : List ℕ) (k : ℕ) (ws : List ℕ) {o o₀ : Output} {p₀ : Piece} where
+  pub log-on : (k' : ℕ) (x ws' : List ℕ) {r : Output} → ws ≡ x ++ ws' → length x ≡ 5 → k' + 1 ≡ k → Goes (each (diagnostic text) (groups 5 (min k (length ws / 5)) ws)) o p₀ o₀
+      → Puts (diagnostic text x) o r → Goes (each (diagnostic text) (groups 5 (min k' (length ws' / 5)) ws')) r p₀ o₀
+  unfolding each log_left
+  log-on k' x ws' e five less g u = goes_on (λ rest. ap (λ l. each (diagnostic text) l rest) (ap₂ log_left (sym less) e ∙ log-next k' x ws' five)) g u
+
+  pub log-end : (0 < k → length ws < 5) → Goes (each (diagnostic text) (groups 5 (min k (length ws / 5)) ws)) o p₀ o₀ → Puts p₀ o₀ o
+  unfolding each groups
+  log-end none g = let e : min k (length ws / 5) ≡ 0 = grind arith in goes_end (λ rest. rw e) g

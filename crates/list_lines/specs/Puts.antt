@@ -1,14 +1,11 @@
 -- What the functions that print leave of an output.
-use Rattle.std.specs.Prelude.{ℕ, ◌+◌, Bool, List, ◌∷◌, ◌≡◌, ltb}
-use Rattle.language.specs.Layout.{flag}
-use Rattle.language.specs.Plain.{Piece, ◌⨾◌, only}
-use Rattle.emit.specs.Output.{Output, appended}
+use Rattle.std.specs.Prelude.{ℕ, List, ◌≡◌}
+use Rattle.language.specs.Plain.{Piece}
+use Rattle.emit.specs.Output.{appended}
+use Rattle.emit.specs.declared.Output.{Output}
+use Rattle.emit.specs.Appends.{held, lent_row}
 
--- a piece was printed: its bytes were appended, whatever follows it
+-- a piece was printed: its bytes were appended, whatever follows it, to the row that was lent
 pub record Puts (p : Piece) (before after : Output) : Type 0 where
-  pub put : (rest : List ℕ) → appended after rest ≡ appended before (p rest)
-
--- a name was printed if it is due, a space before it if others stand there, and counted
-pub record NamePut (due : Bool) (name : Piece) (before : Output) (count : ℕ) (after : Output) (counted : ℕ) : Type 0 where
-  pub puts : Puts (only due (only (ltb 0 count) (λ rest. 0x20 ∷ rest) ⨾ name)) before after
-  pub counts : counted ≡ count + flag due
+  pub put : (rest : List ℕ) → appended (held after) rest ≡ appended (held before) (p rest)
+  pub same_row : lent_row after ≡ lent_row before

@@ -10,8 +10,8 @@ ghost use Rattle.rule_form.specs.Rules.{rule_left, rule_right};
 ghost use Rattle.rule_form.specs.Formed.{RuleFormed};
 
 use emit::Output;
-use form_parts::{comment_lines, directions, own_comment, place_at, symbols, verbatim};
-use sheet_words::{after, record_at, word};
+use form_parts::{comment_lines, directions, own_comment, symbols, verbatim};
+use sheet_words::{after, place_at, record_at, word};
 
 // From, and what is read: `δ(a, ('x'))`.
 fn rule_left(out: &mut Output, text: &[u8], words: &[u32])
@@ -59,9 +59,9 @@ pub fn rules(out: &mut Output, text: &[u8], words: &[u32], n: u32)
     requires { Every (RuleFormed text.now) (records n words.now) }
     ensures { Writes (each rule_lines (map (rule_in text.now) (records n words.now))) out.old out.new }
 {
-    let mut j = 0;
+    let mut rest = words;
     for _ in 0..n {
-        rule_lines(out, text, record_at(words, j));
-        j = words.len().min(j + word(words, j) as usize);
+        rule_lines(out, text, record_at(rest, 0));
+        rest = after(rest, word(rest, 0) as usize);
     }
 }

@@ -1,30 +1,42 @@
-// Words of the sheet as a caller has them: a word, the words behind some, a record; what lies past the end is 0 or empty.
+// Words of the sheet as a caller has them: a word, a place, the words behind some, a record; what lies past the end is 0 or empty.
 #![tactic(auto)]
 
-ghost use Rattle.std.specs.Prelude.{◌≡◌, ◌+◌, ◌<◌, get_or, take, drop};
+ghost use Rattle.std.specs.Prelude.{◌≡◌, ◌<◌, get_or, take, drop};
+ghost use Rattle.language.specs.Agreement.{place_at};
+ghost use Rattle.machine.specs.Head.{span_of};
+
+use machine::Span;
 
 // The word at an index, 0 past the end.
 pub fn word(words: &[u32], i: usize) -> u32
     ensures { result ≡ get_or words.now i 0 }
 {
-    if i < words.len() { words[i] } else { 0 }
+    words.get(i).copied().unwrap_or(0)
+}
+
+// The place that stands in two words.
+pub fn place_at(words: &[u32], i: usize) -> Span
+    requires { i < usize.MAX }
+    ensures { result ≡ span_of (place_at words.now i) }
+{
+    Span {
+        start: word(words, i),
+        end: word(words, i + 1),
+    }
 }
 
 // The words behind the first n.
 pub fn after(words: &[u32], n: usize) -> &[u32]
     ensures { result.now ≡ drop n words.now }
 {
-    let m = emit::least(n, words.len());
-    &words[m..]
+    words.get(n..).unwrap_or(&[])
 }
 
 // The record that begins at an index with its length.
 pub fn record_at(words: &[u32], i: usize) -> &[u32]
-    requires { i + 4294967296 < 18446744073709551616 }
     ensures { result.now ≡ take (get_or words.now i 0) (drop i words.now) }
 {
-    let n = word(words, i) as usize;
-    let e = emit::least(i + n, words.len());
-    let s = emit::least(i, e);
-    &words[s..e]
+    let length = word(words, i) as usize;
+    let rest = after(words, i);
+    &rest[..length.min(rest.len())]
 }

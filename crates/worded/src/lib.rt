@@ -3,7 +3,6 @@
 
 ghost use Rattle.std.specs.Prelude.{◌≡◌, length, replicate};
 ghost use Rattle.language.specs.Outcome.{read_outcome};
-ghost use Rattle.records.specs.Unused.{unused};
 ghost use Rattle.answer.specs.Answer.{read_in};
 
 use answer::Answer;
@@ -12,26 +11,20 @@ use diag::{Diagnostic, Span};
 // The number of records.
 pub const RECORDS: usize = 1024;
 
-// A log of unused records.
-fn log() -> [Diagnostic; 1024]
-    ensures { result ≡ replicate 1024 unused }
-{
-    let none = Span { start: 0, end: 0 };
-    let zero = Diagnostic {
-        code: 0,
-        span: none,
-        related: none,
-    };
-    [zero; 1024]
-}
+// A record that is all zero.
+const UNUSED: Diagnostic = Diagnostic {
+    code: 0,
+    span: Span { start: 0, end: 0 },
+    related: Span { start: 0, end: 0 },
+};
 
 // Reads a text as `reader::read` does with a log of 5,120 zeros: the log's records are copied to `words`.
 pub fn read(text: &[u8], work: &mut [u32], words: &mut [u32], sheet: &mut [u32]) -> Answer
     requires { length words.old ≡ 5120 }
     ensures { read_in result words.new sheet.new ≡ read_outcome text.now (length work.old) (replicate 5120 0) sheet.old }
 {
-    let mut log = log();
-    let a = reading::read(text, work, &mut log, sheet);
+    let mut log = [UNUSED; RECORDS];
+    let answer = reading::read(text, work, &mut log, sheet);
     records::spill(&log, words, RECORDS);
-    a
+    answer
 }
