@@ -15,11 +15,13 @@ use std::io;
 // The longest text that is taken.
 pub const MAX_INPUT: usize = 2048;
 
-// Words of work for such a text, of a log of 1,024 records, and of a sheet.
+// Words of work, which such a text needs.
 const WORK_WORDS: usize = 12294;
 
+// Words of 1,024 records.
 const LOG_WORDS: usize = 5120;
 
+// Words of a sheet.
 const SHEET_WORDS: usize = 16384;
 
 // More bytes than any listing has (docs/DECISIONS.md, "The list program").
