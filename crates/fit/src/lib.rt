@@ -23,7 +23,7 @@ fn write_form(head: Head, text: &[u8], sheet: &[u32], output: &mut [u8]) -> Writ
     ensures { (x : ReadOutcome) → write_in result x.log x.sheet output.new ≡ write_form (form_of text.now) x output.old }
 {
     let n = form::plain_form(head, sheet, text, &mut output[..0]);
-    let room = emit::least(output.len(), MAX_BYTES);
+    let room = output.len().min(MAX_BYTES);
     if room < n {
         return WriteAnswer::OutputTooShort(n as u64);
     }

@@ -8,7 +8,9 @@ use Rattle.chars.specs.Utf8.{scalar, encode}
 use Rattle.language.specs.Layout.{Counts, Head}
 use Rattle.language.specs.Plain.{Piece, ◌⨾◌, say, end, only, each, name_set, comment_line, rule_lines, pieces, plain}
 use Rattle.language.specs.Agreement.{Answer, groups, records, state_in, text_in, rule_in, content_of_answer}
-use Rattle.emit.specs.Output.{Output, appended}
+use Rattle.emit.specs.Output.{appended}
+use Rattle.emit.specs.declared.Output.{Output}
+use Rattle.emit.specs.Appends.{held}
 use Rattle.emit.proofs.Appends.{appended-nil}
 use Rattle.pieces.specs.Writes.{Writes}
 use Rattle.form_parts.specs.Places.{Every, NameIn}
@@ -90,18 +92,21 @@ module _ (a : Answer) where
         ap (λ r. each comment_line (map (text_in a.text) (groups 2 n.header (header_from a))) (head_lines a.text a.head r))
         (states-same a.head.declared.states a.text (groups 3 n.states a.sheet) _)
 
-    pub form-written : (o b c d x r : Output) → r.at < 18446744073709551616
+    pub form-written : (o b c d x r : Output)
         → Writes (each comment_line (map (text_in a.text) (groups 2 n.header header))) o b
         → Writes (head_lines a.text a.head) b c
         → Writes (declared_lines a.text a.head a.sheet sigma gamma) c d
         → Writes (each rule_lines (map (rule_in a.text) (records n.rules rows))) d x
         → Writes (each comment_line (map (text_in a.text) (groups 2 n.trailing trailing))) x r
-        → r ≡ appended o (encode (plain (content_of_answer a)))
-    unfolding plain encode
-    form-written o b c d x r h w₁ w₂ w₃ w₄ w₅ =
+        → Writes (pieces (content_of_answer a)) o r
+    form-written o b c d x r w₁ w₂ w₃ w₄ w₅ =
         let v₁ = subst (λ l. Writes (each comment_line (map (text_in a.text) (groups 2 n.header l))) o b) header_is w₁ in
         let v₃ = subst (λ l. Writes (declared_lines a.text a.head a.sheet (sigma_from a) l) c d) gamma_is (subst (λ l. Writes (declared_lines a.text a.head a.sheet l gamma) c d) e₁ w₃) in
         let v₄ = subst (λ l. Writes (each rule_lines (map (rule_in a.text) (records n.rules l))) d x) rows_is w₄ in
         let v₅ = subst (λ l. Writes (each comment_line (map (text_in a.text) (groups 2 n.trailing l))) x r) trailing_is w₅ in
-        let w : Writes (pieces (content_of_answer a)) o r = same pieces-same (v₁ ▹ w₂ ▹ v₃ ▹ v₄ ▹ v₅) in
-        sym (appended-nil r h) ∙ w.written []
+        same pieces-same (v₁ ▹ w₂ ▹ v₃ ▹ v₄ ▹ v₅)
+
+-- what is lent is the form at the end, and what was counted its length
+pub form-held : (a : Answer) (o r : Output) → r.at < 18446744073709551616 → Writes (pieces (content_of_answer a)) o r → held r ≡ appended (held o) (encode (plain (content_of_answer a)))
+unfolding plain encode
+form-held a o r h w = sym (appended-nil (held r) h) ∙ w.written []

@@ -5,12 +5,10 @@ use native.Mathlib.Omega.{arith}
 use mathlib.Core.Logic.{⊎_elim}
 use mathlib.Core.Bool.{Bool, true, false}
 use mathlib.Core.List.{List, [], ◌∷◌, ◌++◌, map}
-use lib.ListN.{length}
 use borrow.Author.Tests.{lt-ltb, le-ltb}
 use Rattle.chars.specs.Utf8.{scalar, encode_one, encode}
 use Rattle.chars.proofs.Tests.{lt-or-ge}
 use Rattle.language.specs.Layout.{Head}
-use Rattle.language.specs.Machine.{as_binary}
 use Rattle.language.specs.Plain.{say, commas, verbatim, symbol, string, decimal_from, decimal, kind_name, decoder, name_set, symbol_set, final_names}
 use Rattle.language.specs.Agreement.{groups, characters_at, string_at, state_in, text_in}
 use Rattle.machine.specs.declared.Kind.{Kind}
@@ -20,15 +18,16 @@ use Rattle.machine.specs.declared.BitOrder.TheVariants.{Lsb, Msb}
 use Rattle.machine.specs.declared.Decoder.{Decoder}
 use Rattle.machine.specs.declared.Decoder.TheVariants.{Word, Unary, Binary}
 use Rattle.machine.specs.declared.Span as D
-use Rattle.emit.specs.Output.{Output, output, appended}
+use Rattle.emit.specs.declared.Output.{Output}
 use Rattle.emit.specs.Decimal as E
 use Rattle.emit.proofs.Digits.{digits-rest, digits-any}
-use Rattle.pieces.specs.Writes.{Adds, Writes}
-use Rattle.machine.specs.Head.{span_in, kind_in, order_in, decoder_in}
+use Rattle.emit.specs.Appends.{Appends}
+use Rattle.pieces.specs.Writes.{Writes}
+use Rattle.machine.specs.Head.{span_in, kind_in, decoder_in}
 use Rattle.form.specs.Sections.{head_lines, states_line, symbols_line, blank_line, start_line, finals_line}
 use Rattle.form_parts.specs.Places.{column}
 use Rattle.form.specs.WellFormed.{DecoderFormed}
-use Rattle.pieces.proofs.Chain.{adds, known, spoken, same, none, ◌▹◌}
+use Rattle.pieces.proofs.Chain.{known, spoken, none, ◌▹◌}
 
 -- ---- the number of tapes
 
@@ -45,53 +44,50 @@ digits-encode (suc k) n rest =
     (λ g. rw (le-ltb n 10 g, decimal_from, E.digits_from) (digits-encode k (n / 10) ((0x30 + n % 10) ∷ rest) ∙ ap (E.digits_from k (n / 10)) (ascii (0x30 + n % 10) rest (omega arith))))
     (lt-or-ge n 10)
 
-pub number-written : (row : List ℕ) (at n : ℕ) (r : Output) → length row < 18446744073709551616 → n < 256 → r ≡ appended (output row at) (E.decimal n) → Writes (decimal n) (output row at) r
+pub number-written : (n m : ℕ) (o r : Output) → n < 256 → m ≡ n → Appends (E.decimal m) o r → Writes (decimal n) o r
 unfolding decimal E.decimal
-number-written row at n r h b e =
-    known (E.decimal n) (λ rest. digits-encode 2 n rest ∙ digits-rest 2 n (encode rest) ∙ ap (λ l. l ++ encode rest) (sym (digits-any 17 2 n [] (omega arith)))) (adds row at (E.decimal n) r h e)
+number-written n m o r b e a =
+    known (E.decimal n) (λ rest. digits-encode 2 n rest ∙ digits-rest 2 n (encode rest) ∙ ap (λ l. l ++ encode rest) (sym (digits-any 17 2 n [] (omega arith)))) (rw e at a)
 
 -- ---- kind and output
 
 module _ (k : Kind) (o r : Output) where
-  pub kind_acceptor : k ≡ Acceptor → Adds (say "acceptor" []) o r → Writes (say (kind_name (kind_in k))) o r
+  pub kind_acceptor : k ≡ Acceptor → Appends (say "acceptor" []) o r → Writes (say (kind_name (kind_in k))) o r
   unfolding encode
   kind_acceptor e a = rw e (spoken "acceptor" (λ rest. refl) a)
 
-  pub kind_transducer : k ≡ Transducer → Adds (say "transducer" []) o r → Writes (say (kind_name (kind_in k))) o r
+  pub kind_transducer : k ≡ Transducer → Appends (say "transducer" []) o r → Writes (say (kind_name (kind_in k))) o r
   unfolding encode
   kind_transducer e a = rw e (spoken "transducer" (λ rest. refl) a)
 
-  pub kind_enumerator : k ≡ Enumerator → Adds (say "enumerator" []) o r → Writes (say (kind_name (kind_in k))) o r
+  pub kind_enumerator : k ≡ Enumerator → Appends (say "enumerator" []) o r → Writes (say (kind_name (kind_in k))) o r
   unfolding encode
   kind_enumerator e a = rw e (spoken "enumerator" (λ rest. refl) a)
 
-  pub kind_beaver : k ≡ Beaver → Adds (say "beaver" []) o r → Writes (say (kind_name (kind_in k))) o r
+  pub kind_beaver : k ≡ Beaver → Appends (say "beaver" []) o r → Writes (say (kind_name (kind_in k))) o r
   unfolding encode
   kind_beaver e a = rw e (spoken "beaver" (λ rest. refl) a)
-
-module _ (b : BitOrder) (o r : Output) where
-  pub order_lsb : b ≡ Lsb → Adds (say "binary lsb" []) o r → Writes (decoder (as_binary (order_in b))) o r
-  unfolding encode
-  order_lsb e a = rw e (spoken "binary lsb" (λ rest. refl) a)
-
-  pub order_msb : b ≡ Msb → Adds (say "binary msb" []) o r → Writes (decoder (as_binary (order_in b))) o r
-  unfolding encode
-  order_msb e a = rw e (spoken "binary msb" (λ rest. refl) a)
 
 pub decoder-scalar : (d : Decoder) (c : ℕ) → d ≡ Unary c → DecoderFormed (decoder_in d) → scalar c ≡ true
 decoder-scalar d c e h = subst (λ x. DecoderFormed (decoder_in x)) e h
 
 module _ (d : Decoder) (o r : Output) where
-  pub decoder-word : d ≡ Word → Adds (say "word" []) o r → Writes (decoder (decoder_in d)) o r
+  pub decoder-word : d ≡ Word → Appends (say "word" []) o r → Writes (decoder (decoder_in d)) o r
   unfolding encode
   decoder-word e a = rw e (spoken "word" (λ rest. refl) a)
 
-  pub decoder_unary : (c : ℕ) (a : Output) → d ≡ Unary c → Adds (say "unary " []) o a → Writes (symbol c) a r → Writes (decoder (decoder_in d)) o r
+  pub decoder_unary : (c : ℕ) (a : Output) → d ≡ Unary c → Appends (say "unary " []) o a → Writes (symbol c) a r → Writes (decoder (decoder_in d)) o r
   unfolding encode
   decoder_unary c a e u v = rw e (spoken "unary " (λ rest. refl) u ▹ v)
 
-  pub decoder_binary : (b : BitOrder) → d ≡ Binary b → Writes (decoder (as_binary (order_in b))) o r → Writes (decoder (decoder_in d)) o r
-  decoder_binary b e w = rw e w
+  module _ (b : BitOrder) (e : d ≡ Binary b) where
+    pub decoder_lsb : b ≡ Lsb → Appends (say "binary lsb" []) o r → Writes (decoder (decoder_in d)) o r
+    unfolding encode
+    decoder_lsb f a = rw (e, f) (spoken "binary lsb" (λ rest. refl) a)
+
+    pub decoder_msb : b ≡ Msb → Appends (say "binary msb" []) o r → Writes (decoder (decoder_in d)) o r
+    unfolding encode
+    decoder_msb f a = rw (e, f) (spoken "binary msb" (λ rest. refl) a)
 
 -- ---- a line if its part is declared
 
@@ -100,8 +96,8 @@ module _ (d : Bool) (o : Output) where
   unfolding states_line
   states-none text n ws e = rw e (none o)
 
-  pub states-written : (text : List ℕ) (n : ℕ) (ws : List ℕ) (a b r : Output) → d ≡ true → Adds (say "Q = {" []) o a → Writes (commas verbatim (map (text_in text) (groups 3 n ws))) a b
-      → Adds (say "}\n" []) b r → Writes (states_line text d n ws) o r
+  pub states-written : (text : List ℕ) (n : ℕ) (ws : List ℕ) (a b r : Output) → d ≡ true → Appends (say "Q = {" []) o a → Writes (commas verbatim (map (text_in text) (groups 3 n ws))) a b
+      → Appends (say "}\n" []) b r → Writes (states_line text d n ws) o r
   unfolding states_line name_set encode
   states-written text n ws a b r e w₁ w₂ w₃ = rw e (spoken "Q = {" (λ rest. refl) w₁ ▹ w₂ ▹ spoken "}\n" (λ rest. refl) w₃)
 
@@ -109,8 +105,8 @@ module _ (d : Bool) (o : Output) where
   unfolding symbols_line
   symbols-none c n ws e = rw e (none o)
 
-  pub symbols-written : (c n : ℕ) (ws : List ℕ) (x a b r : Output) → d ≡ true → Writes (λ rest. c ∷ rest) o x → Adds (say " = {" []) x a → Writes (commas symbol (column 3 0 n ws)) a b
-      → Adds (say "}\n" []) b r → Writes (symbols_line c d n ws) o r
+  pub symbols-written : (c n : ℕ) (ws : List ℕ) (x a b r : Output) → d ≡ true → Writes (λ rest. c ∷ rest) o x → Appends (say " = {" []) x a → Writes (commas symbol (column 3 0 n ws)) a b
+      → Appends (say "}\n" []) b r → Writes (symbols_line c d n ws) o r
   unfolding symbols_line symbol_set encode
   symbols-written c n ws x a b r e w₀ w₁ w₂ w₃ = rw e (w₀ ▹ spoken " = {" (λ rest. refl) w₁ ▹ w₂ ▹ spoken "}\n" (λ rest. refl) w₃)
 
@@ -118,7 +114,7 @@ module _ (d : Bool) (o : Output) where
   unfolding blank_line
   blank_none c e = rw e (none o)
 
-  pub blank_written : (c : ℕ) (a b r : Output) → d ≡ true → Adds (say "blank = " []) o a → Writes (symbol c) a b → Adds (say "\n" []) b r → Writes (blank_line d c) o r
+  pub blank_written : (c : ℕ) (a b r : Output) → d ≡ true → Appends (say "blank = " []) o a → Writes (symbol c) a b → Appends (say "\n" []) b r → Writes (blank_line d c) o r
   unfolding blank_line encode
   blank_written c a b r e w₁ w₂ w₃ = rw e (spoken "blank = " (λ rest. refl) w₁ ▹ w₂ ▹ spoken "\n" (λ rest. refl) w₃)
 
@@ -126,21 +122,21 @@ module _ (d : Bool) (o : Output) where
   unfolding start_line
   start_none text p e = rw e (none o)
 
-  pub start-written : (text : List ℕ) (p : D.Span) (a b r : Output) → d ≡ true → Adds (say "start = " []) o a → Writes (verbatim (characters_at text (span_in p))) a b
-      → Adds (say "\n" []) b r → Writes (start_line text d (span_in p)) o r
+  pub start-written : (text : List ℕ) (p : D.Span) (a b r : Output) → d ≡ true → Appends (say "start = " []) o a → Writes (verbatim (characters_at text (span_in p))) a b
+      → Appends (say "\n" []) b r → Writes (start_line text d (span_in p)) o r
   unfolding start_line encode
   start-written text p a b r e w₁ w₂ w₃ = rw e (spoken "start = " (λ rest. refl) w₁ ▹ w₂ ▹ spoken "\n" (λ rest. refl) w₃)
 
-pub finals-written : (text : List ℕ) (n : ℕ) (ws : List ℕ) (o a b r : Output) → Adds (say "F = {" []) o a → Writes (commas verbatim (final_names (map (state_in text) (groups 3 n ws)))) a b
-    → Adds (say "}\n" []) b r → Writes (finals_line text n ws) o r
+pub finals-written : (text : List ℕ) (n : ℕ) (ws : List ℕ) (o a b r : Output) → Appends (say "F = {" []) o a → Writes (commas verbatim (final_names (map (state_in text) (groups 3 n ws)))) a b
+    → Appends (say "}\n" []) b r → Writes (finals_line text n ws) o r
 unfolding finals_line name_set encode
 finals-written text n ws o a b r w₁ w₂ w₃ = spoken "F = {" (λ rest. refl) w₁ ▹ w₂ ▹ spoken "}\n" (λ rest. refl) w₃
 
 -- ---- machine, kind, input, output and tapes
 
-pub head-written : (text : List ℕ) (h : Head) (a₀ a₁ a₂ a₃ a₄ a₅ a₆ a₇ a₈ a₉ b₀ b₁ : Output) → Adds (say "machine " []) a₀ a₁ → Writes (string (string_at text h.name)) a₁ a₂
-    → Adds (say "\nkind " []) a₂ a₃ → Writes (say (kind_name h.kind)) a₃ a₄ → Adds (say "\ninput " []) a₄ a₅ → Writes (string (string_at text h.input)) a₅ a₆
-    → Adds (say "\noutput " []) a₆ a₇ → Writes (decoder h.output) a₇ a₈ → Adds (say "\ntapes = " []) a₈ a₉ → Writes (decimal h.tapes) a₉ b₀ → Adds (say "\n" []) b₀ b₁
+pub head-written : (text : List ℕ) (h : Head) (a₀ a₁ a₂ a₃ a₄ a₅ a₆ a₇ a₈ a₉ b₀ b₁ : Output) → Appends (say "machine " []) a₀ a₁ → Writes (string (string_at text h.name)) a₁ a₂
+    → Appends (say "\nkind " []) a₂ a₃ → Writes (say (kind_name h.kind)) a₃ a₄ → Appends (say "\ninput " []) a₄ a₅ → Writes (string (string_at text h.input)) a₅ a₆
+    → Appends (say "\noutput " []) a₆ a₇ → Writes (decoder h.output) a₇ a₈ → Appends (say "\ntapes = " []) a₈ a₉ → Writes (decimal h.tapes) a₉ b₀ → Appends (say "\n" []) b₀ b₁
     → Writes (head_lines text h) a₀ b₁
 unfolding head_lines encode
 head-written text h a₀ a₁ a₂ a₃ a₄ a₅ a₆ a₇ a₈ a₉ b₀ b₁ w₁ w₂ w₃ w₄ w₅ w₆ w₇ w₈ w₉ x₀ x₁ =

@@ -5,7 +5,7 @@
 ghost use Rattle.std.specs.Prelude.{true, ◌≡◌, map};
 ghost use Rattle.chars.specs.Utf8.{scalar, scalars, encode};
 ghost use Rattle.language.specs.Machine.{as_binary};
-ghost use Rattle.language.specs.Plain.{say, decimal, kind_name, decoder, plain};
+ghost use Rattle.language.specs.Plain.{say, decimal, kind_name, decoder, pieces, plain};
 ghost use Rattle.language.specs.Agreement.{groups, records, rule_in, content_of_answer};
 ghost use Rattle.machine.specs.Head.{span_in, kind_in, order_in, decoder_in, head_in};
 ghost use Rattle.emit.specs.Output.{output, appended};
@@ -15,197 +15,175 @@ ghost use Rattle.form.specs.Answers.{answer};
 ghost use Rattle.form.specs.Sections.{head_lines, states_line, symbols_line, blank_line, start_line, finals_line, declared_lines};
 ghost use Rattle.form.specs.WellFormed.{DecoderFormed, HeadFormed, DeclaredFormed, WellFormed};
 
+use emit::Output;
 use form_parts::{comment_lines, final_names, names, string, symbols, verbatim};
 use machine::{BitOrder, Decoder, Head, Kind, Span};
-use pieces::{character, say, symbol};
+use pieces::{character, symbol};
 use rule_form::rules;
 use sheet_words::after;
 
 // ---- the lines before the rules
 
 // The number of tapes.
-fn number(out: &mut [u8], at: usize, n: u8) -> usize
-    ensures { Writes (decimal n) (output out.old at) (output out.new result) }
+fn number(out: &mut Output, n: u8)
+    ensures { Writes (decimal n) out.old out.new }
 {
-    emit::decimal(out, at, n as u64)
+    out.decimal(u64::from(n));
 }
 
 // The name of a kind.
-fn kind(out: &mut [u8], at: usize, k: Kind) -> usize
-    ensures { Writes (say (kind_name (kind_in k))) (output out.old at) (output out.new result) }
+fn kind(out: &mut Output, k: Kind)
+    ensures { Writes (say (kind_name (kind_in k))) out.old out.new }
 {
     match k {
-        Kind::Acceptor => say(out, at, b"acceptor"),
-        Kind::Transducer => say(out, at, b"transducer"),
-        Kind::Enumerator => say(out, at, b"enumerator"),
-        Kind::Beaver => say(out, at, b"beaver"),
-    }
-}
-
-// The order of bits.
-fn bit_order(out: &mut [u8], at: usize, o: BitOrder) -> usize
-    ensures { Writes (decoder (as_binary (order_in o))) (output out.old at) (output out.new result) }
-{
-    match o {
-        BitOrder::Lsb => say(out, at, b"binary lsb"),
-        BitOrder::Msb => say(out, at, b"binary msb"),
+        Kind::Acceptor => out.bytes(b"acceptor"),
+        Kind::Transducer => out.bytes(b"transducer"),
+        Kind::Enumerator => out.bytes(b"enumerator"),
+        Kind::Beaver => out.bytes(b"beaver"),
     }
 }
 
 // How the output is read.
-fn decoder(out: &mut [u8], at: usize, d: Decoder) -> usize
+fn decoder(out: &mut Output, d: Decoder)
     requires { DecoderFormed (decoder_in d) }
-    ensures { Writes (decoder (decoder_in d)) (output out.old at) (output out.new result) }
+    ensures { Writes (decoder (decoder_in d)) out.old out.new }
 {
     match d {
-        Decoder::Word => say(out, at, b"word"),
+        Decoder::Word => out.bytes(b"word"),
         Decoder::Unary(c) => {
-            let a = say(out, at, b"unary ");
-            symbol(out, a, c)
+            out.bytes(b"unary ");
+            symbol(out, c);
         }
-        Decoder::Binary(o) => bit_order(out, at, o),
+        Decoder::Binary(BitOrder::Lsb) => out.bytes(b"binary lsb"),
+        Decoder::Binary(BitOrder::Msb) => out.bytes(b"binary msb"),
     }
 }
 
 // `machine`, `kind`, `input`, `output` and `tapes`.
-fn head_lines(out: &mut [u8], at: usize, text: &[u8], head: Head) -> usize
+fn head_lines(out: &mut Output, text: &[u8], head: Head)
     requires { HeadFormed text.now (head_in head) }
-    ensures { Writes (head_lines text.now (head_in head)) (output out.old at) (output out.new result) }
+    ensures { Writes (head_lines text.now (head_in head)) out.old out.new }
 {
-    let a = say(out, at, b"machine ");
-    let name = head.name;
-    let b = string(out, a, text, name);
-    let c = say(out, b, b"\nkind ");
-    let k = head.kind;
-    let d = kind(out, c, k);
-    let e = say(out, d, b"\ninput ");
-    let input = head.input;
-    let f = string(out, e, text, input);
-    let g = say(out, f, b"\noutput ");
-    let o = head.output;
-    let h = decoder(out, g, o);
-    let i = say(out, h, b"\ntapes = ");
-    let j = number(out, i, head.tapes);
-    say(out, j, b"\n")
+    out.bytes(b"machine ");
+    string(out, text, head.name);
+    out.bytes(b"\nkind ");
+    kind(out, head.kind);
+    out.bytes(b"\ninput ");
+    string(out, text, head.input);
+    out.bytes(b"\noutput ");
+    decoder(out, head.output);
+    out.bytes(b"\ntapes = ");
+    number(out, head.tapes);
+    out.bytes(b"\n");
 }
 
 // `Q`, if declared.
-fn states_line(
-    out: &mut [u8],
-    at: usize,
-    text: &[u8],
-    declared: bool,
-    n: u32,
-    words: &[u32],
-) -> usize
+fn states_line(out: &mut Output, text: &[u8], declared: bool, n: u32, words: &[u32])
     requires { Every (NameIn text.now) (groups 3 n words.now) }
-    ensures { Writes (states_line text.now declared n words.now) (output out.old at) (output out.new result) }
+    ensures { Writes (states_line text.now declared n words.now) out.old out.new }
 {
     if declared {
-        let a = say(out, at, b"Q = {");
-        let b = names(out, a, text, words, n);
-        return say(out, b, b"}\n");
+        out.bytes(b"Q = {");
+        names(out, text, words, n);
+        out.bytes(b"}\n");
     }
-    at
 }
 
 // `Σ` or `Γ`, by its letter, if declared.
-fn symbols_line(
-    out: &mut [u8],
-    at: usize,
-    letter: u32,
-    declared: bool,
-    n: u32,
-    words: &[u32],
-) -> usize
+fn symbols_line(out: &mut Output, letter: u32, declared: bool, n: u32, words: &[u32])
     requires { (scalar letter ≡ true) × (declared ≡ true → scalars (column 3 0 n words.now) ≡ true) }
-    ensures { Writes (symbols_line letter declared n words.now) (output out.old at) (output out.new result) }
+    ensures { Writes (symbols_line letter declared n words.now) out.old out.new }
 {
     if declared {
-        let a = character(out, at, letter);
-        let b = say(out, a, b" = {");
-        let c = symbols(out, b, words, 3, 0, n);
-        return say(out, c, b"}\n");
+        character(out, letter);
+        out.bytes(b" = {");
+        symbols(out, words, 3, 0, n);
+        out.bytes(b"}\n");
     }
-    at
 }
 
 // `blank`, if declared.
-fn blank_line(out: &mut [u8], at: usize, declared: bool, c: u32) -> usize
+fn blank_line(out: &mut Output, declared: bool, c: u32)
     requires { scalar c ≡ true }
-    ensures { Writes (blank_line declared c) (output out.old at) (output out.new result) }
+    ensures { Writes (blank_line declared c) out.old out.new }
 {
     if declared {
-        let a = say(out, at, b"blank = ");
-        let b = symbol(out, a, c);
-        return say(out, b, b"\n");
+        out.bytes(b"blank = ");
+        symbol(out, c);
+        out.bytes(b"\n");
     }
-    at
 }
 
 // `start`, if declared.
-fn start_line(out: &mut [u8], at: usize, text: &[u8], declared: bool, p: Span) -> usize
+fn start_line(out: &mut Output, text: &[u8], declared: bool, p: Span)
     requires { Utf8At text.now (span_in p) }
-    ensures { Writes (start_line text.now declared (span_in p)) (output out.old at) (output out.new result) }
+    ensures { Writes (start_line text.now declared (span_in p)) out.old out.new }
 {
     if declared {
-        let a = say(out, at, b"start = ");
-        let b = verbatim(out, a, text, p);
-        return say(out, b, b"\n");
+        out.bytes(b"start = ");
+        verbatim(out, text, p);
+        out.bytes(b"\n");
     }
-    at
 }
 
 // `F`, which is always there.
-fn finals_line(out: &mut [u8], at: usize, text: &[u8], n: u32, words: &[u32]) -> usize
+fn finals_line(out: &mut Output, text: &[u8], n: u32, words: &[u32])
     requires { Every (NameIn text.now) (groups 3 n words.now) }
-    ensures { Writes (finals_line text.now n words.now) (output out.old at) (output out.new result) }
+    ensures { Writes (finals_line text.now n words.now) out.old out.new }
 {
-    let a = say(out, at, b"F = {");
-    let b = final_names(out, a, text, words, n);
-    say(out, b, b"}\n")
+    out.bytes(b"F = {");
+    final_names(out, text, words, n);
+    out.bytes(b"}\n");
 }
 
 // All that is said only if declared, and the final states.
 fn declared_lines(
-    out: &mut [u8],
-    at: usize,
+    out: &mut Output,
     text: &[u8],
     head: Head,
     states: &[u32],
     sigma: &[u32],
     gamma: &[u32],
-) -> usize
+)
     requires { DeclaredFormed text.now (head_in head) states.now sigma.now gamma.now }
-    ensures { Writes (declared_lines text.now (head_in head) states.now sigma.now gamma.now) (output out.old at) (output out.new result) }
+    ensures { Writes (declared_lines text.now (head_in head) states.now sigma.now gamma.now) out.old out.new }
 {
     let said = head.declared;
     let n = head.counts;
-    let a = states_line(out, at, text, said.states, n.states, states);
-    let b = symbols_line(out, a, 0x3A3, said.input_alphabet, n.sigma, sigma);
-    let c = symbols_line(out, b, 0x393, said.tape_alphabet, n.gamma, gamma);
-    let d = blank_line(out, c, said.blank, head.blank);
-    let p = head.start;
-    let e = start_line(out, d, text, said.start, p);
-    finals_line(out, e, text, n.states, states)
+    states_line(out, text, said.states, n.states, states);
+    symbols_line(out, 0x3A3, said.input_alphabet, n.sigma, sigma);
+    symbols_line(out, 0x393, said.tape_alphabet, n.gamma, gamma);
+    blank_line(out, said.blank, head.blank);
+    start_line(out, text, said.start, head.start);
+    finals_line(out, text, n.states, states);
 }
 
 // ---- the whole form
+
+// All lines of the form.
+fn all_lines(out: &mut Output, head: Head, sheet: &[u32], text: &[u8])
+    requires { WellFormed (answer head sheet.now text.now) }
+    ensures { Writes (pieces (content_of_answer (answer head sheet.now text.now))) out.old out.new }
+{
+    let n = head.counts;
+    let sigma = after(sheet, 3 * n.states as usize);
+    let gamma = after(sigma, 3 * n.sigma as usize);
+    let header = after(gamma, 3 * n.gamma as usize + 2 * n.finals as usize);
+    let trailing = after(header, 2 * n.header as usize);
+    let records = after(trailing, 2 * n.trailing as usize);
+    comment_lines(out, text, header, n.header);
+    head_lines(out, text, head);
+    declared_lines(out, text, head, sheet, sigma, gamma);
+    rules(out, text, records, n.rules);
+    comment_lines(out, text, trailing, n.trailing);
+}
 
 // The plain form of the machine that a reading call answered with, at the front of `out` as far as there is room; its length.
 pub fn plain_form(head: Head, sheet: &[u32], text: &[u8], out: &mut [u8]) -> usize
     requires { WellFormed (answer head sheet.now text.now) }
     ensures { output out.new result ≡ appended (output out.old 0) (encode (plain (content_of_answer (answer head sheet.now text.now)))) }
 {
-    let n = head.counts;
-    let sigma = after(sheet, 3 * (n.states as usize));
-    let gamma = after(sigma, 3 * (n.sigma as usize));
-    let header = after(gamma, 3 * (n.gamma as usize) + 2 * (n.finals as usize));
-    let trailing = after(header, 2 * (n.header as usize));
-    let records = after(trailing, 2 * (n.trailing as usize));
-    let a = comment_lines(out, 0, text, header, n.header);
-    let b = head_lines(out, a, text, head);
-    let c = declared_lines(out, b, text, head, sheet, sigma, gamma);
-    let d = rules(out, c, text, records, n.rules);
-    comment_lines(out, d, text, trailing, n.trailing)
+    let mut form = Output::new(out);
+    all_lines(&mut form, head, sheet, text);
+    form.count()
 }

@@ -2,20 +2,21 @@
 use mathlib.Core.Path.{◌≡◌, refl, sym, ap, ◌∙◌}
 use Prim.Native.Nat.{ℕ}
 use native.Mathlib.Omega.{arith}
-use mathlib.Core.Bool.{Bool, true, false, ◌&&◌}
+use mathlib.Core.Bool.{Bool, true, false, ◌&&◌, false≢true}
 use mathlib.Core.Option.{Option, none, some}
 use mathlib.Core.List.{List, [], ◌∷◌, ◌++◌}
 use lib.Dec.{eqb}
 use lib.ListN.{length}
-use borrow.Author.Tests.{eq-eqb, ne_eqb}
+use borrow.Author.Tests.{eq-eqb, eqb-true}
 use Rattle.chars.specs.Utf8.{encode, decode}
 use Rattle.chars.proofs.Laws.{decode-nil}
 use Rattle.chars.proofs.Theorems.{encode-append}
 use Rattle.lexer.specs.Tokens.{Span}
 use Rattle.language.specs.Plain.{say, verbatim, comment, own_comment}
 use Rattle.language.specs.Agreement.{characters_at, comment_at}
-use Rattle.emit.specs.Output.{Output}
-use Rattle.pieces.specs.Writes.{Adds, Writes}
+use Rattle.emit.specs.declared.Output.{Output}
+use Rattle.emit.specs.Appends.{Appends}
+use Rattle.pieces.specs.Writes.{Writes}
 use Rattle.form_parts.specs.Places.{bytes_at, Utf8At}
 use Rattle.pieces.proofs.Chain.{known, ◌▹◌}
 use Rattle.pieces.proofs.Chain as C
@@ -25,29 +26,23 @@ empty [] h = refl
 empty (x ∷ l) h = absurd (omega arith)
 
 module _ (text : List ℕ) (p : Span) (h : Utf8At text p) (bytes : List ℕ) (e : bytes ≡ bytes_at text p) (o : Output) where
-  pub comment_empty : (r : Output) → length bytes ≡ 0 → Adds (0x2F ∷ 0x2F ∷ []) o r → Writes (comment (characters_at text p)) o r
+  pub comment_empty : (r : Output) → true ≡ eqb (length bytes) 0 → Appends (0x2F ∷ 0x2F ∷ []) o r → Writes (comment (characters_at text p)) o r
   unfolding encode characters_at
   comment_empty r z a =
-      let q : characters_at text p ≡ [] = ap decode (sym e ∙ empty bytes z) ∙ decode-nil in
+      let q : characters_at text p ≡ [] = ap decode (sym e ∙ empty bytes (eqb-true (length bytes) 0 (sym z))) ∙ decode-nil in
       rw q (known (0x2F ∷ 0x2F ∷ []) (λ rest. refl) a)
 
-  pub comment_text_lem : (a r : Output) → (length bytes ≡ 0 → ⊥) → Adds (0x2F ∷ 0x2F ∷ 0x20 ∷ []) o a → Adds bytes a r → Writes (comment (characters_at text p)) o r
+  pub comment_text_lem : (a r : Output) → false ≡ eqb (length bytes) 0 → Appends (0x2F ∷ 0x2F ∷ 0x20 ∷ []) o a → Appends bytes a r → Writes (comment (characters_at text p)) o r
   unfolding encode
   comment_text_lem a r z u v = go (characters_at text p) (h ∙ sym e)
     where
       go : (cs : List ℕ) → encode cs ≡ bytes → Writes (comment cs) o r
-      go [] q = absurd (z (sym (ap length q)))
+      go [] q = absurd (false≢true (z ∙ eq-eqb (length bytes) 0 (sym (ap length q))))
       go (c ∷ cs) q =
           known {p = say "// "} (0x2F ∷ 0x2F ∷ 0x20 ∷ []) (λ rest. refl) u
           ▹ known {p = verbatim (c ∷ cs)} bytes (λ rest. encode-append (c ∷ cs) rest ∙ ap (λ l. l ++ encode rest) q) v
 
 -- ---- none
-
-pub none_end : (s e k : ℕ) → s ≡ k → eqb e k ≡ (eqb s k && eqb e k)
-none_end s e k h = rw (eq-eqb s k h)
-
-pub none-start : (s e k : ℕ) → (s ≡ k → ⊥) → false ≡ (eqb s k && eqb e k)
-none-start s e k h = rw (ne_eqb s k h)
 
 module _ (text : List ℕ) (p : Span) (t : Bool) (q : t ≡ (eqb p.start 4294967295 && eqb p.end 4294967295)) (o : Output) where
   -- a comment by whether there is none
@@ -58,6 +53,6 @@ module _ (text : List ℕ) (p : Span) (t : Bool) (q : t ≡ (eqb p.start 4294967
   unfolding comment_at by
   own_none e = let c : comment_at text p ≡ none = ap by (sym q ∙ e) in rw c (C.none o)
 
-  pub own_text : (a r : Output) → t ≡ false → Adds (0x20 ∷ []) o a → Writes (comment (characters_at text p)) a r → Writes (own_comment (comment_at text p)) o r
+  pub own_text : (a r : Output) → t ≡ false → Appends (0x20 ∷ []) o a → Writes (comment (characters_at text p)) a r → Writes (own_comment (comment_at text p)) o r
   unfolding comment_at by encode
   own_text a r e u v = let c : comment_at text p ≡ some (characters_at text p) = ap by (sym q ∙ e) in rw c (known {p = say " "} (0x20 ∷ []) (λ rest. refl) u ▹ v)

@@ -1,6 +1,6 @@
 -- Lists: the members that are left of a section's records, and what is still to be written of them.
 use mathlib.Core.Path.{◌≡◌, refl, sym, ap, subst, ◌∙◌}
-use Prim.Native.Nat.{ℕ, zero, suc, ◌+◌, ◌-◌, ◌≤◌, ◌<◌}
+use Prim.Native.Nat.{ℕ, zero, suc, ◌+◌, ◌*◌, ◌≤◌, ◌<◌}
 use native.Mathlib.Omega.{arith}
 use native.Mathlib.Numerals.{add-one}
 use mathlib.Core.Bool.{true}
@@ -10,13 +10,13 @@ use lib.ListN.{get_or, take, drop}
 use borrow.Author.Tests.{lt-ltb}
 use Rattle.chars.specs.Utf8.{scalar, scalars, encode}
 use Rattle.chars.proofs.Tests.{and_both}
-use Rattle.lexer.specs.Tokens.{Span}
 use Rattle.language.specs.Plain.{Piece, ◌⨾◌, say, only, each, commas, verbatim, symbol, direction, end, comment, comment_line}
 use Rattle.language.specs.Agreement.{groups, place_at, dir_of, characters_at, text_in}
 use Rattle.machine.specs.declared.Span as D
 use Rattle.machine.specs.Head.{span_of, span_in}
-use Rattle.emit.specs.Output.{Output}
-use Rattle.pieces.specs.Writes.{Adds, Writes}
+use Rattle.emit.specs.declared.Output.{Output}
+use Rattle.emit.specs.Appends.{Appends}
+use Rattle.pieces.specs.Writes.{Writes}
 use Rattle.form_parts.specs.Places.{Every, Utf8At, NameIn, column}
 use Rattle.sheet_words.proofs.Records.{left, left-all, left-next, left-none, word_in}
 use Rattle.pieces.proofs.Chain.{known, ◌▹◌, Goes, goes_start, goes_on, goes_end}
@@ -65,135 +65,144 @@ more_on show i a l all e g u v = goes_on (λ rest. ap (λ m. more show i m rest)
 
 -- ---- names and comments
 
+-- the records from the i-th of n on
+pub rest_all : (k n : ℕ) (ws : List ℕ) → left k n 0 (k * 0) ws ≡ groups k n ws
+rest_all k n ws = let e : k * 0 ≡ 0 = omega arith in rw e (left-all k n ws)
+
+pub rest_of : (k n i : ℕ) (ws : List ℕ) → i < n → left k n i (k * i) ws ≡ take k (drop (k * i) ws) ∷ left k n (i + 1) (k * (i + 1)) ws
+rest_of k n i ws h =
+    let e : k * i + k ≡ k * (i + 1) = omega arith in
+    left-next k n i (k * i) ws h ∙ ap (λ m. take k (drop (k * i) ws) ∷ left k n (i + 1) m ws) e
+
 -- what is left of the records holds UTF-8
-pub record Names (text : List ℕ) (k n i j : ℕ) (ws : List ℕ) : Type 0 where
-  pub names : Every (NameIn text) (left k n i j ws)
+pub record Names (text : List ℕ) (k n i : ℕ) (ws : List ℕ) : Type 0 where
+  pub names : Every (NameIn text) (left k n i (k * i) ws)
 
 -- their characters
-pub texts : List ℕ → ℕ → ℕ → ℕ → ℕ → List ℕ → List (List ℕ)
-texts text k n i j ws = map (text_in text) (left k n i j ws)
+pub texts : List ℕ → ℕ → ℕ → ℕ → List ℕ → List (List ℕ)
+texts text k n i ws = map (text_in text) (left k n i (k * i) ws)
 
 module _ (text : List ℕ) (k n : ℕ) (ws : List ℕ) where
-  pub names-all : Every (NameIn text) (groups k n ws) → Names text k n 0 0 ws
-  names-all h = record { names = subst (Every (NameIn text)) (sym (left-all k n ws)) h }
+  pub names-all : Every (NameIn text) (groups k n ws) → Names text k n 0 ws
+  names-all h = record { names = subst (Every (NameIn text)) (sym (rest_all k n ws)) h }
 
-  texts_all : texts text k n 0 0 ws ≡ map (text_in text) (groups k n ws)
+  texts_all : texts text k n 0 ws ≡ map (text_in text) (groups k n ws)
   unfolding texts
-  texts_all = ap (map (text_in text)) (left-all k n ws)
+  texts_all = ap (map (text_in text)) (rest_all k n ws)
 
-  texts_none : (i j : ℕ) → n ≤ i → texts text k n i j ws ≡ []
+  texts_none : (i : ℕ) → n ≤ i → texts text k n i ws ≡ []
   unfolding texts
-  texts_none i j h = ap (map (text_in text)) (left-none k n i j ws h)
+  texts_none i h = ap (map (text_in text)) (left-none k n i (k * i) ws h)
 
-  module _ (i j : ℕ) (h : i < n) where
-    pub names-next : Names text k n i j ws → Names text k n (i + 1) (j + k) ws
-    names-next e = record { names = (subst (Every (NameIn text)) (left-next k n i j ws h) e.names).1 }
+  module _ (i : ℕ) (h : i < n) where
+    pub names-next : Names text k n i ws → Names text k n (i + 1) ws
+    names-next e = record { names = (subst (Every (NameIn text)) (rest_of k n i ws h) e.names).1 }
 
-    module _ (wide : 1 < k) (q : D.Span) (at : q ≡ span_of (place_at ws j)) where
-      here : place_at (take k (drop j ws)) 0 ≡ span_in q
-      here = place_in k j ws wide ∙ sym (ap span_in at)
+    module _ (wide : 1 < k) (q : D.Span) (at : q ≡ span_of (place_at ws (k * i))) where
+      here : place_at (take k (drop (k * i) ws)) 0 ≡ span_in q
+      here = place_in k (k * i) ws wide ∙ sym (ap span_in at)
 
-      pub names_here : Names text k n i j ws → Utf8At text (span_in q)
-      names_here e = subst (Utf8At text) here (subst (Every (NameIn text)) (left-next k n i j ws h) e.names).0
+      pub names_here : Names text k n i ws → Utf8At text (span_in q)
+      names_here e = subst (Utf8At text) here (subst (Every (NameIn text)) (rest_of k n i ws h) e.names).0
 
-      texts_next : texts text k n i j ws ≡ characters_at text (span_in q) ∷ texts text k n (i + 1) (j + k) ws
+      texts_next : texts text k n i ws ≡ characters_at text (span_in q) ∷ texts text k n (i + 1) ws
       unfolding texts text_in
-      texts_next = ap (map (text_in text)) (left-next k n i j ws h) ∙ ap (λ p. characters_at text p ∷ texts text k n (i + 1) (j + k) ws) here
+      texts_next = ap (map (text_in text)) (rest_of k n i ws h) ∙ ap (λ p. characters_at text p ∷ texts text k n (i + 1) ws) here
 
       module _ (o a : Output) (p₀ : Piece) (o₀ : Output) where
-        pub lines-on : (r : Output) → Goes (each comment_line (texts text k n i j ws)) o p₀ o₀ → Writes (comment (characters_at text (span_in q))) o a → Adds (10 ∷ []) a r
-            → Goes (each comment_line (texts text k n (i + 1) (j + k) ws)) r p₀ o₀
+        pub lines-on : (r : Output) → Goes (each comment_line (texts text k n i ws)) o p₀ o₀ → Writes (comment (characters_at text (span_in q))) o a → Appends (10 ∷ []) a r
+            → Goes (each comment_line (texts text k n (i + 1) ws)) r p₀ o₀
         unfolding each encode
         lines-on r g u v = goes_on (λ rest. ap (λ l. each comment_line l rest) texts_next) g (u ▹ known {p = end} (10 ∷ []) (λ rest. refl) v)
 
-        pub list_on : (r : Output) → Goes (more verbatim i (texts text k n i j ws)) o p₀ o₀ → Writes (only (ltb 0 i) (say ", ")) o a
-            → Writes (verbatim (characters_at text (span_in q))) a r → Goes (more verbatim (i + 1) (texts text k n (i + 1) (j + k) ws)) r p₀ o₀
-        list_on r g u v = more_on verbatim i (characters_at text (span_in q)) (texts text k n (i + 1) (j + k) ws) (texts text k n i j ws) texts_next g u v
+        pub list_on : (r : Output) → Goes (more verbatim i (texts text k n i ws)) o p₀ o₀ → Writes (only (ltb 0 i) (say ", ")) o a
+            → Writes (verbatim (characters_at text (span_in q))) a r → Goes (more verbatim (i + 1) (texts text k n (i + 1) ws)) r p₀ o₀
+        list_on r g u v = more_on verbatim i (characters_at text (span_in q)) (texts text k n (i + 1) ws) (texts text k n i ws) texts_next g u v
 
-  pub lines_start : (o : Output) → Goes (each comment_line (texts text k n 0 0 ws)) o (each comment_line (map (text_in text) (groups k n ws))) o
+  pub lines_start : (o : Output) → Goes (each comment_line (texts text k n 0 ws)) o (each comment_line (map (text_in text) (groups k n ws))) o
   lines_start o = goes_start (λ rest. ap (λ l. each comment_line l rest) texts_all)
 
-  pub lines_end : (i j : ℕ) (o : Output) (p₀ : Piece) (o₀ : Output) → n ≤ i → Goes (each comment_line (texts text k n i j ws)) o p₀ o₀ → Writes p₀ o₀ o
+  pub lines_end : (i : ℕ) (o : Output) (p₀ : Piece) (o₀ : Output) → n ≤ i → Goes (each comment_line (texts text k n i ws)) o p₀ o₀ → Writes p₀ o₀ o
   unfolding each
-  lines_end i j o p₀ o₀ h g = goes_end (λ rest. ap (λ l. each comment_line l rest) (texts_none i j h)) g
+  lines_end i o p₀ o₀ h g = goes_end (λ rest. ap (λ l. each comment_line l rest) (texts_none i h)) g
 
-  pub list-start : (o : Output) → Goes (more verbatim 0 (texts text k n 0 0 ws)) o (commas verbatim (map (text_in text) (groups k n ws))) o
+  pub list-start : (o : Output) → Goes (more verbatim 0 (texts text k n 0 ws)) o (commas verbatim (map (text_in text) (groups k n ws))) o
   unfolding more
   list-start o = goes_start (λ rest. ap (λ l. commas verbatim l rest) texts_all)
 
-  pub list-end : (i j : ℕ) (o : Output) (p₀ : Piece) (o₀ : Output) → n ≤ i → Goes (more verbatim i (texts text k n i j ws)) o p₀ o₀ → Writes p₀ o₀ o
-  list-end i j o p₀ o₀ h g = goes_end (λ rest. ap (λ l. more verbatim i l rest) (texts_none i j h) ∙ more_none verbatim i rest) g
+  pub list-end : (i : ℕ) (o : Output) (p₀ : Piece) (o₀ : Output) → n ≤ i → Goes (more verbatim i (texts text k n i ws)) o p₀ o₀ → Writes p₀ o₀ o
+  list-end i o p₀ o₀ h g = goes_end (λ rest. ap (λ l. more verbatim i l rest) (texts_none i h) ∙ more_none verbatim i rest) g
 
 -- ---- symbols and moves
 
 -- the words at o of the records that are left
-pub codes : ℕ → ℕ → ℕ → ℕ → ℕ → List ℕ → List ℕ
-codes k o n i j ws = map (λ r. get_or r o 0) (left k n i j ws)
+pub codes : ℕ → ℕ → ℕ → ℕ → List ℕ → List ℕ
+codes k o n i ws = map (λ r. get_or r o 0) (left k n i (k * i) ws)
 
 -- they are scalar values
-pub record Codes (k o n i j : ℕ) (ws : List ℕ) : Type 0 where
-  pub valid : scalars (codes k o n i j ws) ≡ true
+pub record Codes (k o n i : ℕ) (ws : List ℕ) : Type 0 where
+  pub valid : scalars (codes k o n i ws) ≡ true
 
 module _ (k o n : ℕ) (ws : List ℕ) where
-  codes-column : codes k o n 0 0 ws ≡ column k o n ws
+  codes-column : codes k o n 0 ws ≡ column k o n ws
   unfolding codes
-  codes-column = ap (map (λ r. get_or r o 0)) (left-all k n ws)
+  codes-column = ap (map (λ r. get_or r o 0)) (rest_all k n ws)
 
-  pub codes_all : scalars (column k o n ws) ≡ true → Codes k o n 0 0 ws
+  pub codes_all : scalars (column k o n ws) ≡ true → Codes k o n 0 ws
   codes_all h = record { valid = ap scalars codes-column ∙ h }
 
-  codes-none : (i j : ℕ) → n ≤ i → codes k o n i j ws ≡ []
+  codes-none : (i : ℕ) → n ≤ i → codes k o n i ws ≡ []
   unfolding codes
-  codes-none i j h = ap (map (λ r. get_or r o 0)) (left-none k n i j ws h)
+  codes-none i h = ap (map (λ r. get_or r o 0)) (left-none k n i (k * i) ws h)
 
-  module _ (i j : ℕ) (h : i < n) (low : o < k) (c : ℕ) (at : c ≡ get_or ws (j + o) 0) where
-    codes-next : codes k o n i j ws ≡ c ∷ codes k o n (i + 1) (j + k) ws
+  module _ (i : ℕ) (h : i < n) (low : o < k) (c : ℕ) (at : c ≡ get_or ws (k * i + o) 0) where
+    codes-next : codes k o n i ws ≡ c ∷ codes k o n (i + 1) ws
     unfolding codes
-    codes-next = ap (map (λ r. get_or r o 0)) (left-next k n i j ws h) ∙ rw (word_in k j o ws low, ← at)
+    codes-next = ap (map (λ r. get_or r o 0)) (rest_of k n i ws h) ∙ rw (word_in k (k * i) o ws low, ← at)
 
-    both : Codes k o n i j ws → (scalar c ≡ true) × (scalars (codes k o n (i + 1) (j + k) ws) ≡ true)
+    both : Codes k o n i ws → (scalar c ≡ true) × (scalars (codes k o n (i + 1) ws) ≡ true)
     unfolding scalars
-    both e = and_both (scalar c) (scalars (codes k o n (i + 1) (j + k) ws)) (sym (ap scalars codes-next) ∙ e.valid)
+    both e = and_both (scalar c) (scalars (codes k o n (i + 1) ws)) (sym (ap scalars codes-next) ∙ e.valid)
 
-    pub codes_here : Codes k o n i j ws → scalar c ≡ true
+    pub codes_here : Codes k o n i ws → scalar c ≡ true
     codes_here e = (both e).0
 
-    pub codes-left : Codes k o n i j ws → Codes k o n (i + 1) (j + k) ws
+    pub codes-left : Codes k o n i ws → Codes k o n (i + 1) ws
     codes-left e = record { valid = (both e).1 }
 
     module _ (f a r : Output) (p₀ : Piece) (o₀ : Output) (u : Writes (only (ltb 0 i) (say ", ")) f a) where
-      pub symbols-on : Goes (more symbol i (codes k o n i j ws)) f p₀ o₀ → Writes (symbol c) a r → Goes (more symbol (i + 1) (codes k o n (i + 1) (j + k) ws)) r p₀ o₀
-      symbols-on g v = more_on symbol i c (codes k o n (i + 1) (j + k) ws) (codes k o n i j ws) codes-next g u v
+      pub symbols-on : Goes (more symbol i (codes k o n i ws)) f p₀ o₀ → Writes (symbol c) a r → Goes (more symbol (i + 1) (codes k o n (i + 1) ws)) r p₀ o₀
+      symbols-on g v = more_on symbol i c (codes k o n (i + 1) ws) (codes k o n i ws) codes-next g u v
 
-      pub moves-on : Goes (more direction i (map dir_of (codes k o n i j ws))) f p₀ o₀ → Writes (direction (dir_of c)) a r
-          → Goes (more direction (i + 1) (map dir_of (codes k o n (i + 1) (j + k) ws))) r p₀ o₀
-      moves-on g v = more_on direction i (dir_of c) (map dir_of (codes k o n (i + 1) (j + k) ws)) (map dir_of (codes k o n i j ws)) (ap (map dir_of) codes-next) g u v
+      pub moves-on : Goes (more direction i (map dir_of (codes k o n i ws))) f p₀ o₀ → Writes (direction (dir_of c)) a r
+          → Goes (more direction (i + 1) (map dir_of (codes k o n (i + 1) ws))) r p₀ o₀
+      moves-on g v = more_on direction i (dir_of c) (map dir_of (codes k o n (i + 1) ws)) (map dir_of (codes k o n i ws)) (ap (map dir_of) codes-next) g u v
 
-  pub symbols-start : (f : Output) → Goes (more symbol 0 (codes k o n 0 0 ws)) f (commas symbol (column k o n ws)) f
+  pub symbols-start : (f : Output) → Goes (more symbol 0 (codes k o n 0 ws)) f (commas symbol (column k o n ws)) f
   unfolding more
   symbols-start f = goes_start (λ rest. ap (λ l. commas symbol l rest) codes-column)
 
-  pub symbols-end : (i j : ℕ) (f : Output) (p₀ : Piece) (o₀ : Output) → n ≤ i → Goes (more symbol i (codes k o n i j ws)) f p₀ o₀ → Writes p₀ o₀ f
-  symbols-end i j f p₀ o₀ h g = goes_end (λ rest. ap (λ l. more symbol i l rest) (codes-none i j h) ∙ more_none symbol i rest) g
+  pub symbols-end : (i : ℕ) (f : Output) (p₀ : Piece) (o₀ : Output) → n ≤ i → Goes (more symbol i (codes k o n i ws)) f p₀ o₀ → Writes p₀ o₀ f
+  symbols-end i f p₀ o₀ h g = goes_end (λ rest. ap (λ l. more symbol i l rest) (codes-none i h) ∙ more_none symbol i rest) g
 
-  pub moves-start : (f : Output) → Goes (more direction 0 (map dir_of (codes k o n 0 0 ws))) f (commas direction (map dir_of (column k o n ws))) f
+  pub moves-start : (f : Output) → Goes (more direction 0 (map dir_of (codes k o n 0 ws))) f (commas direction (map dir_of (column k o n ws))) f
   unfolding more
   moves-start f = goes_start (λ rest. ap (λ l. commas direction (map dir_of l) rest) codes-column)
 
-  pub moves-end : (i j : ℕ) (f : Output) (p₀ : Piece) (o₀ : Output) → n ≤ i → Goes (more direction i (map dir_of (codes k o n i j ws))) f p₀ o₀ → Writes p₀ o₀ f
-  moves-end i j f p₀ o₀ h g = goes_end (λ rest. ap (λ l. more direction i (map dir_of l) rest) (codes-none i j h) ∙ more_none direction i rest) g
+  pub moves-end : (i : ℕ) (f : Output) (p₀ : Piece) (o₀ : Output) → n ≤ i → Goes (more direction i (map dir_of (codes k o n i ws))) f p₀ o₀ → Writes p₀ o₀ f
+  moves-end i f p₀ o₀ h g = goes_end (λ rest. ap (λ l. more direction i (map dir_of l) rest) (codes-none i h) ∙ more_none direction i rest) g
 
 -- a move
 module _ (d : ℕ) (o r : Output) where
-  pub move_left : d ≡ 0 → Adds (0x4C ∷ []) o r → Writes (direction (dir_of d)) o r
+  pub move_left : d ≡ 0 → Appends (0x4C ∷ []) o r → Writes (direction (dir_of d)) o r
   unfolding encode
   move_left e a = rw e (known (0x4C ∷ []) (λ rest. refl) a)
 
-  pub move_right : d ≡ 1 → Adds (0x52 ∷ []) o r → Writes (direction (dir_of d)) o r
+  pub move_right : d ≡ 1 → Appends (0x52 ∷ []) o r → Writes (direction (dir_of d)) o r
   unfolding encode
   move_right e a = rw e (known (0x52 ∷ []) (λ rest. refl) a)
 
-pub move_stay : (d : ℕ) (o r : Output) → (d ≡ 0 → ⊥) → (d ≡ 1 → ⊥) → Adds (0x4E ∷ []) o r → Writes (direction (dir_of d)) o r
+pub move_stay : (d : ℕ) (o r : Output) → (d ≡ 0 → ⊥) → (d ≡ 1 → ⊥) → Appends (0x4E ∷ []) o r → Writes (direction (dir_of d)) o r
 unfolding encode
 move_stay zero o r h k a = absurd (h refl)
 move_stay (suc zero) o r h k a = absurd (k refl)

@@ -2,216 +2,151 @@
 // Each function appends a piece of the form to a lent output, as crate `emit` does: stored where there is room, counted in any case.
 #![tactic(auto)]
 
-ghost use Rattle.std.specs.Prelude.{true, ◌&&◌, ◌≡◌, map, ◌+◌, ◌<◌, ◌≤◌, eqb, get_or};
+ghost use Rattle.std.specs.Prelude.{true, ◌&&◌, ◌≡◌, map, ◌<◌, ◌≤◌, eqb};
 ghost use Rattle.chars.specs.Utf8.{scalars};
 ghost use Rattle.language.specs.Plain.{each, commas, verbatim, symbol, direction, string, comment_line, comment, own_comment, final_names};
-ghost use Rattle.language.specs.Agreement.{groups, place_at, dir_of, characters_at, string_at, comment_at, state_in, text_in};
-ghost use Rattle.machine.specs.Head.{span_of, span_in};
-ghost use Rattle.emit.specs.Output.{output};
+ghost use Rattle.language.specs.Agreement.{groups, dir_of, characters_at, string_at, comment_at, state_in, text_in};
+ghost use Rattle.machine.specs.Head.{span_in};
 ghost use Rattle.pieces.specs.Writes.{Writes};
 ghost use Rattle.pieces.specs.Strings.{Whole};
 ghost use Rattle.form_parts.specs.Places.{Every, bytes_at, Utf8At, NameIn, column};
-ghost use Rattle.form_parts.specs.Finals.{FinalWritten};
 
+use emit::Output;
 use machine::Span;
-use pieces::{comma, say, string_text, symbol};
-use sheet_words::word;
+use pieces::{comma, string_text, symbol};
+use sheet_words::{place_at, word};
 
-// ---- parts of the sheet and of the text
-
-// The place that stands in two words.
-pub fn place_at(words: &[u32], i: usize) -> Span
-    requires { i + 1 < 18446744073709551616 }
-    ensures { result ≡ span_of (place_at words.now i) }
-{
-    Span {
-        start: word(words, i),
-        end: word(words, i + 1),
-    }
-}
+// ---- parts of the text
 
 // The bytes at a place.
 fn part(text: &[u8], p: Span) -> &[u8]
     ensures { result.now ≡ bytes_at text.now (span_in p) }
 {
-    let e = emit::least(p.end as usize, text.len());
-    let s = emit::least(p.start as usize, e);
-    &text[s..e]
+    let end = text.len().min(p.end as usize);
+    let start = end.min(p.start as usize);
+    &text[start..end]
 }
 
 // ---- characters
 
 // The characters at a place.
-pub fn verbatim(out: &mut [u8], at: usize, text: &[u8], p: Span) -> usize
+pub fn verbatim(out: &mut Output, text: &[u8], p: Span)
     requires { Utf8At text.now (span_in p) }
-    ensures { Writes (verbatim (characters_at text.now (span_in p))) (output out.old at) (output out.new result) }
+    ensures { Writes (verbatim (characters_at text.now (span_in p))) out.old out.new }
 {
-    say(out, at, part(text, p))
+    out.bytes(part(text, p));
 }
 
 // The string at a place, in quotes.
-pub fn string(out: &mut [u8], at: usize, text: &[u8], p: Span) -> usize
+pub fn string(out: &mut Output, text: &[u8], p: Span)
     requires { Whole (characters_at text.now (span_in p)) }
-    ensures { Writes (string (string_at text.now (span_in p))) (output out.old at) (output out.new result) }
+    ensures { Writes (string (string_at text.now (span_in p))) out.old out.new }
 {
-    let a = say(out, at, b"\"");
-    let b = string_text(out, a, part(text, p));
-    say(out, b, b"\"")
+    out.bytes(b"\"");
+    string_text(out, part(text, p));
+    out.bytes(b"\"");
 }
 
 // ---- comments
 
 // The comment at a place; a space parts the slashes from its text.
-pub fn comment(out: &mut [u8], at: usize, text: &[u8], p: Span) -> usize
+pub fn comment(out: &mut Output, text: &[u8], p: Span)
     requires { Utf8At text.now (span_in p) }
-    ensures { Writes (comment (characters_at text.now (span_in p))) (output out.old at) (output out.new result) }
+    ensures { Writes (comment (characters_at text.now (span_in p))) out.old out.new }
 {
     let t = part(text, p);
-    if t.len() == 0 {
-        return say(out, at, b"//");
+    if t.is_empty() {
+        return out.bytes(b"//");
     }
-    let a = say(out, at, b"// ");
-    say(out, a, t)
+    out.bytes(b"// ");
+    out.bytes(t);
 }
 
 // Whether a place says that there is none.
 fn is_none(p: Span) -> bool
     ensures { result ≡ (eqb p.start 4294967295 && eqb p.end 4294967295) }
 {
-    if p.start == 0xffff_ffff {
-        return p.end == 0xffff_ffff;
-    }
-    false
+    p.start == u32::MAX && p.end == u32::MAX
 }
 
 // A rule's own comment, if it has one.
-pub fn own_comment(out: &mut [u8], at: usize, text: &[u8], p: Span) -> usize
+pub fn own_comment(out: &mut Output, text: &[u8], p: Span)
     requires { Utf8At text.now (span_in p) }
-    ensures { Writes (own_comment (comment_at text.now (span_in p))) (output out.old at) (output out.new result) }
+    ensures { Writes (own_comment (comment_at text.now (span_in p))) out.old out.new }
 {
-    if is_none(p) {
-        return at;
+    if !is_none(p) {
+        out.bytes(b" ");
+        comment(out, text, p);
     }
-    let a = say(out, at, b" ");
-    comment(out, a, text, p)
 }
 
 // n comments, each on a line of its own.
-pub fn comment_lines(out: &mut [u8], at: usize, text: &[u8], words: &[u32], n: u32) -> usize
+pub fn comment_lines(out: &mut Output, text: &[u8], words: &[u32], n: u32)
     requires { Every (NameIn text.now) (groups 2 n words.now) }
-    ensures { Writes (each comment_line (map (text_in text.now) (groups 2 n words.now))) (output out.old at) (output out.new result) }
+    ensures { Writes (each comment_line (map (text_in text.now) (groups 2 n words.now))) out.old out.new }
 {
-    let mut end = at;
-    let mut i = 0;
-    let mut j = 0;
-    while i < n {
-        let a = comment(out, end, text, place_at(words, j));
-        end = say(out, a, b"\n");
-        i += 1;
-        j += 2;
+    for i in 0..n as usize {
+        comment(out, text, place_at(words, 2 * i));
+        out.bytes(b"\n");
     }
-    end
 }
 
 // ---- lists
 
 // The names of n states.
-pub fn names(out: &mut [u8], at: usize, text: &[u8], words: &[u32], n: u32) -> usize
+pub fn names(out: &mut Output, text: &[u8], words: &[u32], n: u32)
     requires { Every (NameIn text.now) (groups 3 n words.now) }
-    ensures { Writes (commas verbatim (map (text_in text.now) (groups 3 n words.now))) (output out.old at) (output out.new result) }
+    ensures { Writes (commas verbatim (map (text_in text.now) (groups 3 n words.now))) out.old out.new }
 {
-    let mut end = at;
-    let mut i = 0;
-    let mut j = 0;
-    while i < n {
-        let a = comma(out, end, i);
-        end = verbatim(out, a, text, place_at(words, j));
-        i += 1;
-        j += 3;
+    for i in 0..n as usize {
+        comma(out, i);
+        verbatim(out, text, place_at(words, 3 * i));
     }
-    end
 }
 
 // The symbols in word o of n records of k words.
-pub fn symbols(out: &mut [u8], at: usize, words: &[u32], k: usize, o: usize, n: u32) -> usize
+pub fn symbols(out: &mut Output, words: &[u32], k: usize, o: usize, n: u32)
     requires { (o < k) × (k ≤ 7) × (scalars (column k o n words.now) ≡ true) }
-    ensures { Writes (commas symbol (column k o n words.now)) (output out.old at) (output out.new result) }
+    ensures { Writes (commas symbol (column k o n words.now)) out.old out.new }
 {
-    let mut end = at;
-    let mut i = 0;
-    let mut j = 0;
-    while i < n {
-        let a = comma(out, end, i);
-        end = symbol(out, a, word(words, j + o));
-        i += 1;
-        j += k;
+    for i in 0..n as usize {
+        comma(out, i);
+        symbol(out, word(words, k * i + o));
     }
-    end
 }
 
 // The move of a head.
-fn direction(out: &mut [u8], at: usize, d: u32) -> usize
-    ensures { Writes (direction (dir_of d)) (output out.old at) (output out.new result) }
+fn direction(out: &mut Output, d: u32)
+    ensures { Writes (direction (dir_of d)) out.old out.new }
 {
     match d {
-        0 => say(out, at, b"L"),
-        1 => say(out, at, b"R"),
-        _ => say(out, at, b"N"),
+        0 => out.bytes(b"L"),
+        1 => out.bytes(b"R"),
+        _ => out.bytes(b"N"),
     }
 }
 
 // The moves of n actions.
-pub fn directions(out: &mut [u8], at: usize, words: &[u32], n: u32) -> usize
-    ensures { Writes (commas direction (map dir_of (column 7 6 n words.now))) (output out.old at) (output out.new result) }
+pub fn directions(out: &mut Output, words: &[u32], n: u32)
+    ensures { Writes (commas direction (map dir_of (column 7 6 n words.now))) out.old out.new }
 {
-    let mut end = at;
-    let mut i = 0;
-    let mut j = 0;
-    while i < n {
-        let a = comma(out, end, i);
-        end = direction(out, a, word(words, j + 6));
-        i += 1;
-        j += 7;
-    }
-    end
-}
-
-// How far an output is, and how many names of a list are written.
-#[derive(Clone, Copy)]
-struct Listed {
-    at: usize,
-    count: u32,
-}
-
-// The name of the state whose words begin at j, if it is final.
-fn final_name(out: &mut [u8], l: Listed, text: &[u8], words: &[u32], j: usize) -> Listed
-    requires { (j + 2 < 18446744073709551616) × (l.count < 4294967295) × Utf8At text.now (place_at words.now j) }
-    ensures { FinalWritten (eqb (get_or words.now (j + 2) 0) 1) (characters_at text.now (place_at words.now j))
-        (output out.old l.at) l.count (output out.new result.at) result.count }
-{
-    if word(words, j + 2) != 1 {
-        return l;
-    }
-    let a = comma(out, l.at, l.count);
-    let b = verbatim(out, a, text, place_at(words, j));
-    Listed {
-        at: b,
-        count: l.count + 1,
+    for i in 0..n as usize {
+        comma(out, i);
+        direction(out, word(words, 7 * i + 6));
     }
 }
 
 // The names of the final ones of n states.
-pub fn final_names(out: &mut [u8], at: usize, text: &[u8], words: &[u32], n: u32) -> usize
+pub fn final_names(out: &mut Output, text: &[u8], words: &[u32], n: u32)
     requires { Every (NameIn text.now) (groups 3 n words.now) }
-    ensures { Writes (commas verbatim (final_names (map (state_in text.now) (groups 3 n words.now)))) (output out.old at) (output out.new result) }
+    ensures { Writes (commas verbatim (final_names (map (state_in text.now) (groups 3 n words.now)))) out.old out.new }
 {
-    let mut l = Listed { at, count: 0 };
-    let mut i = 0;
-    let mut j = 0;
-    while i < n {
-        l = final_name(out, l, text, words, j);
-        i += 1;
-        j += 3;
+    let mut count = 0;
+    for i in 0..n as usize {
+        if word(words, 3 * i + 2) == 1 {
+            comma(out, count);
+            verbatim(out, text, place_at(words, 3 * i));
+            count += 1;
+        }
     }
-    l.at
 }

@@ -31,7 +31,7 @@ pub fn symbol(out: &mut Output, c: u32)
 }
 
 // A comma before every member of a list but the first.
-pub fn comma(out: &mut Output, i: u32)
+pub fn comma(out: &mut Output, i: usize)
     ensures { Writes (only (ltb 0 i) (say ", ")) out.old out.new }
 {
     if 0 < i {

@@ -1,22 +1,22 @@
 -- Rules: the words of a record give what the rule's content gives, and records are taken one after the other.
 use mathlib.Core.Path.{◌≡◌, refl, sym, ap, ap₂, subst, ◌∙◌}
-use Prim.Native.Nat.{ℕ, ◌+◌, ◌-◌, ◌*◌, ◌≤◌, ◌<◌, min}
+use Prim.Native.Nat.{ℕ, suc, ◌+◌, ◌-◌, ◌*◌, ◌≤◌, ◌<◌}
+use native.Mathlib.Omega.{arith}
 use mathlib.Core.Bool.{true}
 use mathlib.Core.List.{List, [], ◌∷◌, map, map-map}
-use lib.ListN.{length, get_or, take, drop}
+use lib.ListN.{get_or, take, drop}
 use Rattle.chars.specs.Utf8.{scalars, encode}
-use Rattle.lexer.specs.Tokens.{Span}
 use Rattle.language.specs.Content.{ActionContent}
 use Rattle.language.specs.Plain.{Piece, say, end, each, commas, verbatim, symbol, direction, comment_line, own_comment, rule, rule_lines}
 use Rattle.language.specs.Agreement.{groups, records, place_at, dir_of, action_in, characters_at, comment_at, text_in, rule_in}
 use Rattle.machine.specs.declared.Span as D
 use Rattle.machine.specs.Head.{span_of, span_in}
-use Rattle.emit.specs.Output.{Output}
-use Rattle.pieces.specs.Writes.{Adds, Writes}
+use Rattle.emit.specs.declared.Output.{Output}
+use Rattle.emit.specs.Appends.{Appends}
+use Rattle.pieces.specs.Writes.{Writes}
 use Rattle.rule_form.specs.Rules.{rule_left, rule_right}
 use Rattle.form_parts.specs.Places.{Every, Utf8At, NameIn, column}
 use Rattle.rule_form.specs.Formed.{RuleFormed}
-use Rattle.sheet_words.proofs.Records.{records_left, records-all, records-none, records-next}
 use Rattle.pieces.proofs.Chain.{known, same, ◌▹◌, Goes, goes_start, goes_on, goes_end}
 
 -- ---- the members of a list by a function of each
@@ -58,8 +58,8 @@ module _ (text ws : List ℕ) where
   named i q o r e w = subst (λ p. Writes (verbatim (characters_at text p)) o r) (ap span_in e) w
 
   module _ (n : ℕ) (acts : List ℕ) (arity : n ≡ get_or ws 9 0) (cut : acts ≡ drop 11 ws) where
-    pub left-written : (q : D.Span) (o a b c d r : Output) → q ≡ span_of (place_at ws 1) → Adds (0xCE ∷ 0xB4 ∷ 0x28 ∷ []) o a → Writes (verbatim (characters_at text (span_in q))) a b
-        → Adds (0x2C ∷ 0x20 ∷ 0x28 ∷ []) b c → Writes (commas symbol (column 7 0 n acts)) c d → Adds (0x29 ∷ 0x29 ∷ []) d r → Writes (rule_left (rule_in text ws)) o r
+    pub left-written : (q : D.Span) (o a b c d r : Output) → q ≡ span_of (place_at ws 1) → Appends (0xCE ∷ 0xB4 ∷ 0x28 ∷ []) o a → Writes (verbatim (characters_at text (span_in q))) a b
+        → Appends (0x2C ∷ 0x20 ∷ 0x28 ∷ []) b c → Writes (commas symbol (column 7 0 n acts)) c d → Appends (0x29 ∷ 0x29 ∷ []) d r → Writes (rule_left (rule_in text ws)) o r
     unfolding rule_left rule_in actions encode
     left-written q o a b c d r e w₁ w₂ w₃ w₄ w₅ =
         let f : Writes (commas (λ x. symbol x.read) (actions (get_or ws 9 0) (drop 11 ws))) c d =
@@ -67,9 +67,9 @@ module _ (text ws : List ℕ) where
         known {p = say "δ("} (0xCE ∷ 0xB4 ∷ 0x28 ∷ []) (λ rest. refl) w₁ ▹ named 1 q a b e w₂
         ▹ known {p = say ", ("} (0x2C ∷ 0x20 ∷ 0x28 ∷ []) (λ rest. refl) w₃ ▹ f ▹ known {p = say "))"} (0x29 ∷ 0x29 ∷ []) (λ rest. refl) w₅
 
-    pub right-written : (q : D.Span) (o a b c d x y r : Output) → q ≡ span_of (place_at ws 3) → Adds (0x20 ∷ 0x3D ∷ 0x20 ∷ 0x28 ∷ []) o a → Writes (verbatim (characters_at text (span_in q))) a b
-        → Adds (0x2C ∷ 0x20 ∷ 0x28 ∷ []) b c → Writes (commas symbol (column 7 3 n acts)) c d → Adds (0x29 ∷ 0x2C ∷ 0x20 ∷ 0x28 ∷ []) d x
-        → Writes (commas direction (map dir_of (column 7 6 n acts))) x y → Adds (0x29 ∷ 0x29 ∷ []) y r → Writes (rule_right (rule_in text ws)) o r
+    pub right-written : (q : D.Span) (o a b c d x y r : Output) → q ≡ span_of (place_at ws 3) → Appends (0x20 ∷ 0x3D ∷ 0x20 ∷ 0x28 ∷ []) o a → Writes (verbatim (characters_at text (span_in q))) a b
+        → Appends (0x2C ∷ 0x20 ∷ 0x28 ∷ []) b c → Writes (commas symbol (column 7 3 n acts)) c d → Appends (0x29 ∷ 0x2C ∷ 0x20 ∷ 0x28 ∷ []) d x
+        → Writes (commas direction (map dir_of (column 7 6 n acts))) x y → Appends (0x29 ∷ 0x29 ∷ []) y r → Writes (rule_right (rule_in text ws)) o r
     unfolding rule_right rule_in actions encode
     right-written q o a b c d x y r e w₁ w₂ w₃ w₄ w₅ w₆ w₇ =
         let f : Writes (commas (λ z. symbol z.write) (actions (get_or ws 9 0) (drop 11 ws))) c d =
@@ -88,7 +88,7 @@ module _ (text ws : List ℕ) where
     leading_utf8 h = subst (λ m. Every (NameIn text) (groups 2 m tail)) (sym many) (subst (λ l. Every (NameIn text) (groups 2 (get_or ws 10 0) l)) rest-words h)
 
     pub lines-written : (q : D.Span) (o a b c d r : Output) → q ≡ span_of (place_at ws 7) → Writes (each comment_line (map (text_in text) (groups 2 k tail))) o a
-        → Writes (rule_left (rule_in text ws)) a b → Writes (rule_right (rule_in text ws)) b c → Writes (own_comment (comment_at text (span_in q))) c d → Adds (10 ∷ []) d r
+        → Writes (rule_left (rule_in text ws)) a b → Writes (rule_right (rule_in text ws)) b c → Writes (own_comment (comment_at text (span_in q))) c d → Appends (10 ∷ []) d r
         → Writes (rule_lines (rule_in text ws)) o r
     unfolding rule_lines rule rule_left rule_right rule_in encode
     lines-written q o a b c d r e w₁ w₂ w₃ w₄ w₅ =
@@ -98,33 +98,50 @@ module _ (text ws : List ℕ) where
 
 -- ---- rules one after the other
 
+-- the records from the i-th of n on
+pub left : ℕ → ℕ → List ℕ → List (List ℕ)
+left n i ws = records (n - i) ws
+
 -- what is left of them is well formed
-pub record Formed (text : List ℕ) (n i j : ℕ) (ws : List ℕ) : Type 0 where
-  pub formed : Every (RuleFormed text) (records_left n i j ws)
+pub record Formed (text : List ℕ) (n i : ℕ) (ws : List ℕ) : Type 0 where
+  pub formed : Every (RuleFormed text) (left n i ws)
+
+left_all : (n : ℕ) (ws : List ℕ) → left n 0 ws ≡ records n ws
+unfolding left
+left_all n ws = let e : n - 0 ≡ n = omega arith in rw e
+
+left_none : (n i : ℕ) (ws : List ℕ) → n ≤ i → left n i ws ≡ []
+unfolding left records
+left_none n i ws h = let e : n - i ≡ 0 = omega arith in rw e
 
 module _ (text : List ℕ) (n : ℕ) (ws : List ℕ) where
-  pub formed-all : Every (RuleFormed text) (records n ws) → Formed text n 0 0 ws
-  formed-all h = record { formed = subst (Every (RuleFormed text)) (sym (records-all n ws)) h }
+  pub formed-all : Every (RuleFormed text) (records n ws) → Formed text n 0 ws
+  formed-all h = record { formed = subst (Every (RuleFormed text)) (sym (left_all n ws)) h }
 
-  pub rules-start : (o : Output) → Goes (each rule_lines (map (rule_in text) (records_left n 0 0 ws))) o (each rule_lines (map (rule_in text) (records n ws))) o
-  rules-start o = goes_start (λ rest. ap (λ l. each rule_lines (map (rule_in text) l) rest) (records-all n ws))
+  pub rules-start : (o : Output) → Goes (each rule_lines (map (rule_in text) (left n 0 ws))) o (each rule_lines (map (rule_in text) (records n ws))) o
+  rules-start o = goes_start (λ rest. ap (λ l. each rule_lines (map (rule_in text) l) rest) (left_all n ws))
 
-  pub rules-end : (i j : ℕ) (o : Output) (p₀ : Piece) (o₀ : Output) → n ≤ i → Goes (each rule_lines (map (rule_in text) (records_left n i j ws))) o p₀ o₀ → Writes p₀ o₀ o
+  pub rules-end : (i : ℕ) (o : Output) (p₀ : Piece) (o₀ : Output) → n ≤ i → Goes (each rule_lines (map (rule_in text) (left n i ws))) o p₀ o₀ → Writes p₀ o₀ o
   unfolding each
-  rules-end i j o p₀ o₀ h g = goes_end (λ rest. ap (λ l. each rule_lines (map (rule_in text) l) rest) (records-none n i j ws h)) g
+  rules-end i o p₀ o₀ h g = goes_end (λ rest. ap (λ l. each rule_lines (map (rule_in text) l) rest) (left_none n i ws h)) g
 
-  module _ (i j : ℕ) (h : i < n) (r : List ℕ) (e : r ≡ take (get_or ws j 0) (drop j ws)) where
-    first : records_left n i j ws ≡ r ∷ records_left n (i + 1) (min (j + get_or ws j 0) (length ws)) ws
-    first = records-next n i j ws h r e (get_or ws j 0) (min (j + get_or ws j 0) (length ws)) refl refl
+  module _ (i : ℕ) (h : i < n) (r : List ℕ) (e : r ≡ take (get_or ws 0 0) ws) where
+    left_next : left n i ws ≡ r ∷ left n (i + 1) (drop (get_or ws 0 0) ws)
+    unfolding left records
+    left_next = let s : n - i ≡ suc (n - (i + 1)) = omega arith in rw (s, ← e)
 
-    pub formed_here : Formed text n i j ws → RuleFormed text r
-    formed_here f = (subst (Every (RuleFormed text)) first f.formed).0
+    pub formed_here : Formed text n i ws → RuleFormed text r
+    formed_here f = (subst (Every (RuleFormed text)) left_next f.formed).0
 
-    module _ (k j' : ℕ) (p : k ≡ get_or ws j 0) (q : j' ≡ min (j + k) (length ws)) where
-      pub formed-next : Formed text n i j ws → Formed text n (i + 1) j' ws
-      formed-next f = record { formed = (subst (Every (RuleFormed text)) (records-next n i j ws h r e k j' p q) f.formed).1 }
+    module _ (k : ℕ) (ws' : List ℕ) (p : k ≡ get_or ws 0 0) (q : ws' ≡ drop k ws) where
+      others : drop (get_or ws 0 0) ws ≡ ws'
+      others = sym (q ∙ ap (λ m. drop m ws) p)
 
-      pub rules-on : (o a : Output) (p₀ : Piece) (o₀ : Output) → Goes (each rule_lines (map (rule_in text) (records_left n i j ws))) o p₀ o₀ → Writes (rule_lines (rule_in text r)) o a
-          → Goes (each rule_lines (map (rule_in text) (records_left n (i + 1) j' ws))) a p₀ o₀
+      pub formed-next : Formed text n i ws → Formed text n (i + 1) ws'
+      formed-next f = record { formed = subst (λ l. Every (RuleFormed text) (left n (i + 1) l)) others (subst (Every (RuleFormed text)) left_next f.formed).1 }
+
+      pub rules-on : (o a : Output) (p₀ : Piece) (o₀ : Output) → Goes (each rule_lines (map (rule_in text) (left n i ws))) o p₀ o₀ → Writes (rule_lines (rule_in text r)) o a
+          → Goes (each rule_lines (map (rule_in text) (left n (i + 1) ws'))) a p₀ o₀
       unfolding each
-      rules-on o a p₀ o₀ g w = goes_on (λ rest. ap (λ l. each rule_lines (map (rule_in text) l) rest) (records-next n i j ws h r e k j' p q)) g w
+      rules-on o a p₀ o₀ g w =
+          goes_on (λ rest. ap (λ l. each rule_lines (map (rule_in text) l) rest) (left_next ∙ ap (λ l. r ∷ left n (i + 1) l) others)) g w
