@@ -2,9 +2,9 @@
 // Each function appends a piece to an output: stored where there is room, counted in any case.
 #![tactic(auto)]
 
-ghost use Rattle.std.specs.Prelude.{◌≡◌, ◌∷◌, ◌+◌, ◌<◌, length, ltb};
-ghost use Rattle.language.specs.Plain.{◌⨾◌, only, each, direction};
-ghost use Rattle.language.specs.Agreement.{groups, records, place_at, dir_of};
+ghost use Rattle.std.specs.Prelude.{◌∷◌, ◌<◌, ltb};
+ghost use Rattle.language.specs.Plain.{◌⨾◌, only, direction};
+ghost use Rattle.language.specs.Agreement.{groups, dir_of};
 ghost use Rattle.machine.specs.Head.{span_in, counts_in};
 ghost use Rattle.list_lines.specs.Listing.{named, parted, names, codes, moves, place, related, position, diagnostic, diagnostic_lines, transition, state_lines, symbol_lines, transition_lines, machine_lines, refused_line, bytes_line};
 ghost use Rattle.list_lines.specs.Puts.{Puts};
@@ -74,7 +74,7 @@ fn direction(out: &mut Output, d: u32)
     });
 }
 
-// The moves of n actions.
+// The moves of n actions. One function for this and `codes` would take what prints a word, and its piece in the contract: it is no shorter than both.
 fn directions(out: &mut Output, actions: &[u32], n: u32)
     ensures { Puts (parted 0x2C (moves (groups 7 n actions.now))) out.old out.new }
 {

@@ -7,41 +7,54 @@ use lib.ListN.{length, replicate, length-replicate}
 use borrow.Author.Tests.{lt-ltb, le-ltb}
 use Rattle.language.specs.Outcome as L
 use Rattle.language.specs.Outcome.{ReadOutcome, read_outcome, refusal_of, reply_number, reply_value}
-use Rattle.language.specs.Plain.{Piece, ◌⨾◌}
+use Rattle.language.specs.Plain.{◌⨾◌}
 use Rattle.machine.specs.declared.Head.{Head}
 use Rattle.machine.specs.Head.{span_in, counts_in}
 use Rattle.machine.specs.Meaning.{head_in}
 use Rattle.answer.specs.declared.Refusal.{Refusal}
+use Rattle.answer.specs.declared.Refusal.TheVariants.{TextTooLong}
 use Rattle.answer.specs.declared.Answer.{Answer}
 use Rattle.answer.specs.declared.Answer.TheVariants.{Machine, Diagnostics, Refused}
 use Rattle.answer.specs.Answer.{reply_in, read_in}
-use Rattle.emit.specs.Output.{Output, appended}
+use Rattle.emit.specs.Output as O
+use Rattle.emit.specs.Output.{appended}
+use Rattle.emit.specs.declared.Output.{Output}
+use Rattle.emit.specs.Appends.{held}
 use Rattle.emit.proofs.Appends.{appended-nil}
 use Rattle.list_lines.specs.Puts.{Puts}
 use Rattle.list_lines.specs.Listing.{lines, listing, listed, bytes_line, machine_lines, diagnostic_lines, refused_line}
 
--- nothing follows
-whole : (p : Piece) (o r : Output) → r.at < 18446744073709551616 → Puts p o r → r ≡ appended o (p [])
-whole p o r h w = sym (appended-nil r h) ∙ w.put []
+-- ---- by the answer's case
 
--- by the answer's case
-module _ (a : Answer) (text log sheet : List ℕ) (o r : Output) (fits : r.at < 18446744073709551616) where
+module _ (a : Answer) (text log sheet : List ℕ) {o r : Output} where
   pub machine-listed : (h : Head) → a ≡ Machine h → Puts (bytes_line text ⨾ machine_lines text (counts_in h.counts) (span_in h.start) sheet) o r
-      → r ≡ appended o (listing text (read_in a log sheet))
-  unfolding listing lines head_in
-  machine-listed h e w = rw e (whole (bytes_line text ⨾ machine_lines text (counts_in h.counts) (span_in h.start) sheet) o r fits w)
+      → Puts (lines text (read_in a log sheet)) o r
+  unfolding lines head_in
+  machine-listed h e w = rw e w
 
-  pub diagnostics-listed : (n : ℕ) → a ≡ Diagnostics n → Puts (bytes_line text ⨾ diagnostic_lines text n log) o r → r ≡ appended o (listing text (read_in a log sheet))
-  unfolding listing lines
-  diagnostics-listed n e w = rw e (whole (bytes_line text ⨾ diagnostic_lines text n log) o r fits w)
+  pub diagnostics-listed : (n : ℕ) → a ≡ Diagnostics n → Puts (bytes_line text ⨾ diagnostic_lines text n log) o r → Puts (lines text (read_in a log sheet)) o r
+  unfolding lines
+  diagnostics-listed n e w = rw e w
 
   pub refused-listed : (x : Refusal) → a ≡ Refused x → (n v : ℕ) → n ≡ reply_number (reply_in a) → v ≡ reply_value (reply_in a) → Puts (refused_line n v) o r
-      → r ≡ appended o (listing text (read_in a log sheet))
-  unfolding listing lines
+      → Puts (lines text (read_in a log sheet)) o r
+  unfolding lines
   refused-listed x e n v p q w =
       let p' : n ≡ reply_number (reply_in (Refused x)) = rw e at p in
       let q' : v ≡ reply_value (reply_in (Refused x)) = rw e at q in
-      rw (e, ← p', ← q') (whole (refused_line n v) o r fits w)
+      rw (e, ← p', ← q') w
+
+-- ---- the whole
+
+-- nothing follows
+pub whole : (text : List ℕ) (x : ReadOutcome) {o r : Output} → r.at < 18446744073709551616 → Puts (lines text x) o r → held r ≡ appended (held o) (listing text x)
+unfolding listing
+whole text x {o} {r} h w = sym (appended-nil (held r) h) ∙ w.put []
+
+-- in the row that was lent, what an output holds that was empty
+pub at_front : (row row' : List ℕ) (n : ℕ) (o r : Output) (printed listed : List ℕ) → row' ≡ r.row.now → n ≡ r.at → held o ≡ O.output row 0 → held r ≡ appended (held o) printed → printed ≡ listed
+    → O.output row' n ≡ appended (O.output row 0) listed
+at_front row row' n o r printed listed e f g h k = rw (e, f, ← g, ← k) h
 
 -- what the log held at entry is not printed
 same-listing : (text : List ℕ) (work : ℕ) (log log' sheet : List ℕ) → length log ≡ length log' → listing text (read_outcome text work log sheet) ≡ listing text (read_outcome text work log' sheet)
@@ -53,14 +66,13 @@ same-listing text work log log' sheet e = go (refusal_of text work) refl
     go none q = rw (read_outcome, q, e)
 
 -- a text of more bytes than are taken, and any other
-module _ (text : List ℕ) (work : ℕ) (log sheet : List ℕ) (o r : Output) where
-  pub too_long : r.at < 18446744073709551616 → 2048 < length text → Puts (refused_line 1 0) o r → r ≡ appended o (listed text work log sheet)
-  unfolding listed
-  too_long fits h w = rw (listed, lt-ltb 2048 (length text) h) (whole _ o r fits w)
+module _ (text : List ℕ) (work : ℕ) (log sheet : List ℕ) where
+  pub too_long : (a : Answer) (log' sheet' : List ℕ) → 2048 < length text → a ≡ Refused TextTooLong → listing text (read_in a log' sheet') ≡ listed text work log sheet
+  unfolding listed listing lines
+  too_long a log' sheet' h e = rw (e, listed, lt-ltb 2048 (length text) h)
 
-  pub text_listed : (outcome : ReadOutcome) → length text ≤ 2048 → length log ≡ 5120 → outcome ≡ read_outcome text work (replicate 5120 0) sheet → r ≡ appended o (listing text outcome) → r ≡ appended o (listed text work log sheet)
+  pub text_listed : (outcome : ReadOutcome) → length text ≤ 2048 → length log ≡ 5120 → outcome ≡ read_outcome text work (replicate 5120 0) sheet → listing text outcome ≡ listed text work log sheet
   unfolding listed
-  text_listed outcome h n e w =
+  text_listed outcome h n e =
       let z : ℕ = 0 in
-      let same : listing text outcome ≡ listing text (read_outcome text work log sheet) = ap (listing text) e ∙ same-listing text work (replicate 5120 z) log sheet (length-replicate 5120 z ∙ sym n) in
-      rw (listed, le-ltb 2048 (length text) h) (w ∙ ap (appended o) same)
+      rw (listed, le-ltb 2048 (length text) h) (ap (listing text) e ∙ same-listing text work (replicate 5120 z) log sheet (length-replicate 5120 z ∙ sym n))

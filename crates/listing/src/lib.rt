@@ -4,31 +4,43 @@
 ghost use Rattle.std.specs.Prelude.{◌≡◌, length};
 ghost use Rattle.answer.specs.Answer.{read_in};
 ghost use Rattle.emit.specs.Output.{output, appended};
-ghost use Rattle.list_lines.specs.Listing.{listing, listed};
+ghost use Rattle.list_lines.specs.Listing.{lines, listed};
+ghost use Rattle.list_lines.specs.Puts.{Puts};
 
-use answer::Answer;
 use answer::words::{answer_number, answer_value};
+use answer::{Answer, Refusal};
+use emit::Output;
 use std::io;
 
 // The longest text that is taken.
 pub const MAX_INPUT: usize = 2048;
 
-// Lists an answer with its log and sheet at the front of `out`, as far as there is room; the listing's length.
-fn list(a: Answer, text: &[u8], log: &[u32], sheet: &[u32], out: &mut [u8]) -> usize
-    ensures { output out.new result ≡ appended (output out.old 0) (listing text.now (read_in a log.now sheet.now)) }
+// Words of work, which such a text needs.
+const WORK_WORDS: usize = 12294;
+
+// Words of 1,024 records.
+const LOG_WORDS: usize = 5120;
+
+// Words of a sheet.
+const SHEET_WORDS: usize = 16384;
+
+// More bytes than any listing has (docs/DECISIONS.md, "The list program").
+const LISTING_BYTES: usize = 2097152;
+
+// Lists an answer with its log and sheet.
+fn list(out: &mut Output, answer: Answer, text: &[u8], log: &[u32], sheet: &[u32])
+    ensures { Puts (lines text.now (read_in answer log.now sheet.now)) out.old out.new }
 {
-    match a {
-        Answer::Machine(h) => {
-            let n = h.counts;
-            let start = h.start;
-            list_lines::machine(out, 0, text, n, start, sheet)
+    match answer {
+        Answer::Machine(head) => list_lines::machine(out, text, &head, sheet),
+        Answer::Diagnostics(n) => list_lines::diagnosed(out, text, n, log),
+        Answer::Refused(_) => {
+            list_lines::refused(out, answer_number(answer), answer_value(answer));
         }
-        Answer::Diagnostics(n) => list_lines::diagnosed(out, 0, text, n, log),
-        Answer::Refused(_) => list_lines::refused(out, 0, answer_number(a), answer_value(a)),
     }
 }
 
-// Reads a text and lists the answer; a text above 2,048 bytes is refused. The diagnostics of 1,024 records are copied to the log's words.
+// Reads a text and lists the answer at the front of `out`, as far as there is room; the listing's length. A text above 2,048 bytes is refused.
 fn list_text(
     text: &[u8],
     work: &mut [u32],
@@ -39,51 +51,34 @@ fn list_text(
     requires { length log.old ≡ 5120 }
     ensures { output out.new result ≡ appended (output out.old 0) (listed text.now (length work.old) log.old sheet.old) }
 {
-    if MAX_INPUT < text.len() {
-        return list_lines::refused(out, 0, 1, 0);
-    }
-    let a = worded::read(text, work, log, sheet);
-    list(a, text, log, sheet, out)
+    let answer = if MAX_INPUT < text.len() {
+        Answer::Refused(Refusal::TextTooLong)
+    } else {
+        worded::read(text, work, log, sheet)
+    };
+    let mut listing = Output::new(out);
+    list(&mut listing, answer, text, log, sheet);
+    listing.count()
 }
 
-// Work for 2,048 bytes. The contracts of these four give only lengths, which lending an array as a slice needs.
-fn work() -> [u32; 12294]
-    ensures { 12294 ≡ length result }
+// An array of one value. Its contract gives the length alone, so that no proof writes out the elements.
+fn filled<T: Copy, const N: usize>(value: T) -> [T; N]
+    ensures { length result ≡ N }
 {
-    [0; 12294]
-}
-
-// The words of 1,024 records.
-fn log() -> [u32; 5120]
-    ensures { 5120 ≡ length result }
-{
-    [0; 5120]
-}
-
-// A sheet.
-fn sheet() -> [u32; 16384]
-    ensures { 16384 ≡ length result }
-{
-    [0; 16384]
+    [value; N]
 }
 
 // Prints the listing of a text through an output.
 fn print_through(rt: &impl Print, text: &[u8], out: &mut [u8]) -> io::Result<()> {
-    let mut work = work();
-    let mut log = log();
-    let mut sheet = sheet();
+    let mut work = filled::<u32, WORK_WORDS>(0);
+    let mut log = filled::<u32, LOG_WORDS>(0);
+    let mut sheet = filled::<u32, SHEET_WORDS>(0);
     let n = list_text(text, &mut work, &mut log, &mut sheet, out);
-    let m = emit::least(n, out.len());
-    rt.write_all(&out[..m])
-}
-
-// The same through an output that is longer than every listing (docs/DECISIONS.md, "The list program").
-fn print_whole(rt: &impl Print, text: &[u8], out: &mut [u8; 2097152]) -> io::Result<()> {
-    print_through(rt, text, out)
+    rt.write_all(&out[..n.min(out.len())])
 }
 
 // Prints the listing of a text.
 pub fn print(rt: &impl Print, text: &[u8]) -> io::Result<()> {
-    let mut out = [0u8; 2097152];
-    print_whole(rt, text, &mut out)
+    let mut out = filled::<u8, LISTING_BYTES>(0);
+    print_through(rt, text, &mut out)
 }
