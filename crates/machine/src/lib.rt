@@ -3,13 +3,24 @@
 
 ghost use Rattle.std.specs.Prelude.{◌≡◌};
 ghost use Rattle.language.specs.Layout.{kind_number};
-ghost use Rattle.machine.specs.Meaning.{kind_in};
+ghost use Rattle.machine.specs.Meaning.{kind_in, span_from};
 
 // A half-open range of byte offsets (paper 01: place).
 #[derive(Clone, Copy, Debug, PartialEq, Eq)]
 pub struct Span {
     pub start: u32,
     pub end: u32,
+}
+
+impl From<diag::Span> for Span {
+    ghost from_gives = { λ p q. q ≡ span_from p };
+
+    fn from(place: diag::Span) -> Span {
+        Span {
+            start: place.start,
+            end: place.end,
+        }
+    }
 }
 
 // What a machine is used for.
