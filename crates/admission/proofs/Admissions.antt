@@ -5,7 +5,6 @@ use mathlib.Core.Option.{Option, none, some}
 use Prim.Native.Nat.{ℕ, ◌+◌, ◌*◌, ◌<◌, ◌≤◌}
 use native.Mathlib.Omega.{arith}
 use borrow.Author.Tests.{lt-ltb, le-ltb}
-use lib.Dec.{ltb}
 use lib.ListN.{length}
 use Rattle.chars.specs.Utf8.{valid_up_to}
 use Rattle.chars.specs.Class.{first_outside, plain_up_to}
@@ -43,3 +42,6 @@ module _ (t : List ℕ) (work : ℕ) where
         pub all-inside : o ≡ Nowhere → ◌≡◌ {A = Option Refusal} none (refusal_of t work)
         unfolding refusal_of
         all-inside g = rw (refusal_of, le-ltb 4194304 (length t) a, le-ltb work (6 * length t + 6) b, ← e, le-ltb v (length t) h, ← f, g)
+
+-- one for each answer
+pub ruleset rows = (too_long, work_too_short_lem, all_plain, not_utf8, outside, all-inside)

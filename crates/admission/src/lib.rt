@@ -3,7 +3,7 @@
 
 ghost use Rattle.std.specs.Prelude.{◌≡◌};
 ghost use Rattle.language.specs.Outcome.{refusal_of};
-ghost use Rattle.admission.specs.Admission.{admission_in};
+ghost use Rattle.admission.specs.Admission.{refused_by};
 
 use answer::Refusal;
 use chars::Outside;
@@ -11,34 +11,27 @@ use chars::Outside;
 // The longest text.
 pub const MAX_BYTES: usize = 4_194_304;
 
-// Whether a text is admitted.
-#[derive(Clone, Copy)]
-pub enum Admission {
-    Admitted,
-    Refused(Refusal),
-}
-
-// The first of the rows 1 to 4 that holds.
-pub fn refusal(text: &[u8], work: usize) -> Admission
-    ensures { admission_in result ≡ refusal_of text.now work }
+// Whether a text is admitted; if not, the first of the rows 1 to 4 that holds.
+#[tactic(auto, using(crate::proofs::Admissions::rows))]
+pub fn check(text: &[u8], work: usize) -> Result<(), Refusal>
+    ensures { refused_by result ≡ refusal_of text.now work }
 {
     let n = text.len();
     if MAX_BYTES < n {
-        return Admission::Refused(Refusal::TextTooLong);
+        return Err(Refusal::TextTooLong);
     }
     if work < 6 * n + 6 {
-        return Admission::Refused(Refusal::WorkTooShort);
+        return Err(Refusal::WorkTooShort);
     }
     if chars::plain_up_to(text) == n {
-        return Admission::Admitted;
+        return Ok(());
     }
     let valid = chars::valid_up_to(text);
     if valid < n {
-        return Admission::Refused(Refusal::InvalidUtf8(valid));
+        return Err(Refusal::InvalidUtf8(valid));
     }
-    let o = chars::first_outside(text);
-    match o {
-        Outside::At(at) => Admission::Refused(Refusal::OutsideSet(at)),
-        Outside::Nowhere => Admission::Admitted,
+    match chars::first_outside(text) {
+        Outside::At(at) => Err(Refusal::OutsideSet(at)),
+        Outside::Nowhere => Ok(()),
     }
 }

@@ -1,11 +1,11 @@
 -- What the code answers, as the definition's reply: paper 01's number and value of each case are those of the reply.
-use Rattle.std.specs.Prelude.{ℕ, Bool, false, List}
+use Rattle.std.specs.Prelude.{ℕ, Bool, false, List, Result, Ok, Err}
 use Rattle.language.specs.Outcome as O
 use Rattle.machine.specs.Meaning.{head_in}
 use Rattle.answer.specs.declared.Refusal.{Refusal}
 use Rattle.answer.specs.declared.Refusal.TheVariants.{TextTooLong, WorkTooShort, InvalidUtf8, OutsideSet, LogTooShort, SheetTooShort}
 use Rattle.answer.specs.declared.Answer.{Answer}
-use Rattle.answer.specs.declared.Answer.TheVariants.{Machine, Diagnostics, Refused}
+use Rattle.answer.specs.declared.Answer.TheVariants.{Machine, Diagnostics}
 
 -- a refusal: rows 1 to 6
 abbrev pub refusal_in : Refusal → O.Refusal
@@ -25,13 +25,13 @@ abbrev pub refusal_value : Refusal → ℕ
 refusal_value r = O.refusal_value (refusal_in r)
 
 -- the reply
-abbrev pub reply_in : Answer → O.Reply
-reply_in (Machine h) = O.machine (head_in h)
-reply_in (Diagnostics n) = O.diagnosed n
-reply_in (Refused r) = O.refused (refusal_in r)
+abbrev pub reply_in : Result Answer Refusal → O.Reply
+reply_in (Ok (Machine h)) = O.machine (head_in h)
+reply_in (Ok (Diagnostics n)) = O.diagnosed n
+reply_in (Err r) = O.refused (refusal_in r)
 
 -- the answer, and the log and the sheet that are left with it
-abbrev pub read_in : Answer → List ℕ → List ℕ → O.ReadOutcome
+abbrev pub read_in : Result Answer Refusal → List ℕ → List ℕ → O.ReadOutcome
 read_in a log sheet = record { reply = reply_in a; log = log; sheet = sheet }
 
 -- whether a reply leaves work untouched: rows 1 and 2
@@ -40,5 +40,5 @@ untouched (O.machine h) = false
 untouched (O.diagnosed n) = false
 untouched (O.refused r) = O.leaves_work r
 
-abbrev pub leaves_work : Answer → Bool
+abbrev pub leaves_work : Result Answer Refusal → Bool
 leaves_work a = untouched (reply_in a)

@@ -1,31 +1,12 @@
--- An answer in words: parts of a head as the code stores them, and the row that is lent for the whole.
-use Rattle.std.specs.Prelude.{ℕ, true, false, List, ◌++◌, leb, length, drop}
-use Rattle.language.specs.Layout.{place_words}
+-- The row that is lent for a reply in words.
+use Rattle.std.specs.Prelude.{ℕ, true, false, List, ◌++◌, nat_le, length, drop}
 use Rattle.language.specs.Outcome.{Reply, reply_words}
-use Rattle.machine.specs.declared.BitOrder.TheVariants.{Lsb, Msb}
-use Rattle.machine.specs.declared.Decoder.{Decoder}
-use Rattle.machine.specs.declared.Decoder.TheVariants.{Word, Unary, Binary}
-use Rattle.machine.specs.declared.SourceMap.{SourceMap}
-use Rattle.machine.specs.Meaning.{span_in}
 
--- the first word of a decoder
-abbrev pub decoder_tag : Decoder → ℕ
-decoder_tag Word = 0
-decoder_tag (Unary c) = 1
-decoder_tag (Binary o) = 2
+-- 36 words at the front of a row that has room for all of them, else nothing changed
+abbrev pub at_front : List ℕ → List ℕ → List ℕ
+at_front words row = elim (nat_le 36 (length row)) [ true ↦ words ++ drop 36 row | false ↦ row ]
 
--- the second
-abbrev pub decoder_value : Decoder → ℕ
-decoder_value Word = 0
-decoder_value (Unary c) = c
-decoder_value (Binary Lsb) = 0
-decoder_value (Binary Msb) = 1
-
--- the places of the source map
-abbrev pub map_words : SourceMap → List ℕ
-map_words m = place_words (span_in m.kind) ++ place_words (span_in m.input) ++ place_words (span_in m.tapes) ++ place_words (span_in m.start) ++ place_words (span_in m.states)
-
--- a row that is lent for the answer: its 36 words at the front where there is room for all of them, else nothing changed
+-- a row that is lent for the answer
 unfoldable pub answer_row : Reply → List ℕ → List ℕ
 unfolding reply_words
-answer_row r row = elim (leb 36 (length row)) [ true ↦ reply_words r ++ drop 36 row | false ↦ row ]
+answer_row r row = at_front (reply_words r) row

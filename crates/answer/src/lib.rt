@@ -1,12 +1,22 @@
 // What a reading call answers.
 #![tactic(auto)]
 
+ghost use Rattle.std.specs.Prelude.{◌≡◌};
+ghost use Rattle.answer.specs.Answer.{refusal_number, refusal_value};
+
 use machine::Head;
 
 pub mod words;
 
+// What a call that is not refused answers: a machine's head, or the number of diagnostics.
+#[derive(Clone, Copy, Debug, PartialEq, Eq)]
+pub enum Answer {
+    Machine(Head),
+    Diagnostics(usize),
+}
+
 // Why a call is refused (paper 01, "What a call returns").
-#[derive(Clone, Copy)]
+#[derive(Clone, Copy, Debug, PartialEq, Eq)]
 pub enum Refusal {
     TextTooLong,
     WorkTooShort,
@@ -20,10 +30,29 @@ pub enum Refusal {
     SheetTooShort(u64),
 }
 
-// What a reading call answers: a machine's head, the number of diagnostics, or a refusal.
-#[derive(Clone, Copy)]
-pub enum Answer {
-    Machine(Head),
-    Diagnostics(usize),
-    Refused(Refusal),
+impl Refusal {
+    // The number that is returned.
+    pub fn number(self) -> u32
+        ensures { result ≡ refusal_number self }
+    {
+        match self {
+            Self::TextTooLong => 1,
+            Self::WorkTooShort => 2,
+            Self::InvalidUtf8(_) => 3,
+            Self::OutsideSet(_) => 4,
+            Self::LogTooShort(_) => 5,
+            Self::SheetTooShort(_) => 6,
+        }
+    }
+
+    // The value beside it.
+    pub fn value(self) -> u64
+        ensures { result ≡ refusal_value self }
+    {
+        match self {
+            Self::TextTooLong | Self::WorkTooShort => 0,
+            Self::InvalidUtf8(n) | Self::OutsideSet(n) | Self::LogTooShort(n) => n as u64,
+            Self::SheetTooShort(n) => n,
+        }
+    }
 }

@@ -16,7 +16,7 @@ use Rattle.diagnostics.specs.declared.Search.{Search}
 use Rattle.diagnostics.specs.Stands.{Started}
 use Rattle.answered.specs.Ready.{lines_of, Ready}
 use Rattle.answered.proofs.Few.{diagnostics_few}
-use Rattle.reader.proofs.Calls.{short, room, tokenized}
+use Rattle.reader.proofs.Calls.{tokenized}
 use Rattle.enter.specs.Begun.{Begun}
 
 module _ (t w : List ℕ) (a : refusal_of t (length w) ≡ none) (count : ℕ) (w₁ : List ℕ) (n : count ≡ length (tokens (decode t))) (e : w₁ ≡ onto (flat (tokens (decode t))) w) where

@@ -17,7 +17,9 @@ use Rattle.diag.proofs.Sorting.{sort-length}
 use Rattle.records.specs.Unused.{unused}
 use Rattle.assembler.specs.Records.{record_of, records_of}
 use Rattle.answered.specs.Ready.{lines_of}
+use Rattle.std.specs.Prelude.{Result}
 use Rattle.answer.specs.declared.Answer.{Answer}
+use Rattle.answer.specs.declared.Refusal as Code
 use Rattle.answer.specs.Answer as R
 use Rattle.report.specs.Report.{report_reply}
 use Rattle.reader.proofs.Outcomes.{refused_outcome, reported_outcome, machine_outcome}
@@ -59,14 +61,14 @@ module _ (t : List ℕ) (work : ℕ) (log : List Diagnostic) (sheet : List ℕ) 
   of_words_lem o e = ap (of_words (length log)) e
 
   -- rows 1 to 4: nothing is changed
-  pub not-admitted : (x : Answer) (r : Refusal) → refusal_of t work ≡ some r → R.reply_in x ≡ refused r → read_in x log sheet ≡ read_records t work log sheet
+  pub not-admitted : (x : Result Answer Code.Refusal) (r : Refusal) → refusal_of t work ≡ some r → R.reply_in x ≡ refused r → read_in x log sheet ≡ read_records t work log sheet
   not-admitted x r e q =
       (λ j. record { reply = q j; log = sym (records-all log) j; sheet = sheet })
       ∙ of_words_lem (record { reply = refused r; log = flat log; sheet = sheet }) (refused_outcome t work (flat log) sheet r e)
 
   module _ (a : refusal_of t work ≡ none) where
     -- no diagnostics: a machine, or row 6
-    pub machine-read : A.diagnostics_of (lines_of t) ≡ [] → (x : Answer) (s : List ℕ) → ((n : ℕ) → R.read_in x (zeros n) s ≡ read_machine (lines_of t) n (length sheet))
+    pub machine-read : A.diagnostics_of (lines_of t) ≡ [] → (x : Result Answer Code.Refusal) (s : List ℕ) → ((n : ℕ) → R.read_in x (zeros n) s ≡ read_machine (lines_of t) n (length sheet))
         → read_in x (replicate (length log) unused) s ≡ read_records t work log sheet
     machine-read z x s m =
         let n : ℕ = length (flat log) in
@@ -96,7 +98,7 @@ module _ (t : List ℕ) (work : ℕ) (log : List Diagnostic) (sheet : List ℕ) 
               ∙ reported_outcome t work (flat log) sheet a d ds e
 
       -- too many: row 5
-      pub too_many : length log < c → (x : Answer) → R.reply_in x ≡ refused (log_too_short c) → read_in x (replicate (length log) unused) (zeros (length sheet)) ≡ read_records t work log sheet
+      pub too_many : length log < c → (x : Result Answer Code.Refusal) → R.reply_in x ≡ refused (log_too_short c) → read_in x (replicate (length log) unused) (zeros (length sheet)) ≡ read_records t work log sheet
       unfolding report_reply log_after
       too_many h x q =
           let n : ℕ = length log in
@@ -106,7 +108,7 @@ module _ (t : List ℕ) (work : ℕ) (log : List Diagnostic) (sheet : List ℕ) 
           (λ j. record { reply = (q ∙ sym reply) j; log = sym (ap (records n) none_kept ∙ records-zeros n) j; sheet = zeros (length sheet) }) ∙ of_words_lem _ reported
 
       -- all of them, sorted
-      pub all-kept : c ≤ length log → (x : Answer) → R.reply_in x ≡ diagnosed c → read_in x (found ++ replicate (length log - c) unused) (zeros (length sheet)) ≡ read_records t work log sheet
+      pub all-kept : c ≤ length log → (x : Result Answer Code.Refusal) → R.reply_in x ≡ diagnosed c → read_in x (found ++ replicate (length log - c) unused) (zeros (length sheet)) ≡ read_records t work log sheet
       unfolding report_reply log_after
       all-kept h x q =
           let n : ℕ = length log in

@@ -1,9 +1,10 @@
 -- A reading call whose log is a row of records: its outcome is that of the call on words, the log's words taken as records.
-use Rattle.std.specs.Prelude.{ℕ, List, length}
+use Rattle.std.specs.Prelude.{ℕ, List, length, Result}
 use Rattle.diag.specs.declared.Diagnostic.{Diagnostic}
 use Rattle.diag.specs.Log.{flat, records}
 use Rattle.language.specs.Outcome.{Reply, read_outcome}
 use Rattle.answer.specs.declared.Answer.{Answer}
+use Rattle.answer.specs.declared.Refusal.{Refusal}
 use Rattle.answer.specs.Answer.{reply_in}
 
 -- what a reading call answers, and the log and the sheet as it leaves them
@@ -13,7 +14,7 @@ pub record RecordsOutcome : Type 0 where
   pub sheet : List ℕ
 
 -- the answer, and the log and the sheet that are left with it
-abbrev pub read_in : Answer → List Diagnostic → List ℕ → RecordsOutcome
+abbrev pub read_in : Result Answer Refusal → List Diagnostic → List ℕ → RecordsOutcome
 read_in a log sheet = record { reply = reply_in a; log = log; sheet = sheet }
 
 -- a reading call: the text, how many words of work, and the log and the sheet at entry

@@ -1,11 +1,11 @@
-// The parts of a reading call that hold no record of its log: a text is entered, and its machine written or its diagnostics counted.
+// The parts of a reading call that hold no record of its log: a text is entered, and its machine written.
 #![tactic(auto)]
 
 ghost use Rattle.std.specs.Prelude.{ℕ, ◌≡◌, length};
 ghost use Rattle.std.proofs.Math.Option.{none};
-ghost use Rattle.language.specs.Outcome.{refusal_of, zeros, read_machine, diagnosed, refused, log_too_short};
+ghost use Rattle.language.specs.Outcome.{refusal_of, zeros, read_machine};
 ghost use Rattle.answered.specs.Ready.{lines_of};
-ghost use Rattle.answer.specs.Answer.{reply_in, read_in};
+ghost use Rattle.answer.specs.Answer.{read_in};
 ghost use Rattle.enter.specs.Begun.{Begun};
 
 use answer::{Answer, Refusal};
@@ -23,29 +23,26 @@ pub fn enter(text: &[u8], work: &mut [u32]) -> Search
 }
 
 // The machine of a text without diagnostics.
-pub fn machine(text: &[u8], work: &mut [u32], s: Search, sheet: &mut [u32]) -> Answer
-    requires { Begun text.now work.old s × (s.errors ≡ 0) }
+pub fn machine(
+    text: &[u8],
+    work: &mut [u32],
+    search: Search,
+    sheet: &mut [u32],
+) -> Result<Answer, Refusal>
+    requires { Begun text.now work.old search × (search.errors ≡ 0) }
     ensures { (n : ℕ) → read_in result (zeros n) sheet.new ≡ read_machine (lines_of text.now) n (length sheet.old) }
 {
-    let first = s.first;
-    let a = Assembled {
+    let Search {
+        count,
         first,
-        rules: s.rules,
-        errors: s.errors,
+        rules,
+        errors,
+        ..
+    } = search;
+    let assembled = Assembled {
+        first,
+        rules,
+        errors,
     };
-    written::machine(text, work, s.count, a, sheet)
-}
-
-// The answer to more diagnostics than the log has records: row 5.
-pub fn refused(errors: usize) -> Answer
-    ensures { reply_in result ≡ refused (log_too_short errors) }
-{
-    Answer::Refused(Refusal::LogTooShort(errors))
-}
-
-// The answer to diagnostics that the log holds.
-pub fn diagnosed(errors: usize) -> Answer
-    ensures { reply_in result ≡ diagnosed errors }
-{
-    Answer::Diagnostics(errors)
+    written::machine(text, work, count, &assembled, sheet)
 }

@@ -19,7 +19,9 @@ use Rattle.emit.proofs.Appends.{appended-front, appended_empty}
 use Rattle.form.specs.Answers.{answer}
 use Rattle.formed.specs.Read.{ReadAs}
 use Rattle.formed.proofs.Answers.{read-form}
-use Rattle.reply.specs.declared.WriteAnswer.TheVariants.{Written, OutputTooShort}
+use Rattle.std.specs.Prelude.{Ok, Err}
+use Rattle.reply.specs.declared.WriteAnswer.TheVariants.{Written}
+use Rattle.reply.specs.declared.WriteRefusal.TheVariants.{OutputTooShort}
 use Rattle.reply.specs.Answer.{write_in}
 
 -- the first n of a row are n
@@ -53,7 +55,7 @@ module _ (t : List ℕ) (head : Head) (sheet : List ℕ) (r : ReadAs t (head_in 
       -- the output and 4,194,304 bytes, whichever is less
       module _ (room : ℕ) (least : room ≡ min (length (part ++ out)) 4194304) where
         -- row 7
-        pub too_short : room < n → (x : ReadOutcome) → write_in (OutputTooShort n) x.log x.sheet (part ++ out) ≡ write_form (form_of t) x out
+        pub too_short : room < n → (x : ReadOutcome) → write_in (Err (OutputTooShort n)) x.log x.sheet (part ++ out) ≡ write_form (form_of t) x out
         unfolding write_form
         too_short h x = ⊎_elim
             (λ (k : length out < length (form_of t)). rw (untouched, count, write_form, lt-ltb (length out) (length (form_of t)) k))
@@ -64,7 +66,7 @@ module _ (t : List ℕ) (head : Head) (sheet : List ℕ) (r : ReadAs t (head_in 
 
         -- the form stands at the front, and the bytes behind it are as before
         pub form_stands : n ≤ room → (front : List ℕ) (m : ℕ) → output front m ≡ appended (output (take n (part ++ out)) 0) bytes → length out < 18446744073709551616
-            → (x : ReadOutcome) → write_in (Written m) x.log x.sheet (front ++ drop n (part ++ out)) ≡ write_form (form_of t) x out
+            → (x : ReadOutcome) → write_in (Ok (Written m)) x.log x.sheet (front ++ drop n (part ++ out)) ≡ write_form (form_of t) x out
         unfolding write_form
         form_stands h front m f short x =
             let k : length (form_of t) ≤ length out = omega (arith, ap length untouched, count, least, h) in

@@ -1,8 +1,9 @@
 -- The answer of a reading call handed on: a machine's form is written, and everything else is as it was.
+use Rattle.std.specs.Prelude.{Result, Ok, Err}
 use Prim.Native.Nat.{ℕ}
-use mathlib.Core.Bool.{true, false, ◌||◌, false≢true}
+use mathlib.Core.Bool.{false, ◌||◌}
 use mathlib.Core.List.{List, []}
-use mathlib.Core.Path.{◌≡◌, sym, ap, ◌∙◌}
+use mathlib.Core.Path.{◌≡◌, refl, sym, ap, ◌∙◌}
 use lib.Dec.{ltb}
 use lib.ListN.{length}
 use Rattle.language.specs.Outcome as O
@@ -10,15 +11,21 @@ use Rattle.language.specs.Outcome.{max_bytes, ReadOutcome, form_of, write_form, 
 use Rattle.language.proofs.Every.{by_test}
 use Rattle.machine.specs.declared.Head.{Head}
 use Rattle.answer.specs.declared.Answer.{Answer}
-use Rattle.answer.specs.declared.Answer.TheVariants.{Machine, Diagnostics, Refused}
+use Rattle.answer.specs.declared.Answer.TheVariants.{Machine, Diagnostics}
 use Rattle.answer.specs.declared.Refusal.{Refusal}
 use Rattle.answer.specs.Answer as R
 use Rattle.reply.specs.declared.WriteAnswer.{WriteAnswer}
 use Rattle.reply.specs.declared.WriteAnswer.TheVariants as W
+use Rattle.reply.specs.declared.WriteRefusal.{WriteRefusal}
+use Rattle.reply.specs.declared.WriteRefusal.TheVariants.{Reading}
 use Rattle.reply.specs.Answer.{write_reply_in, write_in, leaves_work}
 
+-- what a call answers
+abbrev Said : Type 0
+Said = Result WriteAnswer WriteRefusal
+
 -- what `write_form` shows
-abbrev Formed : List ℕ → WriteAnswer → List ℕ → List ℕ → Type 0
+abbrev Formed : List ℕ → Said → List ℕ → List ℕ → Type 0
 Formed form r output output' = (x : ReadOutcome) → write_in r x.log x.sheet output' ≡ write_form form x output
 
 -- a form or row 7 leaves work to the program
@@ -29,26 +36,23 @@ form_leaves form output x = by_test (ltb (length output) (length form) || ltb ma
 -- an answer a of reading with the sheet s, handed on
 module _ (t : List ℕ) (a : Answer) (s output : List ℕ) where
   -- a machine
-  pub machine-written : (h : Head) → a ≡ Machine h → (r : WriteAnswer) (output' : List ℕ) → Formed (form_of t) r output output' → (l : List ℕ) → write_in r l s output' ≡ write_with (R.read_in a l s) (form_of t) output
+  pub machine-written : (h : Head) → a ≡ Machine h → (r : Said) (output' : List ℕ) → Formed (form_of t) r output output' → (l : List ℕ) → write_in r l s output' ≡ write_with (R.read_in (Ok a) l s) (form_of t) output
   unfolding write_with
-  machine-written h e r output' f l = f (R.read_in (Machine h) l s) ∙ ap (λ x. write_with (R.read_in x l s) (form_of t) output) (sym e)
+  machine-written h e r output' f l = f (R.read_in (Ok (Machine h)) l s) ∙ ap (λ x. write_with (R.read_in (Ok x) l s) (form_of t) output) (sym e)
 
   -- diagnostics
-  pub diagnostics_handed : (n : ℕ) → a ≡ Diagnostics n → (l : List ℕ) → write_in (W.Diagnostics n) l s output ≡ write_with (R.read_in a l s) (form_of t) output
+  pub diagnostics_handed : (n : ℕ) → a ≡ Diagnostics n → (l : List ℕ) → write_in (Ok (W.Diagnostics n)) l s output ≡ write_with (R.read_in (Ok a) l s) (form_of t) output
   unfolding write_with
-  diagnostics_handed n e l = ap (λ x. write_with (R.read_in x l s) (form_of t) output) (sym e)
+  diagnostics_handed n e l = ap (λ x. write_with (R.read_in (Ok x) l s) (form_of t) output) (sym e)
 
-  -- a refusal
-  pub refusal_handed : (r : Refusal) → a ≡ Refused r → (l : List ℕ) → write_in (W.Refused r) l s output ≡ write_with (R.read_in a l s) (form_of t) output
-  unfolding write_with
-  refusal_handed r e l = ap (λ x. write_with (R.read_in x l s) (form_of t) output) (sym e)
+-- a refusal of reading is one of writing
+pub refusal_handed : (t s output : List ℕ) (r : Refusal) (l : List ℕ) → write_in (Err (Reading r)) l s output ≡ write_with (R.read_in (Err r) l s) (form_of t) output
+unfolding write_with
+refusal_handed t s output r l = refl
 
 -- ---- work
 
-pub form_frees : (form output output' : List ℕ) (r : WriteAnswer) (a : Answer) (h : Head) → a ≡ Machine h → Formed form r output output' → leaves_work (write_reply_in r) ≡ true → R.leaves_work a ≡ true
-form_frees form output output' r a h is f e =
+pub form_touches : (form output output' : List ℕ) (r : Said) → Formed form r output output' → leaves_work (write_reply_in r) ≡ false
+form_touches form output output' r f =
     let x : ReadOutcome = record { reply = O.diagnosed 0; log = []; sheet = [] } in
-    absurd (false≢true (sym (form_leaves form output x) ∙ (ap (λ (o : WriteOutcome). leaves_work o.reply) (sym (f x)) ∙ e)))
-
-pub refusal_leaves : (a : Answer) (r : Refusal) → a ≡ Refused r → leaves_work (write_reply_in (W.Refused r)) ≡ true → R.leaves_work a ≡ true
-refusal_leaves a r e k = ap R.leaves_work e ∙ k
+    ap (λ (o : WriteOutcome). leaves_work o.reply) (f x) ∙ form_leaves form output x

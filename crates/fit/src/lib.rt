@@ -1,44 +1,54 @@
 // The form of a machine that was read, at the front of an output where it fits.
 #![tactic(auto)]
 
-ghost use Rattle.std.specs.Prelude.{true, ◌≡◌, List, ℕ};
+ghost use Rattle.std.specs.Prelude.{false, ◌≡◌, List, ℕ, Ok};
 ghost use Rattle.language.specs.Outcome.{ReadOutcome, form_of, write_form, write_with};
 ghost use Rattle.machine.specs.Head.{head_in};
 ghost use Rattle.machine.specs.declared.Head.{Head};
 ghost use Rattle.answer.specs.declared.Answer.TheVariants.{Machine};
-ghost use Rattle.answer.specs.Answer.{read_in, leaves_work as read_leaves};
+ghost use Rattle.answer.specs.Answer.{read_in};
 ghost use Rattle.formed.specs.Read.{ReadAs};
 ghost use Rattle.reply.specs.Answer.{write_reply_in, write_in, leaves_work};
 
 use answer::Answer;
 use machine::Head;
-use reply::WriteAnswer;
+use reply::{WriteAnswer, WriteRefusal};
 
 // The longest plain form.
 pub const MAX_BYTES: usize = 4_194_304;
 
 // The form of the machine that a text was read as, at the front of the output if it is short enough: row 7, whatever reading left.
-fn write_form(head: Head, text: &[u8], sheet: &[u32], output: &mut [u8]) -> WriteAnswer
+fn write_form(
+    head: Head,
+    text: &[u8],
+    sheet: &[u32],
+    output: &mut [u8],
+) -> Result<WriteAnswer, WriteRefusal>
     requires { ReadAs text.now (head_in head) sheet.now }
     ensures { (x : ReadOutcome) → write_in result x.log x.sheet output.new ≡ write_form (form_of text.now) x output.old }
 {
     let n = form::plain_form(head, sheet, text, &mut output[..0]);
     let room = output.len().min(MAX_BYTES);
     if room < n {
-        return WriteAnswer::OutputTooShort(n as u64);
+        return Err(WriteRefusal::OutputTooShort(n as u64));
     }
     let m = form::plain_form(head, sheet, text, &mut output[..n]);
-    WriteAnswer::Written(m)
+    Ok(WriteAnswer::Written(m))
 }
 
-// The answer of a reading call handed on, but for a machine: its form is written. The log, which stays as reading left it, plays no part.
-pub fn write_answer(a: Answer, text: &[u8], sheet: &[u32], output: &mut [u8]) -> WriteAnswer
-    requires { (h : Head) → a ≡ Machine h → ReadAs text.now (head_in h) sheet.now }
-    ensures { ((l : List ℕ) → write_in result l sheet.now output.new ≡ write_with (read_in a l sheet.now) (form_of text.now) output.old) × (leaves_work (write_reply_in result) ≡ true → read_leaves a ≡ true) }
+// What a reading call answered, handed on, but for a machine: its form is written. The log, which stays as reading left it, plays no part.
+pub fn write_answer(
+    answer: Answer,
+    text: &[u8],
+    sheet: &[u32],
+    output: &mut [u8],
+) -> Result<WriteAnswer, WriteRefusal>
+    requires { (h : Head) → answer ≡ Machine h → ReadAs text.now (head_in h) sheet.now }
+    ensures outcome { (l : List ℕ) → write_in result l sheet.now output.new ≡ write_with (read_in (Ok answer) l sheet.now) (form_of text.now) output.old }
+    ensures touches { leaves_work (write_reply_in result) ≡ false }
 {
-    match a {
+    match answer {
         Answer::Machine(head) => write_form(head, text, sheet, output),
-        Answer::Diagnostics(n) => WriteAnswer::Diagnostics(n),
-        Answer::Refused(r) => WriteAnswer::Refused(r),
+        Answer::Diagnostics(n) => Ok(WriteAnswer::Diagnostics(n)),
     }
 }

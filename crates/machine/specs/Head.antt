@@ -1,5 +1,6 @@
 -- The head by value, as the code has it, from the definition's, and back.
 use Rattle.lexer.specs.declared.Span as T
+use Rattle.diag.specs.declared.Span as D
 use Rattle.language.specs.Machine as M
 use Rattle.language.specs.Layout as L
 use Rattle.machine.specs.declared.Span.{Span}
@@ -16,6 +17,10 @@ use Rattle.machine.specs.declared.Head.{Head}
 -- a place
 abbrev pub span_of : T.Span → Span
 span_of p = record { start = p.start; end = p.end }
+
+-- that of a diagnostic
+abbrev pub span_from : D.Span → Span
+span_from p = record { start = p.start; end = p.end }
 
 -- the kind
 abbrev pub kind_of : M.Kind → Kind

@@ -1,15 +1,30 @@
 // The head of a machine that was read (the source's machine.rs and spec.rs), by value.
 #![tactic(auto)]
 
+ghost use Rattle.std.specs.Prelude.{◌≡◌};
+ghost use Rattle.language.specs.Layout.{kind_number};
+ghost use Rattle.machine.specs.Meaning.{kind_in, span_from};
+
 // A half-open range of byte offsets (paper 01: place).
-#[derive(Clone, Copy)]
+#[derive(Clone, Copy, Debug, PartialEq, Eq)]
 pub struct Span {
     pub start: u32,
     pub end: u32,
 }
 
+impl From<diag::Span> for Span {
+    ghost from_gives = { λ p q. q ≡ span_from p };
+
+    fn from(place: diag::Span) -> Span {
+        Span {
+            start: place.start,
+            end: place.end,
+        }
+    }
+}
+
 // What a machine is used for.
-#[derive(Clone, Copy)]
+#[derive(Clone, Copy, Debug, PartialEq, Eq)]
 pub enum Kind {
     Acceptor,
     Transducer,
@@ -17,15 +32,23 @@ pub enum Kind {
     Beaver,
 }
 
+impl From<Kind> for u32 {
+    ghost from_gives = { λ k n. n ≡ kind_number (kind_in k) };
+
+    fn from(kind: Kind) -> u32 {
+        kind as u32
+    }
+}
+
 // The order of bits of a binary output.
-#[derive(Clone, Copy)]
+#[derive(Clone, Copy, Debug, PartialEq, Eq)]
 pub enum BitOrder {
     Lsb,
     Msb,
 }
 
 // How the output is read: as a word, by counting a symbol, as a binary number.
-#[derive(Clone, Copy)]
+#[derive(Clone, Copy, Debug, PartialEq, Eq)]
 pub enum Decoder {
     Word,
     Unary(u32),
@@ -33,7 +56,7 @@ pub enum Decoder {
 }
 
 // Which parts were declared.
-#[derive(Clone, Copy)]
+#[derive(Clone, Copy, Debug, PartialEq, Eq)]
 pub struct Declared {
     pub states: bool,
     pub input_alphabet: bool,
@@ -43,7 +66,7 @@ pub struct Declared {
 }
 
 // Where the parts were written, or none: kind and Q as a whole, the others their values.
-#[derive(Clone, Copy)]
+#[derive(Clone, Copy, Debug, PartialEq, Eq)]
 pub struct SourceMap {
     pub kind: Span,
     pub input: Span,
@@ -53,7 +76,7 @@ pub struct SourceMap {
 }
 
 // How many members each section of the sheet has.
-#[derive(Clone, Copy)]
+#[derive(Clone, Copy, Debug, PartialEq, Eq)]
 pub struct Counts {
     pub states: u32,
     pub sigma: u32,
@@ -65,7 +88,7 @@ pub struct Counts {
 }
 
 // The head: places of name and input between their quotes, the place of the start's name, and the rest of what is said once.
-#[derive(Clone, Copy)]
+#[derive(Clone, Copy, Debug, PartialEq, Eq)]
 pub struct Head {
     pub output: Decoder,
     pub name: Span,

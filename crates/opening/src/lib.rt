@@ -2,47 +2,20 @@
 // is still to be written.
 #![tactic(auto)]
 
-ghost use Rattle.std.specs.Prelude.{◌≡◌, length};
+ghost use Rattle.std.specs.Prelude.{◌≡◌, length, IfOk, OnErr};
 ghost use Rattle.std.proofs.Math.Option.{none};
 ghost use Rattle.language.specs.Outcome.{refusal_of};
-ghost use Rattle.opening.specs.Opens.{refused_by, Opens};
+ghost use Rattle.admission.specs.Admission.{refused_by};
+ghost use Rattle.opening.specs.Opens.{Opens};
 
-use admission::Admission;
 use answer::{Answer, Refusal};
 use diagnostics::Search;
 
-// Whether the text was admitted; how many diagnostics the log takes: none where it has too few records; the search for them, at its beginning; and the
-// answer.
+// What an admitted text is answered, and the search for the diagnostics that the log takes, at its beginning; none where there are none, or too many.
 #[derive(Clone, Copy)]
 pub struct Opened {
-    pub admitted: bool,
-    pub errors: usize,
-    pub search: Search,
-    pub answer: Answer,
-}
-
-// A text that is refused: there is nothing to search.
-fn refused(r: Refusal) -> Opened
-    ensures { result ≡ refused_by r }
-{
-    let first = [0; 11];
-    let search = Search {
-        count: 0,
-        first,
-        errors: 0,
-        rules: 0,
-        pass: 0,
-        at: 0,
-        tally: 0,
-        cut: false,
-    };
-    let answer = Answer::Refused(r);
-    Opened {
-        admitted: false,
-        errors: 0,
-        search,
-        answer,
-    }
+    pub answer: Result<Answer, Refusal>,
+    pub found: Option<Search>,
 }
 
 // Opens a text that is not refused.
@@ -51,42 +24,37 @@ fn admitted(text: &[u8], work: &mut [u32], records: usize, sheet: &mut [u32]) ->
     ensures { Opens text.now work.old records sheet.old work.new sheet.new result }
 {
     let search = enter::enter(text, work);
-    let found = search.errors;
-    if found < 1 {
-        let answer = enter::machine(text, work, search, sheet);
+    let errors = search.errors;
+    if errors == 0 {
         return Opened {
-            admitted: true,
-            errors: 0,
-            search,
-            answer,
+            answer: enter::machine(text, work, search, sheet),
+            found: None,
         };
     }
-    diag::clear(sheet);
-    if records < found {
-        let answer = enter::refused(found);
+    sheet.fill(0);
+    if records < errors {
         return Opened {
-            admitted: true,
-            errors: 0,
-            search,
-            answer,
+            answer: Err(Refusal::LogTooShort(errors)),
+            found: None,
         };
     }
-    let answer = enter::diagnosed(found);
     Opened {
-        admitted: true,
-        errors: found,
-        search,
-        answer,
+        answer: Ok(Answer::Diagnostics(errors)),
+        found: Some(search),
     }
 }
 
-// Opens a text for a log of so many records.
-pub fn open(text: &[u8], work: &mut [u32], records: usize, sheet: &mut [u32]) -> Opened
-    ensures { Opens text.now work.old records sheet.old work.new sheet.new result }
+// Opens a text for a log of so many records; the rows 1 to 4 leave everything as it was.
+pub fn open(
+    text: &[u8],
+    work: &mut [u32],
+    records: usize,
+    sheet: &mut [u32],
+) -> Result<Opened, Refusal>
+    ensures refused { refused_by result ≡ refusal_of text.now (length work.old) }
+    ensures err { OnErr result ((work.new ≡ work.old) × (sheet.new ≡ sheet.old)) }
+    ensures ok { IfOk result (Opens text.now work.old records sheet.old work.new sheet.new) }
 {
-    let a = admission::refusal(text, work.len());
-    match a {
-        Admission::Refused(r) => refused(r),
-        Admission::Admitted => admitted(text, work, records, sheet),
-    }
+    admission::check(text, work.len())?;
+    Ok(admitted(text, work, records, sheet))
 }

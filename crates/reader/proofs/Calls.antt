@@ -33,24 +33,18 @@ use Rattle.answered.specs.Ready.{lines_of, Ready}
 use Rattle.answered.proofs.Few.{diagnostics_few}
 use Rattle.answer.specs.declared.Refusal as R
 use Rattle.answer.specs.declared.Answer.{Answer}
-use Rattle.answer.specs.declared.Answer.TheVariants.{Refused}
-use Rattle.admission.specs.declared.Admission.{Admission}
-use Rattle.admission.specs.declared.Admission.TheVariants.{Admitted, Refused as NotAdmitted}
+use Rattle.std.specs.Prelude.{Result, Err}
 use Rattle.answer.specs.Answer.{refusal_in, reply_in, read_in, untouched}
 use Rattle.answer.specs.Words.{answer_row}
-use Rattle.admission.specs.Admission.{admission_in}
 use Rattle.report.specs.Report.{report_reply}
 use Rattle.reader.specs.Reading.{given, given_by, leaves_work_number}
 use Rattle.admission.proofs.Admissions.{too_long, work_too_short_lem}
 use Rattle.reader.proofs.Outcomes.{refused_outcome, reported_outcome, machine_outcome}
 
 -- ---- refusals
-module _ (t : List ℕ) (work : ℕ) (log sheet : List ℕ) (a : Admission) (e : admission_in a ≡ refusal_of t work) where
-  pub read-refused : (r : R.Refusal) → a ≡ NotAdmitted r → read_in (Refused r) log sheet ≡ read_outcome t work log sheet
-  read-refused r g = refused_outcome t work log sheet (refusal_in r) (sym e ∙ ap admission_in g)
-
-  pub read-admitted : a ≡ Admitted → refusal_of t work ≡ none
-  read-admitted g = sym e ∙ ap admission_in g
+module _ (t : List ℕ) (work : ℕ) (log sheet : List ℕ) where
+  pub read-refused : (r : R.Refusal) → some (refusal_in r) ≡ refusal_of t work → read_in (Err r) log sheet ≡ read_outcome t work log sheet
+  read-refused r e = refused_outcome t work log sheet (refusal_in r) (sym e)
 
 -- a text that is not refused is short enough, and work long enough
 some-none : {r : Refusal} {X : Type 0} → ◌≡◌ {A = Option Refusal} (some r) none → X
@@ -73,14 +67,14 @@ machine_touches : (ls : List (Line Span)) (n k : ℕ) → untouched (read_machin
 unfolding read_machine
 machine_touches ls n k = by_test_lem (ltb k (words_needed ls)) (λ p. rw (read_machine, p)) (λ p. rw (read_machine, p))
 
-pub report-work : (x : Answer) (n k : ℕ) → reply_in x ≡ report_reply n k → untouched (reply_in x) ≡ false
+pub report-work : (x : Result Answer R.Refusal) (n k : ℕ) → reply_in x ≡ report_reply n k → untouched (reply_in x) ≡ false
 report-work x n k e = ap untouched e ∙ report_touches n k
 
-pub machine-work : (x : Answer) (ls : List (Line Span)) (sheet : List ℕ) (k : ℕ) → ((n : ℕ) → read_in x (zeros n) sheet ≡ read_machine ls n k) → untouched (reply_in x) ≡ false
+pub machine-work : (x : Result Answer R.Refusal) (ls : List (Line Span)) (sheet : List ℕ) (k : ℕ) → ((n : ℕ) → read_in x (zeros n) sheet ≡ read_machine ls n k) → untouched (reply_in x) ≡ false
 machine-work x ls sheet k e = ap (λ (o : ReadOutcome). untouched o.reply) (e 0) ∙ machine_touches ls 0 k
 
 -- an answer that changes work is none that leaves it
-pub never : (x : Answer) (w w' : List ℕ) → untouched (reply_in x) ≡ false → untouched (reply_in x) ≡ true → w' ≡ w
+pub never : (x : Result Answer R.Refusal) (w w' : List ℕ) → untouched (reply_in x) ≡ false → untouched (reply_in x) ≡ true → w' ≡ w
 never x w w' e f = absurd (false≢true (sym e ∙ f))
 
 module _ (t w : List ℕ) (a : refusal_of t (length w) ≡ none) where
@@ -116,7 +110,7 @@ module _ (t w : List ℕ) (a : refusal_of t (length w) ≡ none) where
       report_room = omega (arith, o.errors, diagnostics_few t, o.entered.size, size, room t (length w) a)
 
       -- an answer that counts diagnostics
-      module _ (some-errors : 0 < r.errors) (x : Answer) (log₃ sheet : List ℕ) (s : sheet ≡ replicate (length S) 0) (q : reply_in x ≡ report_reply (length log₂) r.errors)
+      module _ (some-errors : 0 < r.errors) (x : Result Answer R.Refusal) (log₃ sheet : List ℕ) (s : sheet ≡ replicate (length S) 0) (q : reply_in x ≡ report_reply (length log₂) r.errors)
           (l : (row : List ℕ) (ds : List Diagnostic) → D.logged log₂ r.errors ≡ D.append_all (D.logged row 0) ds → log₃ ≡ D.log_after (length log₂) (D.sort ds)) where
         log_is : log₃ ≡ D.log_after (length L) (D.sort (records_of (A.diagnostics_of (lines_of t))))
         log_is =
@@ -154,7 +148,7 @@ module _ (t w : List ℕ) (a : refusal_of t (length w) ≡ none) where
           none_found = none_found;
         }
 
-        pub machine_is : (x : Answer) (log₃ sheet : List ℕ) → log₃ ≡ zeros (length log₂) → ((n : ℕ) → read_in x (zeros n) sheet ≡ read_machine (lines_of t) n (length S)) → read_in x log₃ sheet ≡ read_outcome t (length w) L S
+        pub machine_is : (x : Result Answer R.Refusal) (log₃ sheet : List ℕ) → log₃ ≡ zeros (length log₂) → ((n : ℕ) → read_in x (zeros n) sheet ≡ read_machine (lines_of t) n (length S)) → read_in x log₃ sheet ≡ read_outcome t (length w) L S
         machine_is x log₃ sheet e m =
             ap (λ (l : List ℕ). read_in x l sheet) (e ∙ ap zeros long) ∙ m (length L) ∙ sym (machine_outcome t (length w) L S a none_found)
 
@@ -170,7 +164,7 @@ number_leaves (refused (log_too_short n)) e = absurd (let o : ◌≡◌ {A = ℕ
 number_leaves (refused (sheet_too_short n)) e = absurd (let o : ◌≡◌ {A = ℕ} 0 1 = cc in omega arith)
 number_leaves (refused (output_too_short n)) e = absurd (let o : ◌≡◌ {A = ℕ} 0 1 = cc in omega arith)
 
-module _ (x : Answer) (n : ℕ) (number : n ≡ reply_number (reply_in x)) where
+module _ (x : Result Answer R.Refusal) (n : ℕ) (number : n ≡ reply_number (reply_in x)) where
   pub given_is : (o : ReadOutcome) (row row' log sheet : List ℕ) → read_in x log sheet ≡ o → row' ≡ answer_row (reply_in x) row → given n row' log sheet ≡ given_by o row
   unfolding given_by
   given_is o row row' log sheet e q =

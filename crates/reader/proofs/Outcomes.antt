@@ -9,7 +9,7 @@ use Rattle.chars.specs.Utf8.{decode}
 use Rattle.lexer.specs.declared.Span.{Span}
 use Rattle.language.specs.Lines.{Line, read_lines}
 use Rattle.language.specs.Assembly as A
-use Rattle.language.specs.Outcome.{Refusal, refusal_of, zeros, machine, refused, ReadOutcome, read_diagnostics, read_machine, read_with, read_outcome}
+use Rattle.language.specs.Outcome.{Refusal, refusal_of, zeros, refused, ReadOutcome, read_diagnostics, read_machine, read_with, read_outcome}
 use Rattle.diag.specs.Log as D
 use Rattle.assembler.specs.Records.{records_of}
 use Rattle.report.specs.Report.{report_reply}

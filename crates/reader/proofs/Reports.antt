@@ -1,16 +1,16 @@
 -- Row 5 over the words of the log is the definition's: its stable sort is the log's, and its words are the records.
-use mathlib.Core.Path.{◌≡◌, refl, sym, ap, ap₂, ◌∙◌}
-use mathlib.Core.Bool.{Bool, true, false, cond}
+use mathlib.Core.Path.{◌≡◌, refl, sym, ap, ◌∙◌}
+use mathlib.Core.Bool.{true, false}
 use mathlib.Core.List.{List, [], ◌∷◌, ◌++◌, map}
-use Prim.Native.Nat.{ℕ, ◌+◌, ◌-◌, ◌*◌, ◌/◌, ◌≤◌, ◌<◌}
+use Prim.Native.Nat.{ℕ, ◌+◌, ◌*◌, ◌/◌, ◌≤◌, ◌<◌}
 use native.Mathlib.Omega.{arith}
-use borrow.Author.Tests.{ltb-true, ltb-false, leb-true, leb-false, lt-ltb, le-ltb, le-leb, lt-leb}
+use borrow.Author.Tests.{ltb-true, ltb-false, lt-ltb, le-ltb, le-leb, lt-leb}
 use lib.Dec.{leb, ltb}
-use lib.ListN.{length, drop, replicate, length-map}
+use lib.ListN.{length, length-map}
 use Rattle.lexer.specs.declared.Span.{Span}
 use Rattle.language.specs.Assembly as A
 use Rattle.language.specs.Layout as L
-use Rattle.language.specs.Outcome.{diagnosed, refused, log_too_short, zeros, filled, ReadOutcome, read_diagnostics}
+use Rattle.language.specs.Outcome.{zeros, ReadOutcome, read_diagnostics}
 use Rattle.diag.specs.declared.Diagnostic.{Diagnostic}
 use Rattle.diag.specs.Sort.{insert_by, insert_all, sort_by}
 use Rattle.diag.specs.Log as D

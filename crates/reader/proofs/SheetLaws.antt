@@ -1,12 +1,12 @@
 -- Laws of the sheet as the code writes it: sections and rules are the machine's sheet, and the head is its head.
 use mathlib.Core.Path.{◌≡◌, refl, sym, ap, subst, ◌∙◌}
 use mathlib.Core.List.{List, [], ◌++◌, append-nil}
-use Prim.Native.Nat.{ℕ, zero, suc, ◌+◌, ◌-◌, ◌*◌, ◌/◌, ◌≤◌, ◌<◌, ◌^◌}
+use Prim.Native.Nat.{ℕ, ◌+◌, ◌-◌, ◌*◌, ◌/◌, ◌≤◌, ◌<◌, ◌^◌}
 use native.Mathlib.Omega.{arith}
 use lib.ListN.{length, get_or, take, drop, replicate, length-append, length-take, length-drop, drop_of_length-le}
 use borrow.Author.Tests.{lt-ltb, le-ltb}
 use lib.Seq.{sets, sets-eq, take_at}
-use Rattle.diag.specs.declared.Span as D
+use borrow.Rule.Slice.PartMut.{put_mid}
 use Rattle.machine.specs.declared.Span.{Span}
 use Rattle.tokens.specs.declared.Token.{Token}
 use Rattle.language.specs.Layout as L
@@ -17,14 +17,13 @@ use Rattle.language.proofs.ReadCounts.{rules-within}
 use Rattle.lexer.specs.declared.Span.{Span as Place}
 use Rattle.assembler.specs.Rows.{rows}
 use Rattle.sheet.specs.Stored.{Stored}
-use Rattle.sheet.specs.Comments.{header, trailing}
 use Rattle.sheet.specs.Rules.{rules, rule_lengths}
 use Rattle.sheet.proofs.Writes.{sets-append, stored_length}
 use Rattle.infer.specs.States.{first_state}
 use Rattle.alphabet.specs.Alphabets.{gamma_codes}
 use Rattle.machine.specs.declared.Counts.{Counts}
 use Rattle.machine.specs.declared.Head.{Head}
-use Rattle.machine.specs.Meaning.{counts_in, head_in}
+use Rattle.machine.specs.Meaning.{span_from, counts_in, head_in}
 use Rattle.head.specs.Heads.{blank_at, head_at}
 use Rattle.answered.specs.Ready.{lines_of, Ready}
 use Rattle.answered.specs.Sections.{Sections, sections_of, joined}
@@ -34,15 +33,12 @@ use Rattle.answered.proofs.Ties.{few, row_size, ties}
 use Rattle.answered.proofs.Sheets as T
 use Rattle.reader.specs.declared.sections.Ends.{Ends}
 use Rattle.answer.specs.declared.Refusal.TheVariants.{SheetTooShort}
-use Rattle.answer.specs.declared.Answer.TheVariants.{Machine, Refused}
+use Rattle.std.specs.Prelude.{Ok, Err}
+use Rattle.answer.specs.declared.Answer.TheVariants.{Machine}
 use Rattle.answer.specs.Answer.{read_in}
-use Rattle.reader.specs.Sheet.{ends_of, Written, Ordered, counts_at, span_from}
+use Rattle.reader.specs.Sheet.{ends_of, Written, Ordered, counts_at}
 use Rattle.language.specs.Machine.{Machine as Spec}
 use Rattle.reader.proofs.SectionLaws.{code-count, lengths_low}
-
--- the same place in a head's type
-pub span_from_lem : (p q : D.Span) → p ≡ q → ◌≡◌ {A = Span} (record { start = p.start; end = p.end }) (span_from q)
-span_from_lem p q e = ap span_from e
 
 -- ---- row 6, and the machine
 module _ (ls : List (Line Place)) (log sheet : ℕ) where
@@ -58,6 +54,14 @@ module _ (ls : List (Line Place)) (log sheet : ℕ) where
 -- words stored at the front, and zeros behind them
 behind_cleared : (o ws : List ℕ) → length ws ≤ length o → take (length ws) (sets o 0 ws) ≡ ws
 behind_cleared o ws h = ap (take (length ws)) (sets-eq ws o 0 (omega arith)) ∙ take_at ws (drop (0 + length ws) o) (length ws) refl
+
+-- zeros behind the first words of a row
+pub cleared_behind : (at : ℕ) (l ys : List ℕ) → at ≤ length l → ys ≡ replicate (length (take (length l - at) (drop at l))) 0 → put_mid at (length l - at) l ys ≡ take at l ++ zeros (length l - at)
+cleared_behind at l ys h e =
+    let long : length (drop at l) ≡ length l - at = length-drop at l in
+    let whole : length (take (length l - at) (drop at l)) ≡ length l - at = omega (arith, length-take (length l - at) (drop at l), long) in
+    let last : drop (length l - at) (drop at l) ≡ [] = drop_of_length-le (drop at l) (omega (arith, long)) in
+    ap (λ r. take at l ++ (ys ++ r)) last ∙ ap (λ r. take at l ++ r) (append-nil ys ∙ e ∙ ap zeros whole)
 
 pub sheet_long : (s : Sections) (o o₁ : List ℕ) (e : Ends) → Written s o o₁ e → length o₁ ≡ length o
 sheet_long s o o₁ e m = stored_length (joined s) o o₁ 0 (0 + length (joined s)) (record { words = m.words; behind = refl })
@@ -151,7 +155,7 @@ module _ (text : List ℕ) (count : ℕ) (w first : List ℕ) (r : Ready text co
 
       -- row 6
       pub too_short : length o₁ < e.trailing + n → (o₂ : List ℕ) → o₂ ≡ replicate (length o₁) 0 → (l : ℕ)
-          → read_in (Refused (SheetTooShort (e.trailing + n))) (zeros l) o₂ ≡ read_machine (lines_of text) l (length o)
+          → read_in (Err (SheetTooShort (e.trailing + n))) (zeros l) o₂ ≡ read_machine (lines_of text) l (length o)
       unfolding read_machine
       too_short h o₂ q l =
           let z : o₂ ≡ zeros (length o) = q ∙ ap zeros same_length in
@@ -239,7 +243,7 @@ module _ (text : List ℕ) (count : ℕ) (w first : List ℕ) (r : Ready text co
 
         -- the head, and the answer
         pub whole : (w₂ : List ℕ) → rows count w₂ ≡ rows count w₁ → (p : Span) (c : Counts) (h : Head) → p ≡ span_from (first_state o₂ 0 e.states) → c ≡ counts_at e number
-            → h ≡ head_at (rows count w₂) first p c → (o₃ : List ℕ) → o₃ ≡ take (e.trailing + n) o₂ ++ zeros (length o₂ - (e.trailing + n)) → (l : ℕ) → read_in (Machine h) (zeros l) o₃ ≡ read_machine (lines_of text) l (length o)
+            → h ≡ head_at (rows count w₂) first p c → (o₃ : List ℕ) → o₃ ≡ take (e.trailing + n) o₂ ++ zeros (length o₂ - (e.trailing + n)) → (l : ℕ) → read_in (Ok (Machine h)) (zeros l) o₃ ≡ read_machine (lines_of text) l (length o)
         unfolding read_machine ends_of
         whole w₂ row₂ p c h p-is c-is h-is o₃ cleared l =
             let t : Sections = sections_of text (blank_at (rows count w) (get_or first 8 0)) (rows count w) first w in

@@ -1,11 +1,17 @@
 -- The sheet of a machine, as the code writes it.
 use Rattle.std.specs.Prelude.{ℕ, ◌+◌, ◌-◌, ◌/◌, ◌≤◌, ◌<◌, ◌^◌, ◌≡◌, List, length}
 use Rattle.std.proofs.lemmas.List.Edits.{sets}
-use Rattle.diag.specs.declared.Span as D
-use Rattle.machine.specs.declared.Span.{Span}
 use Rattle.machine.specs.declared.Counts.{Counts}
+use Rattle.language.specs.Infer.{machine_of}
+use Rattle.assembler.specs.declared.Assembled.{Assembled}
+use Rattle.answered.specs.Ready.{lines_of, Ready}
 use Rattle.answered.specs.Sections.{Sections, joined}
 use Rattle.reader.specs.declared.sections.Ends.{Ends}
+
+-- a text in work that was assembled without a diagnostic, and what assembling it gave
+pub record Assembles (text : List ℕ) (count : ℕ) (w : List ℕ) (a : Assembled) : Type 0 where
+  pub ready : Ready text count w a.first
+  pub rules : a.rules ≡ length (machine_of (lines_of text)).rules
 
 -- where the sections end
 unfoldable pub ends_of : Sections → Ends
@@ -42,7 +48,3 @@ counts_at e n = record {
   trailing = (e.trailing - e.header) / 2;
   rules = n;
 }
-
--- a place in a head
-abbrev pub span_from : D.Span → Span
-span_from p = record { start = p.start; end = p.end }

@@ -7,36 +7,42 @@ ghost use Rattle.language.specs.Outcome.{refusal_of, read_outcome};
 ghost use Rattle.answer.specs.Answer.{read_in, leaves_work};
 ghost use Rattle.reader.specs.Reading.{given, given_by, leaves_work_number};
 
-use admission::Admission;
-use answer::{Answer, words};
+use answer::{Answer, Refusal, words};
 
 pub mod sections;
 pub mod written;
 
 // Reads a text that is not refused.
-fn admitted(text: &[u8], work: &mut [u32], log: &mut [u32], sheet: &mut [u32]) -> Answer
+fn admitted(
+    text: &[u8],
+    work: &mut [u32],
+    log: &mut [u32],
+    sheet: &mut [u32],
+) -> Result<Answer, Refusal>
     requires { refusal_of text.now (length work.old) ≡ none }
     ensures { (read_in result log.new sheet.new ≡ read_outcome text.now (length work.old) log.old sheet.old) × (leaves_work result ≡ false) }
 {
     let count = lexer::tokenize(text, work);
     let a = assembler::assemble(text, work, count, log);
     if 0 < a.errors {
-        diag::clear(sheet);
+        sheet.fill(0);
         return report::report(log, a.errors, work);
     }
-    diag::clear(log);
-    written::machine(text, work, count, a, sheet)
+    log.fill(0);
+    written::machine(text, work, count, &a, sheet)
 }
 
 // Reads a text: answers its machine's head, the sheet filled; or the number of its diagnostics, which the log holds; or a refusal.
-pub fn read(text: &[u8], work: &mut [u32], log: &mut [u32], sheet: &mut [u32]) -> Answer
+pub fn read(
+    text: &[u8],
+    work: &mut [u32],
+    log: &mut [u32],
+    sheet: &mut [u32],
+) -> Result<Answer, Refusal>
     ensures { (read_in result log.new sheet.new ≡ read_outcome text.now (length work.old) log.old sheet.old) × (leaves_work result ≡ true → work.new ≡ work.old) }
 {
-    let a = admission::refusal(text, work.len());
-    match a {
-        Admission::Refused(r) => Answer::Refused(r),
-        Admission::Admitted => admitted(text, work, log, sheet),
-    }
+    admission::check(text, work.len())?;
+    admitted(text, work, log, sheet)
 }
 
 // The same for callers in other languages: the answer in 36 words, and its number.
@@ -50,6 +56,5 @@ pub extern "C" fn pevzoncs_read(
 ) -> u32
     ensures { (given result answer.new log.new sheet.new ≡ given_by (read_outcome text.now (length work.old) log.old sheet.old) answer.old) × (leaves_work_number result ≡ true → work.new ≡ work.old) }
 {
-    let a = read(text, work, log, sheet);
-    words::give(a, answer)
+    words::give(read(text, work, log, sheet), answer)
 }

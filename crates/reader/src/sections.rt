@@ -1,22 +1,21 @@
 // The sections of the sheet before the rules.
-ghost use Rattle.std.specs.Prelude.{◌≡◌, ◌+◌, ◌*◌, length};
-ghost use Rattle.language.specs.Infer.{machine_of};
+ghost use Rattle.std.specs.Prelude.{◌≡◌, ◌+◌, ◌*◌, ◌^◌, ◌<◌, length};
 ghost use Rattle.assembler.specs.Rows.{rows};
 ghost use Rattle.sheet.specs.Stored.{Stored};
 ghost use Rattle.sheet.specs.Rules.{rule_lengths};
 ghost use Rattle.infer.specs.Page.{Kept};
 ghost use Rattle.infer.specs.States.{state_section};
-ghost use Rattle.answered.specs.Ready.{lines_of, Ready};
 ghost use Rattle.answered.specs.Sections.{sections_of};
-ghost use Rattle.reader.specs.Sheet.{Written};
+ghost use Rattle.reader.specs.Sheet.{Assembles, Ordered, Written, counts_at};
 
 use alphabet::symbols;
-use assembler::entry;
+use assembler::Assembled;
 use infer::{finals, states};
+use machine::Counts;
 use sheet::comments;
 
 // Where each of the sections ends.
-#[derive(Clone, Copy)]
+#[derive(Clone, Copy, Debug, PartialEq, Eq)]
 pub struct Ends {
     pub states: usize,
     pub sigma: usize,
@@ -26,8 +25,26 @@ pub struct Ends {
     pub trailing: usize,
 }
 
+impl Ends {
+    // How many members the sections have, and n rules.
+    pub fn counts(self, rules: usize) -> Counts
+        requires { Ordered self × (rules < 2 ^ 32) }
+        ensures { result ≡ counts_at self rules }
+    {
+        Counts {
+            states: (self.states / 3) as u32,
+            sigma: ((self.sigma - self.states) / 3) as u32,
+            gamma: ((self.gamma - self.sigma) / 3) as u32,
+            finals: ((self.finals - self.gamma) / 2) as u32,
+            header: ((self.header - self.finals) / 2) as u32,
+            trailing: ((self.trailing - self.header) / 2) as u32,
+            rules: rules as u32,
+        }
+    }
+}
+
 // These, and how many words the rules take behind them.
-#[derive(Clone, Copy)]
+#[derive(Clone, Copy, Debug, PartialEq, Eq)]
 pub struct Measured {
     pub ends: Ends,
     pub rules: usize,
@@ -38,50 +55,50 @@ fn states_section(
     text: &[u8],
     work: &mut [u32],
     count: usize,
-    first: &[u32; 11],
-    rules: usize,
+    a: &Assembled,
     sheet: &mut [u32],
 ) -> usize
-    requires { (Ready text.now count work.old first.now) × (rules ≡ length (machine_of (lines_of text.now)).rules) }
-    ensures { Kept (5 * (length text.now + 1)) work.old work.new × Stored (state_section (length text.now + 1) (rows count work.old) first.now work.old) sheet.old 0 sheet.new result }
+    requires { Assembles text.now count work.old a.now }
+    ensures kept { Kept (5 * (length text.now + 1)) work.old work.new }
+    ensures stored { Stored (state_section (length text.now + 1) (rows count work.old) a.now.first work.old) sheet.old 0 sheet.new result }
 {
-    if assembler::has_states(count, first, rules) {
-        let size = text.len() + 1;
-        return states::section(work, count, size, first, sheet, 0);
+    if !assembler::has_states(count, &a.first, a.rules) {
+        return 0;
     }
-    0
+    states::section(work, count, text.len() + 1, &a.first, sheet, 0)
 }
 
-// The sections, stored where there is room and counted in any case; `rules` is how many rules the machine has.
+// The sections, stored where there is room and counted in any case.
 pub fn sections(
     text: &[u8],
     work: &mut [u32],
     count: usize,
-    first: &[u32; 11],
-    rules: usize,
+    a: &Assembled,
     blank: u32,
     sheet: &mut [u32],
 ) -> Measured
-    requires { (Ready text.now count work.old first.now) × (rules ≡ length (machine_of (lines_of text.now)).rules) }
-    ensures { (rows count work.new ≡ rows count work.old) × (length work.new ≡ length work.old) × Written (sections_of text.now blank (rows count work.old) first.now work.old) sheet.old sheet.new result.ends × (result.rules ≡ rule_lengths (rows count work.old)) }
+    requires { Assembles text.now count work.old a.now }
+    ensures rows { rows count work.new ≡ rows count work.old }
+    ensures size { length work.new ≡ length work.old }
+    ensures written { Written (sections_of text.now blank (rows count work.old) a.now.first work.old) sheet.old sheet.new result.ends }
+    ensures lengths { result.rules ≡ rule_lengths (rows count work.old) }
 {
-    let size = text.len() + 1;
-    let q = states_section(text, work, count, first, rules, sheet);
-    let n = symbols::gamma_codes(text, work, count, 4 * size, first, blank);
-    let s = symbols::sigma(work, count, 4 * size, n, first, blank, sheet, q);
-    let g = symbols::gamma(work, count, 4 * size, n, first, blank, sheet, s);
-    let f = finals::section(work, count, entry::wide(first[10]), sheet, g);
-    let h = comments::header(work, count, sheet, f);
-    let end = h.end;
-    let left = h.left;
-    let t = comments::trailing(work, count, left, sheet, end);
+    let first = &a.first;
+    let base = 4 * (text.len() + 1);
+    let states = states_section(text, work, count, a, sheet);
+    let n = symbols::gamma_codes(text, work, count, base, first, blank);
+    let sigma = symbols::sigma(work, count, base, n, first, blank, sheet, states);
+    let gamma = symbols::gamma(work, count, base, n, first, blank, sheet, sigma);
+    let finals = finals::section(work, count, first[10] as usize, sheet, gamma);
+    let h = comments::header(work, count, sheet, finals);
+    let trailing = comments::trailing(work, count, h.left, sheet, h.end);
     let ends = Ends {
-        states: q,
-        sigma: s,
-        gamma: g,
-        finals: f,
-        header: end,
-        trailing: t,
+        states,
+        sigma,
+        gamma,
+        finals,
+        header: h.end,
+        trailing,
     };
     Measured {
         ends,

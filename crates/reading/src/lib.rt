@@ -1,38 +1,41 @@
 // Reading a description with a log of diagnostic records.
 #![tactic(auto)]
 
-ghost use Rattle.std.specs.Prelude.{◌≡◌, true, ◌≤◌, length};
+ghost use Rattle.std.specs.Prelude.{◌≡◌, true, length, IfSome};
 ghost use Rattle.answer.specs.Answer.{leaves_work};
 ghost use Rattle.reader.specs.Reading.{leaves_work_number};
 ghost use Rattle.enter.specs.Records.{read_in, read_records};
 ghost use Rattle.opening.specs.Opens.{Reports, reported};
 ghost use Rattle.reading.specs.Given.{given, given_by};
 
-use answer::{Answer, words};
+use answer::{Answer, Refusal, words};
 use diag::Diagnostic;
 use diagnostics::Search;
 
-// The log of an admitted text: its first `errors` diagnostics, sorted, and unused records behind them.
-fn report(text: &[u8], work: &mut [u32], log: &mut [Diagnostic], search: Search, errors: usize)
-    requires { 1 ≤ errors → Reports text.now work.old search errors (length log.old) }
-    ensures { log.new ≡ reported text.now work.old search errors (length log.old) }
+// The log of an admitted text: the diagnostics of the search, sorted, and unused records behind them.
+fn report(text: &[u8], work: &mut [u32], log: &mut [Diagnostic], found: Option<Search>)
+    requires { IfSome found (Reports text.now work.old (length log.old)) }
+    ensures { log.new ≡ reported text.now work.old found (length log.old) }
 {
     records::clear(log);
-    if 0 < errors {
-        gather::gather(text, work, search, log, errors);
-        records::sort(log, errors, work);
+    if let Some(search) = found {
+        gather::gather(text, work, search, log, search.errors);
+        records::sort(log, search.errors, work);
     }
 }
 
 // Reads a text: answers its machine's head, the sheet filled; or the number of its diagnostics, which the log holds; or a refusal.
-pub fn read(text: &[u8], work: &mut [u32], log: &mut [Diagnostic], sheet: &mut [u32]) -> Answer
+pub fn read(
+    text: &[u8],
+    work: &mut [u32],
+    log: &mut [Diagnostic],
+    sheet: &mut [u32],
+) -> Result<Answer, Refusal>
     ensures { (read_in result log.new sheet.new ≡ read_records text.now (length work.old) log.old sheet.old) × (leaves_work result ≡ true → work.new ≡ work.old) }
 {
-    let o = opening::open(text, work, log.len(), sheet);
-    if o.admitted {
-        report(text, work, log, o.search, o.errors);
-    }
-    o.answer
+    let opened = opening::open(text, work, log.len(), sheet)?;
+    report(text, work, log, opened.found);
+    opened.answer
 }
 
 // The same for callers in other languages: the answer in 36 words, and its number.
@@ -46,6 +49,5 @@ pub extern "C" fn pevzoncs_read_records(
 ) -> u32
     ensures { (given result answer.new log.new sheet.new ≡ given_by (read_records text.now (length work.old) log.old sheet.old) answer.old) × (leaves_work_number result ≡ true → work.new ≡ work.old) }
 {
-    let a = read(text, work, log, sheet);
-    words::give(a, answer)
+    words::give(read(text, work, log, sheet), answer)
 }

@@ -1,16 +1,12 @@
--- `fit::write_answer` meets its contract: a machine's form is written, and every other answer is handed on.
-use mathlib.Core.Bool.{false≢true}
-use Rattle.fit.proofs.Handed.{machine-written, diagnostics_handed, refusal_handed, form_frees, refusal_leaves}
+-- `fit::write_answer` meets its contract: a machine's form is written, and a number of diagnostics handed on.
+use Rattle.fit.proofs.Handed.{machine-written, diagnostics_handed, form_touches}
 use Rattle.fit.proofs.write_answer.Goals as goal
 
-pub returns-in-Machine : goal.returns-in-Machine
-returns-in-Machine c = (
-  machine-written _ _ _ _ _ c.in-Machine.is c.write_form.result _ c.write_form.ensures,
-  form_frees _ _ _ c.write_form.result _ _ c.in-Machine.is c.write_form.ensures,
-)
+pub returns-in-Machine-clause-outcome : goal.returns-in-Machine-clause-outcome
+returns-in-Machine-clause-outcome c = machine-written _ _ _ _ _ c.in-Machine.is c.write_form.result _ c.write_form.ensures
 
-pub returns-in-Diagnostics : goal.returns-in-Diagnostics
-returns-in-Diagnostics c = (diagnostics_handed _ _ _ _ _ c.in-Diagnostics.is, λ e. absurd (false≢true e))
+pub returns-in-Machine-clause-touches : goal.returns-in-Machine-clause-touches
+returns-in-Machine-clause-touches c = form_touches _ _ _ c.write_form.result c.write_form.ensures
 
-pub returns-in-Refused : goal.returns-in-Refused
-returns-in-Refused c = (refusal_handed _ _ _ _ _ c.in-Refused.is, refusal_leaves _ _ c.in-Refused.is)
+pub returns-in-Diagnostics-clause-outcome : goal.returns-in-Diagnostics-clause-outcome
+returns-in-Diagnostics-clause-outcome c = diagnostics_handed _ _ _ _ _ c.in-Diagnostics.is

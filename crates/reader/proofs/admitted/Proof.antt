@@ -16,10 +16,13 @@ admitted_spec =
     (λ c. search rules)
     (λ c. search rules)
     (λ c. search rules)
-    (λ c. (search (rules, report_outcome), search (rules, report-work)))
+    (λ c. (report_outcome _ _ c.requires _ _ c.tokenize-count.ensures.0 c.tokenize-count.ensures.1 _ _ _ _ _ c.assemble-a.ensures (search rules) _ _ _ (c.fill.ensures.1.1.1.1 (λ _ e. e)) c.report.ensures.0 c.report.ensures.1, search (rules, report-work)))
     (λ c κs. search rules)
-    (λ c κs. (machine-ready _ _ c.requires _ _ c.tokenize-count.ensures.0 c.tokenize-count.ensures.1 c.args.log.now [] _ _ _ c.assemble-a.ensures (search rules), c.assemble-a.ensures.rules))
+    (λ c κs. record {
+      ready = machine-ready _ _ c.requires _ _ c.tokenize-count.ensures.0 c.tokenize-count.ensures.1 c.args.log.now [] _ _ _ c.assemble-a.ensures (search rules);
+      rules = c.assemble-a.ensures.rules;
+    })
     (λ c. search rules)
     (λ c. search rules)
     (λ c. search rules)
-    (λ c. (search (rules, machine_is), machine-work c.machine.result _ _ _ c.machine.ensures)))
+    (λ c. (machine_is _ _ c.requires _ _ c.tokenize-count.ensures.0 c.tokenize-count.ensures.1 _ _ _ _ _ c.assemble-a.ensures (search rules) _ _ _ (c.fill-2.ensures.1.1.1.1 (λ _ e. e)) c.machine.ensures, machine-work c.machine.result _ _ _ c.machine.ensures)))
