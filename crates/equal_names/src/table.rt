@@ -75,6 +75,7 @@ fn probe(words: &Words, window: &[u32], name: &[u8]) -> Option<usize>
 
 // Stores the word x in its slot, if that is empty, and the slot's word as the first that equals x. A filled slot is not written, so that the next
 // look at it need not wait for a store.
+#[tactic(auto, unfolding(crate::specs::Index::filled))]
 fn store(row: &mut [u32], slots: &mut [u32], slot: usize, x: usize)
     requires slot { slot < length slots.old }
     requires word { x < length row.old }
