@@ -1,18 +1,23 @@
 -- Laws of the table's places: the hash, the slots, and what is stored.
 use mathlib.Core.Path.{◌≡◌, refl, sym, ap, ◌∙◌}
+use mathlib.Core.Bool.{Bool, true, false, ◌&&◌}
 use mathlib.Core.List.{List, [], ◌∷◌, ◌++◌}
 use Prim.Native.Nat.{ℕ, ◌+◌, ◌-◌, ◌*◌, ◌/◌, ◌%◌, ◌≤◌, ◌<◌, ◌^◌}
 use native.Mathlib.Omega.{arith}
 use native.Mathlib.Nat.{mul-le-mul_right, mul-le-mul_left}
-use borrow.Author.Tests.{eq-eqb, ne_eqb, lt-ltb, le-ltb}
-use lib.Dec.{eqb}
-use lib.ListN.{length, get_or, take, drop, set, length-append}
-use lib.Seq.{set-get_or, take_all, take-append_seam, get_or-append-add}
-use Rattle.std.specs.Prelude.{None, Some}
+use borrow.Author.Tests.{eq-eqb, ne_eqb, lt-ltb, le-ltb, le-leb, leb-true}
+use lib.Dec.{eqb, leb}
+use lib.ListN.{length, get_or, take, drop, set, length-append, length-take, length-drop}
+use lib.Seq.{set-get_or, drop-cons, take_all, take-append_seam, get_or-append-add}
+use Rattle.std.specs.Prelude.{Option, None, Some}
+use Rattle.std.specs.Option.{unwrap_or}
+use Rattle.std.proofs.lemmas.Option.{none-some}
+use Rattle.diag.proofs.Cases.{by_test_lem}
+use Rattle.lexer.specs.Places.{part}
 use Rattle.tokens.specs.declared.Token.{Token}
 use Rattle.parser.specs.Row.{peek}
 use Rattle.equal_names.specs.Names.{has_name}
-use Rattle.equal_names.specs.Index.{step, rest_of, hash_from, own_slot, front, final, hashed_slot, stops, filled}
+use Rattle.equal_names.specs.Index.{step, rest_of, hash_from, letter_of, own_slot, front, final, hashed_slot, stops, filled}
 
 -- ---- the last bytes
 pub rest_0 : (l : List ℕ) → length l < 1 → 0 ≡ rest_of l
@@ -71,28 +76,62 @@ hash-on h (a ∷ b ∷ c ∷ d ∷ l) x y z w s v n p q r t e g =
     ap (hash_from s) all ∙ ap (λ (s : ℕ). hash_from s l) (e ∙ ap (step h) sum) ∙ g
 
 -- ---- the slots
-pub own_none : (letters : ℕ) (l : List ℕ) → length l < 1 → None ≡ own_slot letters l
-unfolding own_slot
-own_none letters [] h = refl
-own_none letters (a ∷ r) h = absurd (omega arith)
+pub own_none : (letters : ℕ) (l : List ℕ) → None ≡ letter_of l → None ≡ own_slot letters l
+unfolding letter_of own_slot
+own_none letters [] e = refl
+own_none letters (a ∷ []) e = absurd (none-some a e)
+own_none letters (a ∷ b ∷ r) e = refl
 
-pub own_more : (letters : ℕ) (l : List ℕ) → 2 ≤ length l → None ≡ own_slot letters l
-unfolding own_slot
-own_more letters [] h = absurd (omega arith)
-own_more letters (a ∷ []) h = absurd (omega arith)
-own_more letters (a ∷ b ∷ r) h = refl
+pub own_is : (letters : ℕ) (l : List ℕ) (c : ℕ) → Some c ≡ letter_of l → c < letters → Some c ≡ own_slot letters l
+unfolding letter_of own_slot
+own_is letters [] c e h = absurd (none-some c (sym e))
+own_is letters (a ∷ []) c e h = let z : c ≡ a = ap (λ (o : Option ℕ). unwrap_or o 0) e in rw (lt-ltb a letters (omega arith)) e
+own_is letters (a ∷ b ∷ r) c e h = absurd (none-some c (sym e))
 
-pub own_is : (letters : ℕ) (l : List ℕ) (c : ℕ) → 1 ≤ length l → length l < 2 → c ≡ get_or l 0 0 → c < letters → Some c ≡ own_slot letters l
-unfolding own_slot
-own_is letters [] c s o e h = absurd (omega arith)
-own_is letters (a ∷ []) c s o e h = rw (lt-ltb a letters (omega (arith, e))) (ap Some e)
-own_is letters (a ∷ b ∷ r) c s o e h = absurd (omega arith)
+pub own_past : (letters : ℕ) (l : List ℕ) (c : ℕ) → Some c ≡ letter_of l → letters ≤ c → None ≡ own_slot letters l
+unfolding letter_of own_slot
+own_past letters [] c e h = refl
+own_past letters (a ∷ []) c e h = let z : c ≡ a = ap (λ (o : Option ℕ). unwrap_or o 0) e in rw (le-ltb a letters (omega arith))
+own_past letters (a ∷ b ∷ r) c e h = refl
 
-pub own_past : (letters : ℕ) (l : List ℕ) (c : ℕ) → 1 ≤ length l → length l < 2 → c ≡ get_or l 0 0 → letters ≤ c → None ≡ own_slot letters l
-unfolding own_slot
-own_past letters [] c s o e h = absurd (omega arith)
-own_past letters (a ∷ []) c s o e h = rw (le-ltb a letters (omega (arith, e)))
-own_past letters (a ∷ b ∷ r) c s o e h = absurd (omega arith)
+-- ---- the letter of a part of the text
+not-one : (l : List ℕ) → (length l ≡ 1 → ⊥) → None ≡ letter_of l
+unfolding letter_of
+not-one [] n = refl
+not-one (c ∷ []) n = absurd (n refl)
+not-one (c ∷ d ∷ r) n = refl
+
+and_left : (a b : Bool) → a && b ≡ true → a ≡ true
+and_left true b e = refl
+and_left false b e = e
+
+and_right : (a b : Bool) → a && b ≡ true → b ≡ true
+and_right true b e = e
+and_right false b e = let z : ◌≡◌ {A = ℕ} 0 1 = cc in absurd (omega arith)
+
+pub letter_long : (text : List ℕ) (a b : ℕ) → (a + 1 ≡ b → ⊥) → None ≡ letter_of (part text a b)
+unfolding part letter_of
+letter_long text a b n =
+    by_test_lem (leb a b && leb b (length text)) (λ y. rw y (not-one (take (b - a) (drop a text)) (λ e. long y e))) (λ y. rw y)
+  where
+    long : leb a b && leb b (length text) ≡ true → length (take (b - a) (drop a text)) ≡ 1 → ⊥
+    long y e =
+        let l = leb-true a b (and_left (leb a b) (leb b (length text)) y) in
+        let m = leb-true b (length text) (and_right (leb a b) (leb b (length text)) y) in
+        n (omega (arith, length-take (b - a) (drop a text), length-drop a text))
+
+pub letter_past : (text : List ℕ) (a b : ℕ) → length text < b → None ≡ letter_of (part text a b)
+unfolding part letter_of
+letter_past text a b h =
+    by_test_lem (leb a b && leb b (length text)) (λ y. absurd (omega (arith, leb-true b (length text) (and_right (leb a b) (leb b (length text)) y)))) (λ y. rw y)
+
+pub letter_is : (text : List ℕ) (a b : ℕ) → a + 1 ≡ b → b ≤ length text → Some (get_or text a 0) ≡ letter_of (part text a b)
+unfolding part letter_of
+letter_is text a b e h =
+    let z : leb a b && leb b (length text) ≡ true = rw (le-leb a b (omega arith), le-leb b (length text) h) in
+    let n : b - a ≡ 1 = omega arith in
+    let o : take 1 (drop a text) ≡ get_or text a 0 ∷ [] = ap (take 1) (drop-cons text a 0 (omega arith)) in
+    sym (rw (z, n) (ap letter_of o))
 
 pub slot-product : (h room : ℕ) → h < 2 ^ 30 → room < 2 ^ 34 → h * room ≤ 1073741823 * 17179869184
 slot-product h room l s =

@@ -28,6 +28,12 @@ hash_from h (a ∷ b ∷ []) = step h (rest_of (a ∷ b ∷ []))
 hash_from h (a ∷ b ∷ c ∷ []) = step h (rest_of (a ∷ b ∷ c ∷ []))
 hash_from h (a ∷ b ∷ c ∷ d ∷ r) = hash_from (step h (a + b * 256 + c * 65536 + d * 16777216)) r
 
+-- the byte of a name of one byte
+unfoldable pub letter_of : List ℕ → Option ℕ
+letter_of [] = None
+letter_of (c ∷ []) = Some c
+letter_of (c ∷ d ∷ r) = None
+
 -- the slot of its own that a name of one byte has, if it is one of so many letters
 unfoldable pub own_slot : ℕ → List ℕ → Option ℕ
 own_slot letters [] = None

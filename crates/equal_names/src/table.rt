@@ -1,11 +1,13 @@
 // A table in which names are looked up, from their hashes on.
-ghost use Rattle.std.specs.Prelude.{◌≡◌, ◌+◌, ◌*◌, ◌-◌, ◌/◌, ◌%◌, ◌<◌, ◌≤◌, ◌^◌, length, get_or, set, IsNone, OnOk};
+ghost use Rattle.std.specs.Prelude.{◌≡◌, ◌+◌, ◌*◌, ◌-◌, ◌/◌, ◌%◌, ◌<◌, ◌≤◌, ◌^◌, length, get_or, set, OnOk};
 ghost use Rattle.std.specs.List.{position};
+ghost use Rattle.lexer.specs.Places.{part};
 ghost use Rattle.equal_names.specs.Index.{step, rest_of, hash_from, own_slot, hashed_slot, stops, filled};
 ghost use Rattle.equal_names.specs.Words.{tokens_of, count_of, AllFirsts};
 
 use crate::words::Words;
 use lexer::kind;
+use tokens::Token;
 
 // The hash is counted modulo this prime, so that no two names are alike by how they are made.
 const PRIME: usize = 1073741789;
@@ -127,19 +129,18 @@ impl Layout {
         }
     }
 
-    // The slot of its own that a name of one byte has, if it is one of the letters.
-    fn own_slot(self, name: &[u8]) -> Option<usize>
-        ensures { result ≡ own_slot self.letters name.now }
+    // The slot of its own that the name of a token has, if it is one byte, and one of the letters.
+    fn own_slot(self, words: &Words, t: Token) -> Option<usize>
+        ensures { result ≡ own_slot self.letters (part words.now.text.now t.start t.end) }
     {
-        match name {
-            [c] if usize::from(*c) < self.letters => Some(usize::from(*c)),
+        match words.letter(t) {
+            Some(c) if usize::from(c) < self.letters => Some(usize::from(c)),
             _ => None,
         }
     }
 
     // Where other names are looked for first: their hash is scaled to the slots behind those of the letters.
     fn hashed_slot(self, name: &[u8]) -> usize
-        requires { IsNone (own_slot self.letters name.now) }
         ensures value { result ≡ hashed_slot self.letters self.span name.now }
         ensures low { result < self.span }
     {
@@ -163,11 +164,11 @@ impl Layout {
         if t.kind != kind::WORD {
             return Ok(());
         }
-        let name = words.name(t);
-        if let Some(slot) = self.own_slot(name) {
+        if let Some(slot) = self.own_slot(words, t) {
             store(row, slots, slot, x);
             return Ok(());
         }
+        let name = words.name(t);
         let at = self.hashed_slot(name);
         let Some(d) = probe(words, &slots[at..at + self.window], name) else {
             return Err(Full);
@@ -182,9 +183,11 @@ impl Layout {
         requires slots { self.span + self.window ≤ length slots.old }
         ensures { OnOk result (AllFirsts words.now row.new) }
     {
+        // A copy, which no store can change: it stays in registers.
+        let words = *words;
         slots.fill(0);
         for x in 0..words.count() {
-            self.enter(words, row, slots, x)?;
+            self.enter(&words, row, slots, x)?;
         }
         Ok(())
     }

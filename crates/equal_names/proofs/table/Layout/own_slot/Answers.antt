@@ -1,16 +1,13 @@
-use Rattle.std.proofs.Common.{arith}
-use Rattle.equal_names.proofs.TableLaws.{own_none, own_more, own_is, own_past}
+use Rattle.std.proofs.Common.{arith, sym, ap, ◌∙◌}
+use Rattle.std.specs.Prelude.{Some}
+use Rattle.equal_names.proofs.TableLaws.{own_none, own_is, own_past}
 use Rattle.equal_names.proofs.table.Layout.own_slot.Goals as goal
 
-pub returns-in-len1 : goal.returns-in-len1
-returns-in-len1 c =
-    own_is _ _ _ c.in-len1.len_at_least c.in-len1.len_below c.from-in-len1.ensures (omega (arith, c.from-in-len1.ensures, c.from.ensures, c.if-from-self.true))
+pub returns-in-Some : goal.returns-in-Some
+returns-in-Some c = ap (λ x. Some x) c.from-in-Some.ensures ∙ own_is _ _ c.in-Some.c (sym c.in-Some.is ∙ c.letter.ensures) (omega (arith, c.from.ensures, c.if-from-self.true))
 
 pub returns-in_default : goal.returns-in_default
-returns-in_default c = own_none _ _ c.in_default.len_below
+returns-in_default c = own_past _ _ c.in-Some.c (sym c.in-Some.is ∙ c.letter.ensures) (omega (arith, c.from.ensures, c.if-from-self.false))
 
 pub returns-in_default-2 : goal.returns-in_default-2
-returns-in_default-2 c = own_past _ _ _ c.in-len1.len_at_least c.in-len1.len_below c.from.ensures c.if-from-self.false
-
-pub returns-in_default-3 : goal.returns-in_default-3
-returns-in_default-3 c = own_more _ _ c.in_default.len_at_least
+returns-in_default-2 c = own_none _ _ (sym c.in_default.is ∙ c.letter.ensures)
