@@ -1,4 +1,9 @@
 pub mod NameLaws
+pub mod NumberLaws
+pub mod TableLaws
 pub mod IndexLaws
 pub mod OrderLaws
+pub mod ListLaws
+pub mod GroupLaws
 pub mod RisingLaws
+pub mod PartLaws

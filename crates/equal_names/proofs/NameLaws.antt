@@ -1,15 +1,16 @@
 -- Laws of equal names: equal parts of the text, and the first equal word.
 use mathlib.Core.Path.{◌≡◌, refl, sym, ap, subst, ◌∙◌}
-use mathlib.Core.Bool.{Bool, true, false, cond}
+use mathlib.Core.Bool.{Bool, true, false, cond, ◌&&◌}
 use mathlib.Core.List.{List, [], ◌∷◌}
 use Prim.Native.Nat.{ℕ, zero, suc, ◌+◌, ◌*◌, ◌≤◌, ◌<◌}
 use native.Mathlib.Omega.{arith}
-use native.Mathlib.Numerals.{add-one}
 use native.Mathlib.Nat.{le_of_suc-le-suc}
 use borrow.Author.Tests.{eq-eqb, ne_eqb, ltb-true, ltb-false}
-use lib.Dec.{ltb}
-use lib.ListN.{length, take, drop, length-take, drop_of_length-le, get_or-eq_default}
-use lib.Seq.{drop-cons, get_or-take, take-take}
+use lib.Dec.{eqb, ltb}
+use lib.Pointwise.{pointwise}
+use Rattle.std.specs.Prelude.{nat_eq}
+use lib.ListN.{length, take, length-take, get_or-eq_default}
+use lib.Seq.{get_or-take, take-take}
 use Rattle.diag.proofs.Cases.{by_test_lem}
 use Rattle.lexer.specs.Text.{same}
 use Rattle.lexer.specs.Places.{part}
@@ -19,7 +20,7 @@ use Rattle.tokens.specs.View.{token_in}
 use Rattle.parser.specs.Row.{tokens_in, peek, ended}
 use Rattle.parser.proofs.Laws.{length-tokens, peek-read}
 use Rattle.equal_names.specs.Rows.{rows, Kept}
-use Rattle.equal_names.specs.Names.{same_name, is_word, same_word, first_equal, NoWords}
+use Rattle.equal_names.specs.Names.{same_name, is_word, same_word, has_name, first_equal, NoWords}
 
 -- ---- the row
 pub length-rows : (n : ℕ) (w : List ℕ) → 4 * n ≤ length w → length (rows n w) ≡ n
@@ -35,7 +36,7 @@ row_past n w i l = sym (get_or-eq_default (rows n w) ended {n = i} (omega (arith
 four : (n : ℕ) → 4 * suc n ≡ suc (suc (suc (suc (4 * n))))
 four n = omega arith
 
-tokens-take : (n : ℕ) (w : List ℕ) → tokens_in (take (4 * n) w) ≡ rows n w
+pub tokens-take : (n : ℕ) (w : List ℕ) → tokens_in (take (4 * n) w) ≡ rows n w
 unfolding tokens_in
 tokens-take zero w = refl
 tokens-take (suc n) [] = ap (λ (k : ℕ). tokens_in (take k [])) (four n)
@@ -55,6 +56,25 @@ kept_refl b w = record { front = refl; size = refl }
 
 pub kept_trans : (b : ℕ) (u v w : List ℕ) → Kept b u v → Kept b v w → Kept b u w
 kept_trans b u v w p q = record { front = q.front ∙ p.front; size = q.size ∙ p.size }
+
+-- ---- a word with the characters of a name
+same_parts : (a b : List ℕ) → pointwise nat_eq a b ≡ same a b
+same_parts [] [] = refl
+same_parts [] (y ∷ b) = refl
+same_parts (x ∷ a) [] = refl
+same_parts (x ∷ a) (y ∷ b) = ap (λ (r : Bool). eqb x y && r) (same_parts a b)
+
+pub named_not : (text name : List ℕ) (u : Token) → (u.kind ≡ 0 → ⊥) → eqb u.kind 0 ≡ has_name text name u
+unfolding has_name
+named_not text name u h = rw (ne_eqb u.kind 0 h)
+
+pub named_is : (text name : List ℕ) (u : Token) (other : List ℕ) (r : Bool) → u.kind ≡ 0 → other ≡ part text u.start u.end → r ≡ pointwise nat_eq other name → r ≡ has_name text name u
+unfolding has_name
+named_is text name u other r h o e = rw (eq-eqb u.kind 0 h) (e ∙ same_parts other name ∙ ap (λ (l : List ℕ). same l name) o)
+
+pub named_same : (text : List ℕ) (t u : Token) → has_name text (part text t.start t.end) u ≡ same_word text t u
+unfolding has_name same_word same_name
+named_same text t u = refl
 
 -- ---- a word with the characters of another token
 pub word-other : (text : List ℕ) (t u : Token) → (u.kind ≡ 0 → ⊥) → false ≡ same_word text t u

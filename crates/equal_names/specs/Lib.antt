@@ -1,4 +1,6 @@
 pub mod Rows
 pub mod Names
-pub mod Index
 pub mod Order
+pub mod Words
+pub mod Index
+pub mod Indexed

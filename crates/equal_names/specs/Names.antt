@@ -18,6 +18,10 @@ unfoldable pub same_word : List ℕ → Token → Token → Bool
 unfolding same_name
 same_word text t u = cond (is_word u) (same_name text u t) false
 
+-- a word with the characters `name`
+unfoldable pub has_name : List ℕ → List ℕ → Token → Bool
+has_name text name u = cond (is_word u) (same (part text u.start u.end) name) false
+
 -- the index of the first word that has the characters of t, counted from i; the index behind the last token if there is none
 unfoldable pub first_equal : List ℕ → Token → ℕ → List Token → ℕ
 unfolding same_word
@@ -32,3 +36,7 @@ pub record NoWords (ts : List Token) (from to : ℕ) : Type 0 where
 -- the words w hold, from a on, the row of first equal words
 pub record Interned (text : List ℕ) (ts : List Token) (a : ℕ) (w : List ℕ) : Type 0 where
   pub interned : (x : ℕ) → x < length ts → is_word (peek ts x) ≡ true → get_or w (a + x) 0 ≡ first_equal text (peek ts x) 0 ts
+
+-- the row of first equal words stands for the words before the token n
+pub record FirstsOf (text : List ℕ) (ts : List Token) (n : ℕ) (row : List ℕ) : Type 0 where
+  pub first : (x : ℕ) → x < n → is_word (peek ts x) ≡ true → get_or row x 0 ≡ first_equal text (peek ts x) 0 ts
