@@ -8,8 +8,6 @@ use borrow.Author.Tests.{lt-ltb, le-ltb}
 use lib.ListN.{length}
 use Rattle.chars.specs.Utf8.{valid_up_to}
 use Rattle.chars.specs.Class.{first_outside, plain_up_to}
-use Rattle.chars.specs.declared.Outside.{Outside}
-use Rattle.chars.specs.declared.Outside.TheVariants.{At, Nowhere}
 use Rattle.chars.proofs.Blocks.{plain_whole}
 use Rattle.language.specs.Outcome.{Refusal, text_too_long, work_too_short, invalid_utf8, outside_set, refusal_of}
 
@@ -34,12 +32,12 @@ module _ (t : List ℕ) (work : ℕ) where
       unfolding refusal_of
       not_utf8 h = rw (e, refusal_of, le-ltb 4194304 (length t) a, le-ltb work (6 * length t + 6) b, lt-ltb (valid_up_to t) (length t) (rw e at h))
 
-      module _ (h : length t ≤ v) (o : Outside) (f : o ≡ first_outside t) where
-        pub outside : (i : ℕ) → o ≡ At i → some (outside_set i) ≡ refusal_of t work
+      module _ (h : length t ≤ v) (o : Option ℕ) (f : o ≡ first_outside t) where
+        pub outside : (i : ℕ) → o ≡ some i → some (outside_set i) ≡ refusal_of t work
         unfolding refusal_of
         outside i g = rw (refusal_of, le-ltb 4194304 (length t) a, le-ltb work (6 * length t + 6) b, ← e, le-ltb v (length t) h, ← f, g)
 
-        pub all-inside : o ≡ Nowhere → ◌≡◌ {A = Option Refusal} none (refusal_of t work)
+        pub all-inside : ◌≡◌ {A = Option ℕ} o none → ◌≡◌ {A = Option Refusal} none (refusal_of t work)
         unfolding refusal_of
         all-inside g = rw (refusal_of, le-ltb 4194304 (length t) a, le-ltb work (6 * length t + 6) b, ← e, le-ltb v (length t) h, ← f, g)
 

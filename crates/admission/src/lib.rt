@@ -6,7 +6,6 @@ ghost use Rattle.language.specs.Outcome.{refusal_of};
 ghost use Rattle.admission.specs.Admission.{refused_by};
 
 use answer::Refusal;
-use chars::Outside;
 
 // The longest text.
 pub const MAX_BYTES: usize = 4_194_304;
@@ -31,7 +30,7 @@ pub fn check(text: &[u8], work: usize) -> Result<(), Refusal>
         return Err(Refusal::InvalidUtf8(valid));
     }
     match chars::first_outside(text) {
-        Outside::At(at) => Err(Refusal::OutsideSet(at)),
-        Outside::Nowhere => Ok(()),
+        Some(at) => Err(Refusal::OutsideSet(at)),
+        None => Ok(()),
     }
 }
