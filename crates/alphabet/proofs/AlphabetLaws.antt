@@ -1,15 +1,15 @@
 -- Laws of the blank, Σ and Γ.
 use mathlib.Core.Path.{◌≡◌, refl, sym, ap, subst, ◌∙◌}
-use mathlib.Core.Bool.{Bool, true, false, cond}
+use mathlib.Core.Bool.{Bool, true, false, cond, ◌||◌}
 use mathlib.Core.Logic.{◌⊎◌, inl, inr, ⊎_elim}
 use mathlib.Core.List.{List, [], ◌∷◌, ◌++◌, append-nil, append_assoc}
-use Prim.Native.Nat.{ℕ, suc, ◌+◌, ◌-◌, ◌*◌, ◌≤◌, ◌<◌, ◌^◌, min}
+use Prim.Native.Nat.{ℕ, zero, suc, ◌+◌, ◌-◌, ◌*◌, ◌≤◌, ◌<◌, ◌^◌, min}
 use native.Mathlib.Omega.{arith}
 use native.Mathlib.Numerals.{add-one}
 use native.Mathlib.Decide.{dec_lt}
 use borrow.Author.Tests.{eq-eqb, ne_eqb, eqb-true, lt-ltb, le-ltb}
 use lib.Dec.{eqb, ltb}
-use lib.ListN.{length, get_or, take, drop, length-append, drop_of_length-le, length-take, get_or-eq_default}
+use lib.ListN.{length, get_or, take, drop, length-append, drop_of_length-le, length-drop, length-take, get_or-eq_default}
 use lib.Seq.{sets, drop-cons, drop-drop, take-add, take-nil}
 use Rattle.diag.specs.declared.Span.{Span}
 use Rattle.language.specs.Infer.{member}
@@ -21,7 +21,7 @@ use Rattle.parser.specs.Row.{peek, ended}
 use Rattle.parser.specs.Views.{is_symbol}
 use Rattle.assembler.specs.Rows.{rows, place_of}
 use Rattle.assembler.specs.Entries.{entries}
-use Rattle.assembler.proofs.Rows.{row_read}
+use Rattle.assembler.proofs.Rows.{length-rows, row_read}
 use Rattle.sheet.specs.Stored.{Stored}
 use Rattle.sheet.specs.Comments.{span_words}
 use Rattle.sheet.specs.Rules.{resolve}

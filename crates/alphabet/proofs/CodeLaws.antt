@@ -7,7 +7,7 @@ use native.Mathlib.Omega.{arith}
 use native.Mathlib.Numerals.{add-one}
 use borrow.Author.Tests.{eq-eqb, ne_eqb, eqb-true, eqb-false}
 use lib.Dec.{eqb}
-use lib.ListN.{length, get_or, take, drop, set, length-set, length-append, length-drop, length-replicate, replicate, drop_of_length-le}
+use lib.ListN.{length, get_or, take, drop, set, length-set, length-append, length-take, length-drop, length-replicate, replicate, drop_of_length-le}
 use lib.Seq.{take-set-le, take-take, take_at, length-take-le, get_or-take, get_or-drop, get_or-append-add, get_or-set_same, get_or-set_other, drop-cons, drop-set-add, take-suc-set}
 use Rattle.diag.proofs.Cases.{by_test_lem}
 use Rattle.assembler.specs.Rows.{rows}

@@ -1,10 +1,10 @@
 -- The symbols of a row with entries: the blank, Σ and Γ.
-use Rattle.std.specs.Prelude.{ℕ, ◌+◌, ◌-◌, Bool, true, false, cond, not, ◌||◌, List, [], ◌∷◌, ◌++◌, map, eqb, ltb, length, take, drop}
+use Rattle.std.specs.Prelude.{ℕ, ◌+◌, ◌-◌, Bool, true, false, cond, not, ◌||◌, List, [], ◌∷◌, ◌++◌, map, eqb, ltb, length, get_or, take, drop}
 use Rattle.tokens.specs.declared.Token.{Token}
 use Rattle.tokens.specs.View.{token_in}
 use Rattle.parser.specs.Row.{peek}
 use Rattle.parser.specs.Views.{is_symbol}
-use Rattle.assembler.specs.Entries.{Entry}
+use Rattle.assembler.specs.Entries.{Entry, entries}
 use Rattle.sheet.specs.Rules.{resolve}
 use Rattle.alphabet.specs.declared.glyphs.Walk.{Walk}
 

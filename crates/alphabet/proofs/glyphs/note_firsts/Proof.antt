@@ -3,7 +3,7 @@ use borrow.Author.Rules.{rules}
 use Prim.Native.Nat.{◌-◌}
 use Rattle.assembler.specs.Rows.{rows}
 use Rattle.alphabet.specs.Codes.{noted_all, held}
-use Rattle.alphabet.specs.Symbols.{range, firsts, outside, codes_of}
+use Rattle.alphabet.specs.Symbols.{range, symbols, firsts, outside, codes_of}
 use Rattle.alphabet.proofs.CodeLaws.{Noting, noting_start}
 use Rattle.alphabet.proofs.GlyphLaws.{first_room, first_next, first-end}
 use Rattle.alphabet.proofs.glyphs.note_firsts.Statement.{statement}

@@ -1,6 +1,7 @@
 -- `alphabet::symbols::gamma` meets its contract: by whether it is declared.
 use borrow.Author.Rules.{rules}
 use Rattle.assembler.proofs.Rows.{length-rows}
+use native.Mathlib.Omega.{arith}
 use mathlib.Core.Path.{refl}
 use Rattle.alphabet.proofs.AlphabetLaws.{gamma-declared, gamma-inferred}
 use Rattle.alphabet.proofs.symbols.gamma.Statement.{statement}

@@ -8,6 +8,7 @@ use Rattle.tokens.specs.declared.Token.{Token}
 use Rattle.assembler.proofs.Rows.{length-rows}
 use native.Mathlib.Omega.{arith}
 use mathlib.Core.Path.{refl}
+use mathlib.Core.Bool.{true}
 use Rattle.assembler.specs.Entries.{entries}
 use Rattle.alphabet.specs.Symbols.{rules_symbols, codes_of}
 use Rattle.alphabet.specs.Input.{input_of}

@@ -3,6 +3,7 @@ use borrow.Author.Rules.{rules}
 use Rattle.alphabet.specs.Alphabets.{other_words}
 use Rattle.assembler.proofs.Rows.{length-rows}
 use native.Mathlib.Omega.{arith}
+use mathlib.Core.Path.{refl}
 use Rattle.alphabet.proofs.AlphabetLaws.{line-put, others-line, others-codes, codes-none, codes-behind}
 use Rattle.alphabet.proofs.symbols.put_sigma.Statement.{statement}
 use Rattle.alphabet.proofs.symbols.put_sigma.Tie as tie
