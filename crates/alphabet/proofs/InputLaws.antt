@@ -1,22 +1,19 @@
 -- Laws of the characters of the input's value.
 use mathlib.Core.Path.{◌≡◌, refl, sym, ap, subst, ◌∙◌}
-use mathlib.Core.Bool.{Bool, true, false, cond, false≢true}
-use mathlib.Core.List.{List, [], ◌∷◌, ◌++◌, append-nil}
-use Prim.Native.Nat.{ℕ, zero, suc, ◌+◌, ◌-◌, ◌*◌, ◌≤◌, ◌<◌}
+use mathlib.Core.Bool.{Bool, true, false, false≢true}
+use mathlib.Core.List.{List, [], ◌∷◌, ◌++◌}
+use Prim.Native.Nat.{ℕ, ◌+◌, ◌-◌, ◌≤◌, ◌<◌}
 use native.Mathlib.Omega.{arith}
 use borrow.Author.Tests.{eq-eqb, ne_eqb, lt-ltb, le-ltb}
 use lib.Dec.{eqb}
 use lib.ListN.{length, drop}
 use Rattle.chars.specs.Utf8.{front, decoded_at, decode}
-use Rattle.chars.specs.declared.Decoded.{Decoded}
-use Rattle.chars.specs.declared.Decoded.TheVariants.{Char, Invalid, End}
-use Rattle.chars.proofs.Laws.{char_decode, char_lt, char_falls, invalid_decode, end-decode}
+use Rattle.std.specs.Prelude.{Option as Perhaps, Some, None}
+use Rattle.chars.proofs.Laws.{char_decode, char_lt, char_falls, none_decode}
 use Rattle.lexer.specs.Places.{rest}
 use Rattle.language.specs.Infer.{member}
 use Rattle.tokens.specs.declared.Token.{Token}
 use Rattle.parser.specs.Row.{peek}
-use Rattle.assembler.specs.Rows.{rows}
-use Rattle.assembler.proofs.Rows.{length-rows}
 use Rattle.alphabet.specs.Codes.{noted, noted_all, held, Codes, Room}
 use Rattle.alphabet.specs.Input.{ends_at, escape_code, escape_of, spelled_as, escapes_next, spelled, input_of}
 use Rattle.alphabet.proofs.CodeLaws.{Noting, noting_start, noting_room, noting_on, noting_end, noted-none}
@@ -125,18 +122,15 @@ pub same_room : (b n : ℕ) (w xs ys : List ℕ) → ys ≡ xs → Room b n w xs
 same_room b n w xs ys e h = subst (λ (l : List ℕ). Room b n w l) (sym e) h
 
 -- ---- the string: the walk has come to the place i
-module _ (t : List ℕ) (b : ℕ) (target w₀ w : List ℕ) (n i : ℕ) (e : Bool) (g : Noting b target w₀ w n (spelled e (decode (drop i t)))) (r : Decoded) (s : r ≡ decoded_at i (front (drop i t))) where
+module _ (t : List ℕ) (b : ℕ) (target w₀ w : List ℕ) (n i : ℕ) (e : Bool) (g : Noting b target w₀ w n (spelled e (decode (drop i t)))) (r : Perhaps (ℕ × ℕ)) (s : r ≡ decoded_at i (front (drop i t))) where
   nothing_left : decode (drop i t) ≡ [] → Codes b w₀ target w n
   unfolding spelled
   nothing_left q = noting_end b target w₀ w n (subst (λ (l : List ℕ). Noting b target w₀ w n (spelled e l)) q g)
 
-  pub spell_invalid : r ≡ Invalid → Codes b w₀ target w n
-  spell_invalid q = nothing_left (invalid_decode t i r s q)
+  pub spell_none : r ≡ None → Codes b w₀ target w n
+  spell_none q = nothing_left (none_decode t i r s q)
 
-  pub spell_stop : r ≡ End → Codes b w₀ target w n
-  spell_stop q = nothing_left (end-decode t i r s q)
-
-  module _ (c k : ℕ) (is : r ≡ Char c k) (x : Bool) (test : x ≡ ends_at e c) where
+  module _ (c k : ℕ) (is : r ≡ Some (c, k)) (x : Bool) (test : x ≡ ends_at e c) where
     seen : Noting b target w₀ w n (spelled e (c ∷ decode (drop k t)))
     seen = subst (λ (l : List ℕ). Noting b target w₀ w n (spelled e l)) (char_decode t i r s c k is) g
 
@@ -197,7 +191,7 @@ passed_start t cs e a = (omega arith, refl)
 pub passed-plain : (t cs : List ℕ) (e : Bool) (a i : ℕ) → e ≡ false → Passed t cs false a i → Passed t cs e a i
 passed-plain t cs e a i h p = subst (λ (z : Bool). Passed t cs z a i) (sym h) p
 
-pub passed_on : (t cs : List ℕ) (a i : ℕ) → Passed t cs false a i → (r : Decoded) → r ≡ decoded_at i (front (drop i t)) → (c k : ℕ) → r ≡ Char c k → (0x80 ≤ c) × (member eqb cs c ≡ true) → Passed t cs false a k
+pub passed_on : (t cs : List ℕ) (a i : ℕ) → Passed t cs false a i → (r : Perhaps (ℕ × ℕ)) → r ≡ decoded_at i (front (drop i t)) → (c k : ℕ) → r ≡ Some (c, k) → (0x80 ≤ c) × (member eqb cs c ≡ true) → Passed t cs false a k
 passed_on t cs a i p r s c k is h = (
   omega (arith, p.0, char_lt t i r s c k is),
   sym (ap (λ (l : List ℕ). noted_all cs (spelled false l)) (char_decode t i r s c k is) ∙ ap (noted_all cs) (spelled_high c h.0 (decode (drop k t))) ∙ noted-passed cs (spelled false (decode (drop k t))) c h.1) ∙ p.1,
@@ -207,7 +201,7 @@ passed_on t cs a i p r s c k is h = (
 pub noting_from : (t : List ℕ) (b : ℕ) (target w₀ w : List ℕ) (n i : ℕ) (e : Bool) → Noting b target w₀ w n (spelled e (decode (drop i t))) → (j : ℕ) → Passed t (held b n w) e i j → Noting b target w₀ w n (spelled e (decode (drop j t)))
 noting_from t b target w₀ w n i e g j p = record { whole = p.1 ∙ g.whole; kept = g.kept; low = g.low; fits = g.fits; hints = g.hints }
 
-pub from_falls : (t : List ℕ) (i j : ℕ) → i ≤ j → (r : Decoded) → r ≡ decoded_at j (front (drop j t)) → (c k : ℕ) → r ≡ Char c k → length t - k < length t - i
+pub from_falls : (t : List ℕ) (i j : ℕ) → i ≤ j → (r : Perhaps (ℕ × ℕ)) → r ≡ decoded_at j (front (drop j t)) → (c k : ℕ) → r ≡ Some (c, k) → length t - k < length t - i
 from_falls t i j h r s c k is = omega (arith, h, char_falls t j r s c k is)
 
 -- ---- the input

@@ -8,7 +8,6 @@ ghost use Rattle.alphabet.specs.Input.{ends_at, escape_code, escape_of, spelled_
 
 use crate::codes;
 use assembler::entry;
-use chars::Decoded;
 
 // Whether a string ends at c.
 fn ends_at(escaped: bool, c: u32) -> bool
@@ -96,20 +95,13 @@ fn seen_end(text: &[u8], at: usize, work: &[u32], base: usize, n: usize) -> usiz
     ensures { (at ≤ result) × (noted_all (held base n work.now) (spelled false (rest text.now result)) ≡ noted_all (held base n work.now) (spelled false (rest text.now at))) }
 {
     let mut i = at;
-    loop {
-        let s = chars::glyph_at(text, i);
-        match s {
-            Decoded::Char(c, next) => {
-                if is_known(work, base, n, c) {
-                    i = next;
-                } else {
-                    return i;
-                }
-            }
-            Decoded::Invalid => return i,
-            Decoded::End => return i,
+    while let Some((c, next)) = chars::glyph_at(text, i) {
+        if !is_known(work, base, n, c) {
+            return i;
         }
+        i = next;
     }
+    i
 }
 
 // From where on a string's text may add something.
@@ -133,19 +125,15 @@ fn note_string(text: &[u8], at: usize, work: &mut [u32], base: usize, n: usize) 
     let mut m = n;
     loop {
         let j = unseen_from(text, i, escaped, work, base, m);
-        let s = chars::glyph_at(text, j);
-        match s {
-            Decoded::Char(c, next) => {
-                if ends_at(escaped, c) {
-                    return m;
-                }
-                m = note_char(work, base, m, escaped, c);
-                escaped = escapes_next(escaped, c);
-                i = next;
-            }
-            Decoded::Invalid => return m,
-            Decoded::End => return m,
+        let Some((c, next)) = chars::glyph_at(text, j) else {
+            return m;
+        };
+        if ends_at(escaped, c) {
+            return m;
         }
+        m = note_char(work, base, m, escaped, c);
+        escaped = escapes_next(escaped, c);
+        i = next;
     }
 }
 
