@@ -1,5 +1,5 @@
 -- Paper 01, "The records": the log as plain words, five to a record.
-use Rattle.std.specs.Prelude.{ℕ, zero, suc, ◌+◌, ◌-◌, ◌*◌, ◌/◌, cond, List, [], ◌∷◌, ◌++◌, leb, length, get_or, drop, replicate}
+use Rattle.std.specs.Prelude.{ℕ, zero, suc, ◌+◌, ◌-◌, ◌*◌, ◌/◌, cond, List, [], ◌∷◌, ◌++◌, leb, length, get_or, take, drop, replicate}
 use Rattle.std.proofs.lemmas.List.Edits.{sets}
 use Rattle.diag.specs.Sort.{sort_by}
 use Rattle.diag.specs.declared.Span.{Span}
@@ -57,6 +57,10 @@ start_of d = d.span.start
 -- by where they start, equal starts in the order of the list
 abbrev pub sort : List Diagnostic → List Diagnostic
 sort ds = sort_by start_of ds
+
+-- diagnostics of which those from s up to n were sorted
+abbrev pub part_sorted : ℕ → ℕ → List Diagnostic → List Diagnostic
+part_sorted s n ds = take s ds ++ (sort (drop s (take n ds)) ++ drop n ds)
 
 -- the records of ds in front of zeros, n words in all
 unfoldable pub padded : ℕ → List Diagnostic → List ℕ

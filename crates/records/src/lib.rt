@@ -15,7 +15,7 @@ pub const UNUSED: Diagnostic = Diagnostic {
 };
 
 // Stores a diagnostic behind the `count` before it if there is room for it, and counts it in any case.
-// A twin of diag's, which promises the words of a log, as the crates above need them: one body for both would be longer than the two.
+// A twin of diag's, which promises a log's words, as the crates above need them: one body for both would be longer than the two.
 pub fn append(log: &mut [Diagnostic], count: usize, d: Diagnostic) -> usize
     requires { count + 1 < 2 ^ 64 }
     ensures { (result ≡ count + 1) × (log.new ≡ set log.old count d) }
