@@ -107,6 +107,7 @@ fn direction(work: &[u32], at: usize) -> Parsed<usize>
 }
 
 // Behind an entry: a comma, and 1 for more to come; or the closing sign, and 0.
+// A count and no `bool`, so that it is a parser as the others are and their laws hold of it.
 #[tactic(auto, unfolding(crate::specs::Lines::separator))]
 fn separator(work: &[u32], at: usize, close: u32) -> Parsed<usize>
     requires { close < 13 }
@@ -174,6 +175,7 @@ fn pairs(work: &[u32], at: usize) -> usize
     if n < at {
         return 0;
     }
+    // By hand, since an iterator that goes by pairs would still need the index to read at.
     let mut i = at;
     let mut m = 0;
     while 1 < n - i && pair(work, i) {
