@@ -209,7 +209,8 @@ fn read_entry(work: &[u32], at: usize) -> Parsed<usize>
 #[tactic(auto, using(crate::proofs::Single::sign_fits), unfolding(crate::specs::Lines::then, crate::specs::Lines::set))]
 fn set<F: Fn(usize) -> Parsed<usize>>(work: &[u32], at: usize, list: F) -> Parsed<usize>
     requires callable { F.IsAlwaysCallable list }
-    ensures { (p : Parser) → Reads (F.post list) (λ i. entries p 7 (tokens_in work.now) i 0) → result ≡ set p (tokens_in work.now) at }
+    ensures { (p : Parser) → Reads (F.post list) (λ i. entries p 7 (tokens_in work.now) i 0)
+        → result ≡ set p (tokens_in work.now) at }
 {
     let (first, _) = expect(work, at, kind::L_BRACE)?;
     if token_at(work, first).kind == kind::R_BRACE {
