@@ -13,9 +13,9 @@ use Rattle.diag.proofs.Cases.{by_test_lem}
 use Rattle.tokens.specs.declared.Token.{Token}
 use Rattle.parser.specs.Row.{peek, ended}
 use Rattle.parser.specs.Views.{is_kind, is_symbol}
-use Rattle.parser.specs.Lines.{Parsed, Done, Failed, Parser, then, code_of, unexpected, one, separator, entries_from, entries, tuple, read_entry}
+use Rattle.parser.specs.Lines.{Parsed, Done, Failed, then, code_of, unexpected, one, separator, entries_from, entries, tuple, read_entry}
 use Rattle.parser.proofs.Laws.{inside}
-use Rattle.parser.proofs.Lists.{done_same, Within, Steps, on_test, separator_steps, symbol_steps, read_steps, entries-within}
+use Rattle.parser.proofs.Lists.{done_same, Within, on_test, separator_steps, symbol_steps}
 
 -- braces open and close by turns; `true`: one is open
 unfoldable pub balanced : Bool → List Token → Bool

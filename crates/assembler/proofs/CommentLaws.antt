@@ -16,7 +16,7 @@ use Rattle.parser.specs.declared.Parts.{Parts}
 use Rattle.parser.specs.declared.ItemKind.{ItemKind}
 use Rattle.parser.specs.declared.ItemKind.TheVariants.{Machine, Kind, Input, Output, Tapes, States, InputAlphabet, TapeAlphabet, Blank, Start, Final, Transition}
 use Rattle.parser.specs.Row.{peek, ended}
-use Rattle.parser.specs.Lines.{Failed, Answer, Empty, Comment, Read, line, line_end, code_number}
+use Rattle.parser.specs.Lines.{Answer, Empty, Comment, Read, line, line_end, code_number}
 use Rattle.parser.specs.Meaning.{token_of, Closed, AllLexed}
 use Rattle.language.specs.Lines.{line_feed, goes_by, remark, ending_of}
 use Rattle.assembler.specs.Entries.{behind}

@@ -18,7 +18,7 @@ use Rattle.parser.specs.declared.ItemKind.{ItemKind}
 use Rattle.parser.specs.declared.ItemKind.TheVariants.{Machine, Kind, Input, Output, Tapes, States, InputAlphabet, TapeAlphabet, Blank, Start, Final, Transition}
 use Rattle.parser.specs.declared.Item.{Item}
 use Rattle.parser.specs.Row.{peek, ended}
-use Rattle.parser.specs.Lines.{Failed, Answer, Empty, Comment, Read, line, line_end, code_number}
+use Rattle.parser.specs.Lines.{Answer, Empty, Comment, Read, line, line_end, code_number}
 use Rattle.assembler.specs.Rows.{rows}
 use Rattle.assembler.specs.Entries.{behind}
 use Rattle.assembler.specs.Entered.{flat, item_entry, item_number, failed_entry, counts_of, parts_of, with_parts, enter_as, enter_line, enter_at, entered_from, entered}

@@ -24,7 +24,7 @@ use Rattle.parser.specs.declared.Lead.TheVariants.{Equals}
 use Rattle.parser.specs.declared.Item.{Item as Found}
 use Rattle.parser.specs.Row.{peek, ended}
 use Rattle.parser.specs.Views.{is_kind, lead_of}
-use Rattle.parser.specs.Lines.{Failed, Answer, Empty, Comment, Read, line, line_end, line_length, newline_at, code_number}
+use Rattle.parser.specs.Lines.{Answer, Empty, Comment, Read, line, line_end, line_length, newline_at, code_number}
 use Rattle.parser.specs.Meaning.{token_of, nothing, at, between, located, or_else, Sound, seen, read_sets, rule_of, item_means, line_means, Counted, CountedAs, LineCounted, Closed, AllLexed, LineAt}
 use Rattle.parser.proofs.Lines.{line_at}
 use Rattle.parser.proofs.Views.{is_some, tok, sees_number}

@@ -15,7 +15,7 @@ use Rattle.parser.specs.declared.Parts.{Parts}
 use Rattle.parser.specs.declared.ItemKind.{ItemKind}
 use Rattle.parser.specs.declared.ItemKind.TheVariants.{Machine, Kind, Input, Output, Tapes, States, InputAlphabet, TapeAlphabet, Blank, Start, Final, Transition}
 use Rattle.parser.specs.Row.{peek, ended}
-use Rattle.parser.specs.Lines.{Failed, Answer, Empty, Comment, Read, line, line_end, line_length, code_number}
+use Rattle.parser.specs.Lines.{Answer, Empty, Comment, Read, line, line_end, line_length, code_number}
 use Rattle.assembler.specs.Entries.{Entry, behind, entries_from, entries}
 use Rattle.assembler.specs.Feeds.{AllFed, Fed}
 use Rattle.assembler.specs.Entered.{item_entry, failed_entry, counts_of, parts_of, with_parts, enter_as, enter_line, entered_from, entered}

@@ -22,10 +22,10 @@ use Rattle.parser.specs.declared.Item.{Item}
 use Rattle.diag.proofs.Cases.{by_test_lem}
 use Rattle.parser.specs.Row.{peek, ended}
 use Rattle.parser.specs.Views.{is_kind, is_choice, is_state, is_symbol, is_write, is_direction, is_text, keyword_of, lead_of}
-use Rattle.parser.specs.Lines.{Parsed, Done, Failed, Answer, Empty, Comment, Read, Parser, then, code_of, unexpected, one, direction, separator, entries_from, entries, set, tuple, read_entry, output, side, equals, left_parts, no_parts, left, right, transition, plain, value, newline_at, finish, value_at, item_of, item_from, item, is_comment, line, line_length, line_end, code_number}
+use Rattle.parser.specs.Lines.{Parsed, Done, Answer, Empty, Comment, Read, Parser, then, code_of, unexpected, one, direction, separator, entries_from, entries, set, tuple, read_entry, output, side, equals, left_parts, no_parts, left, right, transition, plain, value, newline_at, finish, value_at, item_of, item_from, item, is_comment, line, line_length, line_end, code_number}
 use Rattle.parser.proofs.Laws.{inside}
 use Rattle.assembler.proofs.Braces.{balanced, between, Even, one_done, reads_even, balanced_sign}
-use Rattle.parser.proofs.Lists.{Within, Steps, on_test, one_steps, direction_steps, separator_steps, entries-within, state_steps, symbol_steps, write_steps, read_steps}
+use Rattle.parser.proofs.Lists.{Within, Steps, on_test, direction_steps, separator_steps, entries-within, state_steps, symbol_steps, write_steps, read_steps}
 use Rattle.parser.proofs.Rules.{side_steps, kind_steps, choice_steps, set_steps, tuple_steps, output_steps, equals_steps, Ends, value_ends}
 
 -- ---- tokens that end no line

@@ -7,7 +7,7 @@ use Rattle.parser.specs.declared.ItemKind.{ItemKind}
 use Rattle.parser.specs.declared.ItemKind.TheVariants.{Machine, Kind, Input, Output, Tapes, States, InputAlphabet, TapeAlphabet, Blank, Start, Final, Transition}
 use Rattle.parser.specs.declared.Item.{Item}
 use Rattle.parser.specs.Row.{peek}
-use Rattle.parser.specs.Lines.{Failed, Answer, Empty, Comment, Read, line, line_end, code_number}
+use Rattle.parser.specs.Lines.{Answer, Empty, Comment, Read, line, line_end, code_number}
 use Rattle.assembler.specs.Entries.{behind}
 
 -- a token's words

@@ -107,6 +107,7 @@ fn direction(work: &[u32], at: usize) -> Parsed<usize>
 }
 
 // Behind an entry: a comma, and 1 for more to come; or the closing sign, and 0.
+// A count and no `bool`, so that it is a parser as the others are and their laws hold of it.
 #[tactic(auto, unfolding(crate::specs::Lines::separator))]
 fn separator(work: &[u32], at: usize, close: u32) -> Parsed<usize>
     requires { close < 13 }
@@ -174,6 +175,7 @@ fn pairs(work: &[u32], at: usize) -> usize
     if n < at {
         return 0;
     }
+    // By hand, since an iterator that goes by pairs would still need the index to read at.
     let mut i = at;
     let mut m = 0;
     while 1 < n - i && pair(work, i) {
@@ -207,7 +209,8 @@ fn read_entry(work: &[u32], at: usize) -> Parsed<usize>
 #[tactic(auto, using(crate::proofs::Single::sign_fits), unfolding(crate::specs::Lines::then, crate::specs::Lines::set))]
 fn set<F: Fn(usize) -> Parsed<usize>>(work: &[u32], at: usize, list: F) -> Parsed<usize>
     requires callable { F.IsAlwaysCallable list }
-    ensures { (p : Parser) → Reads (F.post list) (λ i. entries p 7 (tokens_in work.now) i 0) → result ≡ set p (tokens_in work.now) at }
+    ensures { (p : Parser) → Reads (F.post list) (λ i. entries p 7 (tokens_in work.now) i 0)
+        → result ≡ set p (tokens_in work.now) at }
 {
     let (first, _) = expect(work, at, kind::L_BRACE)?;
     if token_at(work, first).kind == kind::R_BRACE {

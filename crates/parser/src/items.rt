@@ -215,6 +215,7 @@ pub fn line(work: &[u32], at: usize) -> Result<Line, Failure>
 pub fn line_end(work: &[u32], at: usize) -> usize
     ensures { result ≡ line_end (tokens_in work.now) at }
 {
+    // By hand: `token_at` already says what stands behind the last token, which an iterator over the row would have to be told.
     let mut i = at;
     while token_at(work, i).kind != kind::NEWLINE {
         i += 1;

@@ -54,7 +54,7 @@ impl Code {
     }
 }
 
-// Why a line is refused, and the place that is wrong.
+// Why a line is refused, and the place that is wrong; a lexer's span has no other derives to build on.
 #[derive(Clone, Copy)]
 pub struct Failure {
     pub code: Code,

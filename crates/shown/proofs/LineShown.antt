@@ -24,7 +24,7 @@ use Rattle.parser.specs.declared.Lead.TheVariants.{Equals}
 use Rattle.parser.specs.declared.Item.{Item as Found}
 use Rattle.parser.specs.Row.{peek, ended}
 use Rattle.parser.specs.Views.{is_kind, is_state, is_symbol, is_write, is_direction, lead_of}
-use Rattle.parser.specs.Lines.{Failed, Answer, Empty, Comment, Read, one, direction, is_comment, line, newline_at}
+use Rattle.parser.specs.Lines.{Answer, Empty, Comment, Read, one, direction, is_comment, line, newline_at}
 use Rattle.parser.specs.Meaning.{token_of, nothing, at, between, located, or_else, text_of, Sound, seen, read_sets, rule_of, item_means, comment_of, own_comment, line_means, AllLexed}
 use Rattle.parser.proofs.Views.{is_some, sees_symbol, sees_write, sees_direction}
 use Rattle.language.specs.Machine.{Located}
