@@ -1,43 +1,54 @@
--- Runs of ASCII bytes: what the definitions say of a text behind one is what they say before it.
+-- Runs of characters of the set: what the definitions say of a text behind one is what they say before it.
 use mathlib.Core.Path.{◌≡◌, refl, sym, ap, subst, ◌∙◌}
-use Prim.Native.Nat.{ℕ, zero, suc, ◌+◌, ◌-◌, ◌≤◌, ◌<◌, zero-le}
+use Prim.Native.Nat.{ℕ, zero, suc, ◌+◌, ◌-◌, ◌≤◌, ◌<◌}
 use native.Mathlib.Omega.{arith}
 use native.Mathlib.Nat.{add-zero}
-use mathlib.Core.Bool.{Bool, true, false}
+use mathlib.Core.Bool.{Bool, true, false, cond, not}
+use lib.Dec.{leb, ltb}
+use borrow.Author.Tests.{leb-false, ltb-false}
+use Rattle.std.specs.List.{position_or_len}
 use mathlib.Core.List.{List, [], ◌∷◌}
-use mathlib.Core.Option.{some}
-use lib.Bits.{bit_or, bit_and, or_add_and, and_le_l, and_le_r}
-use lib.ListN.{length, get_or, drop}
+use lib.Bits.{bit_or, or_add_and, and_le_l, and_le_r}
+use lib.ListN.{length, get_or, take, drop, length-take}
+use Rattle.std.specs.Prelude.{Option, Some, None, unwrap_or, position}
 use Rattle.chars.specs.Utf8.{size, sizes, front, decode, valid_up_to, decoded_at}
-use Rattle.chars.specs.Ranges.{rows, within}
+use Rattle.chars.specs.Ranges.{within}
 use Rattle.chars.specs.Blocks.{ors}
-use Rattle.chars.specs.Class.{admitted, outside_from, first_outside, or_else, plain_up_to}
-use Rattle.chars.specs.declared.Decoded.{Decoded}
-use Rattle.chars.specs.declared.Decoded.TheVariants.{Char, Invalid, End}
-use Rattle.chars.specs.declared.Outside.{Outside}
-use Rattle.chars.specs.declared.Outside.TheVariants.{At, Nowhere}
-use Rattle.chars.proofs.Front.{char_at_ascii}
-use Rattle.chars.proofs.Laws.{char_decode, decode-end}
-use Rattle.chars.proofs.Scans.{valid_on, valid_invalid, valid_end, outside-on, outside_here, outside_invalid, outside-end}
+use Rattle.chars.specs.Class.{admitted, outside_from, first_outside, plain_up_to, Passes}
+use Rattle.chars.proofs.Front.{char_at_ascii, rest_bytes}
+use Rattle.chars.proofs.Laws.{char_decode, char_lt, char_le, decode-end}
+use Rattle.chars.proofs.Scans.{valid_start, outside-start, valid_on, valid_none, outside-on, outside_here, outside_none}
 use Rattle.chars.proofs.Encoding.{size-range}
 use Rattle.chars.proofs.Theorems.{valid_le}
-use Rattle.chars.proofs.Segments.{over, one_over, no_none}
+use Rattle.chars.proofs.Segments.{admitted_first}
 
--- ---- one ASCII byte
+-- ---- characters passed over
+module _ (t : List ℕ) (i : ℕ) where
+  pub passes-none : i ≤ length t → Passes t i i
+  passes-none h = record { from = omega arith; inside = h; valid = refl; outside = refl }
+
+  pub passes-more : (j k : ℕ) → Passes t i j → Passes t j k → Passes t i k
+  passes-more j k p q = record { from = omega (arith, p.from, q.from); inside = q.inside; valid = q.valid ∙ p.valid; outside = q.outside ∙ p.outside }
+
+  -- one character of the set
+  pub passes-one : (c n : ℕ) → Some (c, n) ≡ decoded_at i (front (drop i t)) → within admitted c ≡ true → Passes t i n
+  passes-one c n s w = record {
+    from = omega (arith, char_lt t i (Some (c, n)) s c n refl);
+    inside = char_le t i (Some (c, n)) s c n refl;
+    valid = valid_on t i (Some (c, n)) s (i + sizes (decode (drop i t))) refl c n refl;
+    outside = outside-on t i (Some (c, n)) s (outside_from i (decode (drop i t))) refl c n refl true (sym w) refl;
+  }
+
+-- ---- ASCII
 admitted_ascii : (c : ℕ) → c < 0x80 → true ≡ within admitted c
-unfolding within
-admitted_ascii c u = sym (one_over c _ [] (no_none c) 0 0x80 zero-le u (rows true admitted []) true refl)
+admitted_ascii c u = admitted_first c 0x80 true u refl
 
 module _ (t : List ℕ) (i : ℕ) (h : i < length t) (l : get_or t i 0 < 0x80) where
   pub ascii_decode : decode (drop i t) ≡ get_or t i 0 ∷ decode (drop (i + 1) t)
-  ascii_decode = char_decode t i (Char (get_or t i 0) (i + 1)) (char_at_ascii t i (get_or t i 0) h refl l) (get_or t i 0) (i + 1) refl
+  ascii_decode = char_decode t i (Some (get_or t i 0, i + 1)) (char_at_ascii t i (get_or t i 0) h refl l) (get_or t i 0) (i + 1) refl
 
-  ascii_valid : (v : ℕ) → i + sizes (decode (drop i t)) ≡ v → i + 1 + sizes (decode (drop (i + 1) t)) ≡ v
-  ascii_valid v p = valid_on t i (Char (get_or t i 0) (i + 1)) (char_at_ascii t i (get_or t i 0) h refl l) v p (get_or t i 0) (i + 1) refl
-
-  ascii_outside : (v : Outside) → outside_from i (decode (drop i t)) ≡ v → outside_from (i + 1) (decode (drop (i + 1) t)) ≡ v
-  ascii_outside v p =
-      outside-on t i (Char (get_or t i 0) (i + 1)) (char_at_ascii t i (get_or t i 0) h refl l) v p (get_or t i 0) (i + 1) refl true (admitted_ascii (get_or t i 0) l) refl
+  pub passes-ascii : Passes t i (i + 1)
+  passes-ascii = passes-one t i (get_or t i 0) (i + 1) (char_at_ascii t i (get_or t i 0) h refl l) (sym (admitted_ascii (get_or t i 0) l))
 
 -- ---- several
 pub many : (t : List ℕ) (P Q : ℕ → Type 0) → ((i : ℕ) → i < length t → Q (get_or t i 0) → P i → P (i + 1))
@@ -48,12 +59,9 @@ many t P Q step (suc k) i h f p =
     subst P e (step (i + k) (omega arith) (f k (omega arith)) (many t P Q step k i (omega arith) (λ (j : ℕ) (g : j < k). f j (omega arith)) p))
 
 -- as many ASCII bytes as one likes
-module _ (t : List ℕ) (k i : ℕ) (h : i + k ≤ length t) (f : (j : ℕ) → j < k → get_or t (i + j) 0 < 0x80) where
-  many_valid : (v : ℕ) → i + sizes (decode (drop i t)) ≡ v → i + k + sizes (decode (drop (i + k) t)) ≡ v
-  many_valid v = many t (λ (j : ℕ). j + sizes (decode (drop j t)) ≡ v) (λ (c : ℕ). c < 0x80) (λ j g l p. ascii_valid t j g l v p) k i h f
-
-  many_outside : (v : Outside) → outside_from i (decode (drop i t)) ≡ v → outside_from (i + k) (decode (drop (i + k) t)) ≡ v
-  many_outside v = many t (λ (j : ℕ). outside_from j (decode (drop j t)) ≡ v) (λ (c : ℕ). c < 0x80) (λ j g l p. ascii_outside t j g l v p) k i h f
+pub passes-many : (t : List ℕ) (k i : ℕ) → i + k ≤ length t → ((j : ℕ) → j < k → get_or t (i + j) 0 < 0x80) → Passes t i (i + k)
+passes-many t k i h f =
+    many t (Passes t i) (λ (c : ℕ). c < 0x80) (λ j g l p. passes-more t i j (j + 1) p (passes-ascii t j g l)) k i h f (passes-none t i (omega arith))
 
 or_left : (a b : ℕ) → a ≤ bit_or a b
 or_left a b = omega (arith, or_add_and a b, and_le_r a b)
@@ -104,105 +112,106 @@ eight_ascii t i x e l =
     (omega (arith, or_left b6 b7))
     (omega (arith, or_right b6 b7))
 
--- and so are two
-two_ascii : (t : List ℕ) (i x : ℕ) → x ≡ bit_or (get_or t i 0) (get_or t (i + 1) 0) → x < 0x80 → (j : ℕ) → j < 2 → get_or t (i + j) 0 < 0x80
-two_ascii t i x e l zero h = let z : i + 0 ≡ i = omega arith in rw z (omega (arith, or_left (get_or t i 0) (get_or t (i + 1) 0)))
-two_ascii t i x e l (suc zero) h = omega (arith, or_right (get_or t i 0) (get_or t (i + 1) 0))
-two_ascii t i x e l (suc (suc j)) h = absurd (omega arith)
+-- two bytes whose or is below 80 are ASCII
+or_ascii : (a b : ℕ) → bit_or a b < 0x80 → (a < 0x80) × (b < 0x80)
+or_ascii a b l = (omega (arith, or_left a b), omega (arith, or_right a b))
 
--- the loop of `ascii_blocks`
-module _ (t : List ℕ) (i x : ℕ) (h : 8 ≤ length t - i) (e : x ≡ ors t i) (l : x < 0x80) where
-  pub block_valid : (v : ℕ) → i + sizes (decode (drop i t)) ≡ v → i + 8 + sizes (decode (drop (i + 8) t)) ≡ v
-  block_valid = many_valid t 8 i (omega arith) (eight_ascii t i x e l)
+-- blocks of eight and of two bytes, and two bytes behind an ASCII byte
+module _ (t : List ℕ) (i : ℕ) where
+  pub passes-eight : (x : ℕ) → 8 ≤ length t - i → x ≡ ors t i → x < 0x80 → Passes t i (i + 8)
+  passes-eight x h e l = passes-many t 8 i (omega arith) (eight_ascii t i x e l)
 
-  pub block_outside : (v : Outside) → outside_from i (decode (drop i t)) ≡ v → outside_from (i + 8) (decode (drop (i + 8) t)) ≡ v
-  block_outside = many_outside t 8 i (omega arith) (eight_ascii t i x e l)
+  pub passes-two : i + 2 ≤ length t → bit_or (get_or t i 0) (get_or t (i + 1) 0) < 0x80 → Passes t i (i + 2)
+  passes-two h l =
+      let w = or_ascii (get_or t i 0) (get_or t (i + 1) 0) l in
+      let e : i + 1 + 1 ≡ i + 2 = omega arith in
+      subst (Passes t i) e (passes-more t i (i + 1) (i + 1 + 1) (passes-ascii t i (omega arith) w.0) (passes-ascii t (i + 1) (omega arith) w.1))
 
--- the loop of `ascii_end`
-module _ (t : List ℕ) (i x : ℕ) (h : i < length t) (e : x ≡ get_or t i 0) (l : x < 0x80) where
-  pub byte_valid : (v : ℕ) → i + sizes (decode (drop i t)) ≡ v → i + 1 + sizes (decode (drop (i + 1) t)) ≡ v
-  byte_valid v p = ascii_valid t i h (omega arith) v p
+  pub passes-three : get_or t i 0 < 0x80 → 3 < length t - i → bit_or (get_or t (i + 1) 0) (get_or t (i + 2) 0) < 0x80 → Passes t i (i + 3)
+  passes-three a h l =
+      let w = or_ascii (get_or t (i + 1) 0) (get_or t (i + 2) 0) l in
+      let e : i + 2 + 1 ≡ i + 3 = omega arith in
+      let f : i + 1 + 1 ≡ i + 2 = omega arith in
+      let p : Passes t i (i + 2) = subst (Passes t i) f (passes-more t i (i + 1) (i + 1 + 1) (passes-ascii t i (omega arith) a) (passes-ascii t (i + 1) (omega arith) w.0)) in
+      subst (Passes t i) e (passes-more t i (i + 2) (i + 2 + 1) p (passes-ascii t (i + 2) (omega arith) w.1))
 
-  pub byte-outside : (v : Outside) → outside_from i (decode (drop i t)) ≡ v → outside_from (i + 1) (decode (drop (i + 1) t)) ≡ v
-  byte-outside v p = ascii_outside t i h (omega arith) v p
+-- the ASCII bytes at a place, as many as there are
+module _ where
+  ascii_first : List ℕ → ℕ
+  ascii_first xs = position_or_len (λ b. leb 0x80 b) xs
 
--- `ascii_two`
-module _ (t : List ℕ) (i x : ℕ) (h : i + 2 ≤ length t) (e : x ≡ bit_or (get_or t i 0) (get_or t (i + 1) 0)) (l : x < 0x80) where
-  pub two_valid : i + 2 + sizes (decode (drop (i + 2) t)) ≡ i + sizes (decode (drop i t))
-  two_valid = many_valid t 2 i h (two_ascii t i x e l) (i + sizes (decode (drop i t))) refl
+  ascii_prefix : (xs : List ℕ) → (ascii_first xs ≤ length xs) × ((j : ℕ) → j < ascii_first xs → get_or xs j 0 < 0x80)
+  unfolding ascii_first
+  ascii_prefix [] = (omega arith, λ j h. absurd (omega arith))
+  ascii_prefix (x ∷ xs) = go (leb 0x80 x) refl (ascii_prefix xs)
+    where
+      go : (b : Bool) → leb 0x80 x ≡ b → (ascii_first xs ≤ length xs) × ((j : ℕ) → j < ascii_first xs → get_or xs j 0 < 0x80)
+          → (cond (not b) (1 + ascii_first xs) 0 ≤ suc (length xs)) × ((j : ℕ) → j < cond (not b) (1 + ascii_first xs) 0 → get_or (x ∷ xs) j 0 < 0x80)
+      go true e ih = (omega arith, λ j h. absurd (omega arith))
+      go false e ih = (omega (arith, ih.0), at)
+        where
+          at : (j : ℕ) → j < 1 + ascii_first xs → get_or (x ∷ xs) j 0 < 0x80
+          at zero h = leb-false 0x80 x e
+          at (suc j) h = ih.1 j (omega arith)
 
-  pub two_outside : outside_from (i + 2) (decode (drop (i + 2) t)) ≡ outside_from i (decode (drop i t))
-  two_outside = many_outside t 2 i h (two_ascii t i x e l) (outside_from i (decode (drop i t))) refl
+position_first : (xs : List ℕ) → unwrap_or (position (λ b. leb 0x80 b) xs) (length xs) ≡ ascii_first xs
+unfolding ascii_first
+position_first xs = go (ltb (ascii_first xs) (length xs)) refl
+  where
+    go : (b : Bool) → ltb (ascii_first xs) (length xs) ≡ b → unwrap_or (cond b (Some (ascii_first xs)) None) (length xs) ≡ ascii_first xs
+    go true e = refl
+    go false e = omega (arith, ltb-false (ascii_first xs) (length xs) e, (ascii_prefix xs).0)
 
--- `ascii_gap`
-module _ (t : List ℕ) (i : ℕ) (la : get_or t i 0 < 0x80) where
-  module _ (x : ℕ) (h : 3 < length t - i) (e : x ≡ bit_or (get_or t (i + 1) 0) (get_or t (i + 2) 0)) (l : x < 0x80) where
-    three_ascii : (j : ℕ) → j < 3 → get_or t (i + j) 0 < 0x80
-    three_ascii zero g = let z : i + 0 ≡ i = omega arith in rw z la
-    three_ascii (suc zero) g = omega (arith, or_left (get_or t (i + 1) 0) (get_or t (i + 2) 0))
-    three_ascii (suc (suc zero)) g = omega (arith, or_right (get_or t (i + 1) 0) (get_or t (i + 2) 0))
-    three_ascii (suc (suc (suc j))) g = absurd (omega arith)
-
-    pub three_valid : i + 3 + sizes (decode (drop (i + 3) t)) ≡ i + sizes (decode (drop i t))
-    three_valid = many_valid t 3 i (omega arith) three_ascii (i + sizes (decode (drop i t))) refl
-
-    pub three-outside : outside_from (i + 3) (decode (drop (i + 3) t)) ≡ outside_from i (decode (drop i t))
-    three-outside = many_outside t 3 i (omega arith) three_ascii (outside_from i (decode (drop i t))) refl
-
-  module _ (h : i < length t) (r : ℕ) where
-    pub run_valid : r + sizes (decode (drop r t)) ≡ i + 1 + sizes (decode (drop (i + 1) t)) → r + sizes (decode (drop r t)) ≡ i + sizes (decode (drop i t))
-    run_valid m = m ∙ ascii_valid t i h la (i + sizes (decode (drop i t))) refl
-
-    pub run-outside : outside_from r (decode (drop r t)) ≡ outside_from (i + 1) (decode (drop (i + 1) t)) → outside_from r (decode (drop r t)) ≡ outside_from i (decode (drop i t))
-    run-outside m = m ∙ ascii_outside t i h la (outside_from i (decode (drop i t))) refl
+pub passes-prefix : (t : List ℕ) (i n : ℕ) → i ≤ length t
+    → n ≡ unwrap_or (position (λ b. leb 0x80 b) (take (length t - i) (drop i t))) (length (take (length t - i) (drop i t))) → Passes t i (i + n)
+passes-prefix t i n h q =
+    let p = ascii_prefix (take (length t - i) (drop i t)) in
+    let e = q ∙ position_first (take (length t - i) (drop i t)) in
+    passes-many t n i (omega (arith, p.0, length-take (length t - i) (drop i t))) (λ j g. subst (λ (x : ℕ). x < 0x80) (rest_bytes t i h j) (p.1 j (omega arith)))
 
 -- ---- the loop of `plain_up_to`
-module _ (t : List ℕ) (at : ℕ) (p : at + sizes (decode (drop at t)) ≡ valid_up_to t) (q : outside_from at (decode (drop at t)) ≡ first_outside t) where
-  plain-none : Nowhere ≡ first_outside t → at ≡ valid_up_to t → at ≡ plain_up_to t
+module _ (t : List ℕ) (at : ℕ) (p : Passes t 0 at) where
+  passed_valid : at + sizes (decode (drop at t)) ≡ valid_up_to t
+  passed_valid = p.valid ∙ valid_start t
+
+  passed_outside : outside_from at (decode (drop at t)) ≡ first_outside t
+  passed_outside = p.outside ∙ outside-start t
+
+  plain-none : None ≡ first_outside t → at ≡ valid_up_to t → at ≡ plain_up_to t
   unfolding plain_up_to
-  plain-none m n = n ∙ ap (λ (o : Outside). or_else o (valid_up_to t)) m
+  plain-none m n = n ∙ ap (λ (o : Option ℕ). unwrap_or o (valid_up_to t)) m
 
   pub plain_end : length t ≤ at → at ≡ plain_up_to t
   unfolding sizes outside_from
   plain_end h =
       let d = decode-end t at h in
-      plain-none (sym (ap (outside_from at) d) ∙ q) (omega (arith, ap sizes d))
+      plain-none (sym (ap (outside_from at) d) ∙ passed_outside) (omega (arith, ap sizes d, passed_valid))
 
-  module _ (r : Decoded) (s : r ≡ decoded_at at (front (drop at t))) where
-    pub plain_invalid : r ≡ Invalid → at ≡ plain_up_to t
-    plain_invalid e = plain-none (outside_invalid t at r s (first_outside t) q e) (valid_invalid t at r s (valid_up_to t) p e)
+  module _ (r : Option (ℕ × ℕ)) (s : r ≡ decoded_at at (front (drop at t))) where
+    pub plain_stop : r ≡ None → at ≡ plain_up_to t
+    plain_stop e = plain-none (outside_none t at r s (first_outside t) passed_outside e) (valid_none t at r s (valid_up_to t) passed_valid e)
 
-    pub plain_stop : r ≡ End → at ≡ plain_up_to t
-    plain_stop e = plain-none (outside-end t at r s (first_outside t) q e) (valid_end t at r s (valid_up_to t) p e)
-
-    pub plain_here : (c n : ℕ) (w : Bool) → r ≡ Char c n → w ≡ within admitted c → w ≡ false → at ≡ plain_up_to t
+    pub plain_here : (c n : ℕ) → r ≡ Some (c, n) → within admitted c ≡ false → at ≡ plain_up_to t
     unfolding plain_up_to
-    plain_here c n w e g h = ap (λ (o : Outside). or_else o (valid_up_to t)) (outside_here t at r s (first_outside t) q c n e w g h)
-
-  -- behind a run
-  pub gap_valid : (i : ℕ) → i + sizes (decode (drop i t)) ≡ at + sizes (decode (drop at t)) → i + sizes (decode (drop i t)) ≡ valid_up_to t
-  gap_valid i m = m ∙ p
-
-  pub gap_outside : (i : ℕ) → outside_from i (decode (drop i t)) ≡ outside_from at (decode (drop at t)) → outside_from i (decode (drop i t)) ≡ first_outside t
-  gap_outside i m = m ∙ q
+    plain_here c n e h = ap (λ (o : Option ℕ). unwrap_or o (valid_up_to t)) (outside_here t at r s (first_outside t) passed_outside c n e false (sym h) refl)
 
 -- ---- a text that is UTF-8 and within the set to its end
-outside_below : (o i : ℕ) (cs : List ℕ) → outside_from o cs ≡ At i → i < o + sizes cs
+outside_below : (o i : ℕ) (cs : List ℕ) → outside_from o cs ≡ Some i → i < o + sizes cs
 unfolding outside_from sizes
 outside_below o i [] e = let z : ◌≡◌ {A = ℕ} 0 1 = cc in absurd (omega arith)
 outside_below o i (c ∷ cs) e = go (within admitted c) refl (λ x. outside_below (o + size c) i cs x)
   where
-    go : (b : Bool) → within admitted c ≡ b → (outside_from (o + size c) cs ≡ At i → i < o + size c + sizes cs) → i < o + sizes (c ∷ cs)
+    go : (b : Bool) → within admitted c ≡ b → (outside_from (o + size c) cs ≡ Some i → i < o + size c + sizes cs) → i < o + sizes (c ∷ cs)
     go true p f = omega (arith, f (rw (outside_from, p) at e))
-    go false p f = let g : At o ≡ At i = rw (outside_from, p) at e in let h : o ≡ i = cc in omega (arith, size-range c)
+    go false p f = let g : Some o ≡ Some i = rw (outside_from, p) at e in let h : o ≡ i = cc in omega (arith, size-range c)
 
-pub plain_whole : (t : List ℕ) → plain_up_to t ≡ length t → (first_outside t ≡ Nowhere) × (valid_up_to t ≡ length t)
+pub plain_whole : (t : List ℕ) → plain_up_to t ≡ length t → (first_outside t ≡ None) × (valid_up_to t ≡ length t)
 unfolding plain_up_to
 plain_whole t e = go (first_outside t) refl
   where
-    go : (o : Outside) → first_outside t ≡ o → (first_outside t ≡ Nowhere) × (valid_up_to t ≡ length t)
-    go (At i) p =
+    go : (o : Option ℕ) → first_outside t ≡ o → (first_outside t ≡ None) × (valid_up_to t ≡ length t)
+    go (Some i) p =
         let h : i < 0 + sizes (decode t) = outside_below 0 i (decode t) p in
-        let g : i ≡ length t = sym (ap (λ (x : Outside). or_else x (valid_up_to t)) p) ∙ e in
+        let g : i ≡ length t = sym (ap (λ (x : Option ℕ). unwrap_or x (valid_up_to t)) p) ∙ e in
         absurd (omega (arith, valid_le t))
-    go Nowhere p = (p, sym (ap (λ (x : Outside). or_else x (valid_up_to t)) p) ∙ e)
+    go None p = (p, sym (ap (λ (x : Option ℕ). unwrap_or x (valid_up_to t)) p) ∙ e)

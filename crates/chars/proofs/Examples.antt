@@ -7,7 +7,7 @@ use lib.Dec.{ltb, leb}
 use Rattle.chars.specs.Utf8.{decode, valid_up_to, encode}
 use Rattle.chars.specs.Ranges.{Entry, row}
 use Rattle.chars.specs.Class.{classes, first_outside}
-use Rattle.chars.specs.declared.Outside.TheVariants.{At, Nowhere}
+use Rattle.std.specs.Prelude.{Some, None}
 
 -- a text, its code points and the length of its longest UTF-8 beginning
 record Sample : Type 0 where
@@ -56,7 +56,7 @@ all-samples = refl
 abbrev borders : List ℕ
 borders = 0x2C1 ∷ 0x2C2 ∷ 0x36F ∷ 0x370 ∷ 0x481 ∷ 0x482 ∷ 0x218F ∷ 0x2190 ∷ 0x243F ∷ 0x2440 ∷ []
 
-border_samples : map (λ (c : ℕ). first_outside (encode (0x61 ∷ c ∷ []))) borders ≡ Nowhere ∷ At 1 ∷ At 1 ∷ Nowhere ∷ Nowhere ∷ At 1 ∷ At 1 ∷ Nowhere ∷ Nowhere ∷ At 1 ∷ []
+border_samples : map (λ (c : ℕ). first_outside (encode (0x61 ∷ c ∷ []))) borders ≡ None ∷ Some 1 ∷ Some 1 ∷ None ∷ None ∷ Some 1 ∷ Some 1 ∷ None ∷ None ∷ Some 1 ∷ []
 unfolding first_outside encode
 border_samples = refl
 

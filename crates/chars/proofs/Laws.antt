@@ -1,15 +1,16 @@
 -- What the layers above need of the characters of a text: `decode` at a place, a character at a time.
 use mathlib.Core.Path.{◌≡◌, refl, sym, ap, ◌∙◌}
-use Prim.Native.Nat.{ℕ, zero, suc, ◌+◌, ◌-◌, ◌≤◌, ◌<◌}
+use Prim.Native.Nat.{ℕ, zero, suc, ◌+◌, ◌-◌, ◌*◌, ◌≤◌, ◌<◌}
 use native.Mathlib.Omega.{arith}
 use native.Mathlib.Nat.{add-zero}
-use mathlib.Core.Bool.{true}
+use mathlib.Core.Bool.{true, ◌&&◌}
+use lib.Dec.{ltb, leb, eqb}
 use mathlib.Core.List.{List, [], ◌∷◌, ◌++◌, append-nil}
-use lib.ListN.{length, drop, length-drop, drop_of_length-le}
+use lib.ListN.{length, get_or, drop, length-drop, drop_of_length-le}
 use lib.Seq.{drop-drop}
-use Rattle.chars.specs.Utf8.{scalar, size, sizes, Front, one, bad, none, front, points_on, points_from, decode, decoded_at}
-use Rattle.chars.specs.declared.Decoded.{Decoded}
-use Rattle.chars.specs.declared.Decoded.TheVariants.{Char, Invalid, End}
+use Rattle.chars.specs.Utf8.{scalar, size, sizes, Front, one, bad, none, tail_of, form, lead, front, points_on, points_from, decode, decoded_at}
+use Rattle.std.specs.Prelude.{Option, Some, None}
+use Rattle.chars.proofs.Tests.{split}
 use Rattle.chars.proofs.Encoding.{size-range, front-scalar, front_in}
 
 pub decode-nil : decode [] ≡ []
@@ -58,26 +59,20 @@ module _ (t : List ℕ) (i c : ℕ) (e : front (drop i t) ≡ one c) where
   front-le = omega (arith, front_in (drop i t) c e, length-drop i t, size-range c)
 
 -- ---- by the answer of `char_at`
-decoded_char : (h : Front) (i c n : ℕ) → decoded_at i h ≡ Char c n → (h ≡ one c) × (n ≡ i + size c)
-unfolding decoded_at
-decoded_char (one x) i c n e = let p : x ≡ c = cc in (ap one p, cc)
-decoded_char bad i c n e = absurd (let z : ◌≡◌ {A = ℕ} 0 1 = cc in omega arith)
-decoded_char none i c n e = absurd (let z : ◌≡◌ {A = ℕ} 0 1 = cc in omega arith)
+pub some_pair : (a b c d : ℕ) → ◌≡◌ {A = Option (ℕ × ℕ)} (Some (a, b)) (Some (c, d)) → (a ≡ c) × (b ≡ d)
+some_pair a b c d e =
+    let fst : Option (ℕ × ℕ) → ℕ = λ o. elim o [ Some p ↦ p.0 | None ↦ 0 ] in
+    let snd : Option (ℕ × ℕ) → ℕ = λ o. elim o [ Some p ↦ p.1 | None ↦ 0 ] in
+    (ap fst e, ap snd e)
 
-decoded_invalid : (h : Front) (i : ℕ) → decoded_at i h ≡ Invalid → h ≡ bad
+decoded_char : (h : Front) (i c n : ℕ) → decoded_at i h ≡ Some (c, n) → (h ≡ one c) × (n ≡ i + size c)
 unfolding decoded_at
-decoded_invalid (one x) i e = cc
-decoded_invalid bad i e = refl
-decoded_invalid none i e = cc
+decoded_char (one x) i c n e = let p = some_pair c n x (i + size x) (sym e) in (ap one (sym p.0), p.1 ∙ ap (λ (y : ℕ). i + size y) (sym p.0))
+decoded_char bad i c n e = cc
+decoded_char none i c n e = cc
 
-decoded_end : (h : Front) (i : ℕ) → decoded_at i h ≡ End → h ≡ none
-unfolding decoded_at
-decoded_end (one x) i e = cc
-decoded_end bad i e = cc
-decoded_end none i e = refl
-
-module _ (t : List ℕ) (i : ℕ) (r : Decoded) (s : r ≡ decoded_at i (front (drop i t))) where
-  module _ (c n : ℕ) (e : r ≡ Char c n) where
+module _ (t : List ℕ) (i : ℕ) (r : Option (ℕ × ℕ)) (s : r ≡ decoded_at i (front (drop i t))) where
+  module _ (c n : ℕ) (e : r ≡ Some (c, n)) where
     char_front : front (drop i t) ≡ one c
     char_front = (decoded_char (front (drop i t)) i c n (sym s ∙ e)).0
 
@@ -104,11 +99,15 @@ module _ (t : List ℕ) (i : ℕ) (r : Decoded) (s : r ≡ decoded_at i (front (
     pub char_falls : length t - n < length t - i
     char_falls = omega (arith, char_lt, char_le)
 
-  pub invalid_decode : r ≡ Invalid → decode (drop i t) ≡ []
-  invalid_decode e = decode_bad (drop i t) (decoded_invalid (front (drop i t)) i (sym s ∙ e))
-
-  pub end-decode : r ≡ End → decode (drop i t) ≡ []
-  end-decode e = decode-none (drop i t) (decoded_end (front (drop i t)) i (sym s ∙ e))
+  -- no character stands there: neither a code point nor a byte is left, or the bytes are none
+  pub none_decode : r ≡ None → decode (drop i t) ≡ []
+  unfolding decoded_at
+  none_decode e = go (front (drop i t)) refl (sym s ∙ e)
+    where
+      go : (h : Front) → front (drop i t) ≡ h → decoded_at i h ≡ None → decode (drop i t) ≡ []
+      go (one c) p q = cc
+      go bad p q = decode_bad (drop i t) p
+      go none p q = decode-none (drop i t) p
 
 -- ---- by the code points at a place
 module _ (t : List ℕ) (i c : ℕ) (cs : List ℕ) where
@@ -149,3 +148,28 @@ points_in (c ∷ cs) ds t i h p = omega (arith, points_in cs ds t (i + size c) (
 -- all the code points from a place on end within the text
 pub decode_in : (t : List ℕ) (i : ℕ) → i ≤ length t → i + sizes (decode (drop i t)) ≤ length t
 decode_in t i h = points_in (decode (drop i t)) [] t i h (sym (append-nil (decode (drop i t))))
+
+-- ---- where `char_at` answers None, the end and a place where no character stands are told apart by the length
+module _ where
+  Something : Front → Type 0
+  Something h = h ≡ none → ⊥
+
+  form_something : (n c : ℕ) → Something (form n c)
+  unfolding form Something
+  form_something n c = split Something (scalar c && eqb (size c) n) (λ e p. cc) (λ e p. cc)
+
+  lead_something : (a b c d : ℕ) → Something (lead a b c d)
+  unfolding lead Something
+  lead_something a b c d =
+      split Something (ltb a 0x80) (λ e p. cc)
+      (λ e. split Something (ltb a 0xC0) (λ e p. cc)
+      (λ e. split Something (leb 64 b) (λ e p. cc)
+      (λ e. split Something (ltb a 0xE0) (λ e. form_something 2 ((a - 0xC0) * 64 + b))
+      (λ e. split Something (leb 64 c) (λ e p. cc)
+      (λ e. split Something (ltb a 0xF0) (λ e. form_something 3 ((a - 0xE0) * 4096 + b * 64 + c))
+      (λ e. split Something (leb 64 d) (λ e p. cc) (λ e. form_something 4 ((a - 0xF0) * 262144 + b * 4096 + c * 64 + d))))))))
+
+  pub front-end : (l : List ℕ) → front l ≡ none → l ≡ []
+  unfolding front Something
+  front-end [] e = refl
+  front-end (a ∷ r) e = absurd (lead_something a (tail_of (get_or r 0 0)) (tail_of (get_or r 1 0)) (tail_of (get_or r 2 0)) e)

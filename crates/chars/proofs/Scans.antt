@@ -8,11 +8,8 @@ use lib.ListN.{drop}
 use Rattle.chars.specs.Utf8.{sizes, front, decode, valid_up_to, decoded_at}
 use Rattle.chars.specs.Ranges.{within}
 use Rattle.chars.specs.Class.{admitted, outside_from, first_outside}
-use Rattle.chars.specs.declared.Decoded.{Decoded}
-use Rattle.chars.specs.declared.Decoded.TheVariants.{Char, Invalid, End}
-use Rattle.chars.specs.declared.Outside.{Outside}
-use Rattle.chars.specs.declared.Outside.TheVariants.{At, Nowhere}
-use Rattle.chars.proofs.Laws.{char_decode, char_next, invalid_decode, end-decode}
+use Rattle.std.specs.Prelude.{Option, Some, None}
+use Rattle.chars.proofs.Laws.{char_decode, char_next, none_decode}
 
 pub valid_start : (t : List ℕ) → 0 + sizes (decode (drop 0 t)) ≡ valid_up_to t
 unfolding valid_up_to
@@ -22,34 +19,26 @@ pub outside-start : (t : List ℕ) → outside_from 0 (decode (drop 0 t)) ≡ fi
 unfolding first_outside
 outside-start t = refl
 
-module _ (t : List ℕ) (i : ℕ) (r : Decoded) (s : r ≡ decoded_at i (front (drop i t))) where
+module _ (t : List ℕ) (i : ℕ) (r : Option (ℕ × ℕ)) (s : r ≡ decoded_at i (front (drop i t))) where
   module _ (v : ℕ) (p : i + sizes (decode (drop i t)) ≡ v) where
-    pub valid_on : (c n : ℕ) → r ≡ Char c n → n + sizes (decode (drop n t)) ≡ v
+    pub valid_on : (c n : ℕ) → r ≡ Some (c, n) → n + sizes (decode (drop n t)) ≡ v
     unfolding sizes
     valid_on c n e = omega (arith, char_next t i r s c n e, ap sizes (char_decode t i r s c n e))
 
-    pub valid_invalid : r ≡ Invalid → i ≡ v
+    pub valid_none : r ≡ None → i ≡ v
     unfolding sizes
-    valid_invalid e = omega (arith, ap sizes (invalid_decode t i r s e))
+    valid_none e = omega (arith, ap sizes (none_decode t i r s e))
 
-    pub valid_end : r ≡ End → i ≡ v
-    unfolding sizes
-    valid_end e = omega (arith, ap sizes (end-decode t i r s e))
-
-  module _ (v : Outside) (p : outside_from i (decode (drop i t)) ≡ v) where
-    module _ (c n : ℕ) (e : r ≡ Char c n) (w : Bool) (q : w ≡ within admitted c) where
+  module _ (v : Option ℕ) (p : outside_from i (decode (drop i t)) ≡ v) where
+    module _ (c n : ℕ) (e : r ≡ Some (c, n)) (w : Bool) (q : w ≡ within admitted c) where
       pub outside-on : w ≡ true → outside_from n (decode (drop n t)) ≡ v
       unfolding outside_from
       outside-on h = rw (char_decode t i r s c n e, outside_from, ← q, h, ← char_next t i r s c n e) at p
 
-      pub outside_here : w ≡ false → At i ≡ v
+      pub outside_here : w ≡ false → Some i ≡ v
       unfolding outside_from
       outside_here h = rw (char_decode t i r s c n e, outside_from, ← q, h) at p
 
-    pub outside_invalid : r ≡ Invalid → Nowhere ≡ v
+    pub outside_none : r ≡ None → None ≡ v
     unfolding outside_from
-    outside_invalid e = rw (invalid_decode t i r s e, outside_from) at p
-
-    pub outside-end : r ≡ End → Nowhere ≡ v
-    unfolding outside_from
-    outside-end e = rw (end-decode t i r s e, outside_from) at p
+    outside_none e = rw (none_decode t i r s e, outside_from) at p

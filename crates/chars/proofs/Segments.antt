@@ -1,8 +1,8 @@
 -- A table of ranges gives one answer over a segment of numbers: a test that computes.
 use mathlib.Core.Path.{◌≡◌, sym, ap, subst, ◌∙◌}
-use Prim.Native.Nat.{ℕ, suc, ◌≤◌, ◌<◌}
+use Prim.Native.Nat.{ℕ, suc, ◌≤◌, ◌<◌, zero-le}
 use native.Mathlib.Omega.{arith}
-use mathlib.Core.Logic.{◌⊎◌, inl, inr, ⊎_elim}
+use mathlib.Core.Logic.{inl, inr, ⊎_elim}
 use mathlib.Core.Bool.{Bool, true, false, cond, ◌&&◌, ◌||◌}
 use mathlib.Core.Option.{Option, none, some}
 use mathlib.Core.List.{List, [], ◌∷◌, ◌++◌}
@@ -10,7 +10,8 @@ use lib.Dec.{leb, ltb, eqb}
 use borrow.Author.Tests.{lt-leb, le-leb, leb-true, ltb-true, eqb-true}
 use types.Run.{OneOf}
 use Rattle.chars.proofs.Tests.{split, lt-or-ge, or_cases, and_both, and_false}
-use Rattle.chars.specs.Ranges.{Entry, row, lookup}
+use Rattle.chars.specs.Ranges.{Entry, row, rows, lookup, within}
+use Rattle.chars.specs.Class.{admitted}
 
 -- c is one of the list
 abbrev pub has : List ℕ → ℕ → Bool
@@ -111,3 +112,11 @@ module _ (c : ℕ) where
         (λ u f. rw (hits a b u) (cc))
         (λ u f. cc))
         e
+
+-- ---- the set over a segment
+pub admitted_over : (c lo hi : ℕ) (b : Bool) → lo ≤ c → c < hi → over (rows true admitted []) false [] lo hi ≡ some b → b ≡ within admitted c
+unfolding within
+admitted_over c lo hi b l u e = sym (one_over c false [] (no_none c) lo hi l u (rows true admitted []) b e)
+
+pub admitted_first : (c hi : ℕ) (b : Bool) → c < hi → over (rows true admitted []) false [] 0 hi ≡ some b → b ≡ within admitted c
+admitted_first c hi b u e = admitted_over c 0 hi b zero-le u e

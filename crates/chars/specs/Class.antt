@@ -1,11 +1,9 @@
 -- Paper 01, "Characters": the admitted set, and the classes of code points.
-use Rattle.std.specs.Prelude.{ℕ, ◌+◌, List, [], ◌∷◌, true, false}
+use Rattle.std.specs.Prelude.{ℕ, ◌+◌, ◌≡◌, ◌≤◌, List, [], ◌∷◌, true, false, Option, Some, None, unwrap_or, length, drop}
 use Rattle.chars.specs.Ranges.{Range, to, Entry, rows, lookup, within}
-use Rattle.chars.specs.Utf8.{size, decode, valid_up_to}
+use Rattle.chars.specs.Utf8.{size, sizes, decode, valid_up_to}
 use Rattle.chars.specs.declared.Class.{Class}
 use Rattle.chars.specs.declared.Class.TheVariants.{Letter, Digit, Space, Sign, Other}
-use Rattle.chars.specs.declared.Outside.{Outside}
-use Rattle.chars.specs.declared.Outside.TheVariants.{At, Nowhere}
 
 -- the set of characters that a text may have
 abbrev pub admitted : List Range
@@ -40,22 +38,24 @@ unfolding lookup
 class_of c = lookup classes Other c
 
 -- the place of the first code point outside the set, where the list stands at the place o
-unfoldable pub outside_from : ℕ → List ℕ → Outside
+unfoldable pub outside_from : ℕ → List ℕ → Option ℕ
 unfolding within size
-outside_from o [] = Nowhere
-outside_from o (c ∷ cs) = elim (within admitted c) [ true ↦ outside_from (o + size c) cs | false ↦ At o ]
+outside_from o [] = None
+outside_from o (c ∷ cs) = elim (within admitted c) [ true ↦ outside_from (o + size c) cs | false ↦ Some o ]
 
 -- the place of the first character outside the set in a text's longest UTF-8 beginning (paper 01: refusal 4's place)
-unfoldable pub first_outside : List ℕ → Outside
+unfoldable pub first_outside : List ℕ → Option ℕ
 unfolding outside_from decode
 first_outside t = outside_from 0 (decode t)
 
--- the place of the first character outside the set where there is one, else the place v
-unfoldable pub or_else : Outside → ℕ → ℕ
-or_else (At i) v = i
-or_else Nowhere v = v
-
 -- how far a text is UTF-8 and within the set
 unfoldable pub plain_up_to : List ℕ → ℕ
-unfolding or_else first_outside valid_up_to
-plain_up_to t = or_else (first_outside t) (valid_up_to t)
+unfolding first_outside valid_up_to
+plain_up_to t = unwrap_or (first_outside t) (valid_up_to t)
+
+-- from the place i of the text t to the place j stand only characters of the set: what the definitions say of the text from j on is what they say from i on
+pub record Passes (t : List ℕ) (i j : ℕ) : Type 0 where
+  pub from : i ≤ j
+  pub inside : j ≤ length t
+  pub valid : j + sizes (decode (drop j t)) ≡ i + sizes (decode (drop i t))
+  pub outside : outside_from j (decode (drop j t)) ≡ outside_from i (decode (drop i t))

@@ -1,7 +1,5 @@
 -- UTF-8 (RFC 3629), over lists of bytes and lists of code points.
-use Rattle.std.specs.Prelude.{ℕ, zero, suc, ◌+◌, ◌-◌, ◌*◌, ◌/◌, ◌%◌, List, [], ◌∷◌, ◌++◌, Bool, true, cond, ◌&&◌, ◌||◌, get_or, ltb, leb, eqb}
-use Rattle.chars.specs.declared.Decoded.{Decoded}
-use Rattle.chars.specs.declared.Decoded.TheVariants.{Char, Invalid, End}
+use Rattle.std.specs.Prelude.{ℕ, zero, suc, ◌+◌, ◌-◌, ◌*◌, ◌/◌, ◌%◌, List, [], ◌∷◌, ◌++◌, Bool, true, cond, ◌&&◌, ◌||◌, Option, Some, None, get_or, ltb, leb, eqb}
 
 -- a Unicode scalar value: a code point, at most 10FFFF, that is no surrogate
 unfoldable pub scalar : ℕ → Bool
@@ -94,9 +92,9 @@ unfoldable pub valid_up_to : List ℕ → ℕ
 unfolding decode sizes
 valid_up_to t = sizes (decode t)
 
--- what stands at a place, as the code answers it: the character and the place after it
-unfoldable pub decoded_at : ℕ → Front → Decoded
+-- what stands at a place, as the code answers it: the character and the place after it; nothing where no character stands there, as at the end
+unfoldable pub decoded_at : ℕ → Front → Option (ℕ × ℕ)
 unfolding size
-decoded_at at (one c) = Char c (at + size c)
-decoded_at at bad = Invalid
-decoded_at at none = End
+decoded_at at (one c) = Some (c, at + size c)
+decoded_at at bad = None
+decoded_at at none = None

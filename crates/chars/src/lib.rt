@@ -1,30 +1,17 @@
 // Characters of a text: UTF-8 (RFC 3629), the set that a description may use, and the classes of code points.
 #![tactic(auto)]
 
-ghost use Rattle.std.specs.Prelude.{◌≡◌, true, ◌+◌, ◌*◌, ◌<◌, ◌≤◌, length, get_or, drop};
-ghost use Rattle.chars.specs.Utf8.{scalar, size, sizes, tail_of, form, front, decode, decoded_at, valid_up_to};
+ghost use Rattle.std.specs.Prelude.{◌≡◌, true, ◌+◌, ◌*◌, ◌^◌, ◌<◌, ◌≤◌, length, get_or, drop, IfSome, IfNone, Some, nat_le, position, unwrap_or};
+ghost use Rattle.chars.specs.Utf8.{scalar, size, tail_of, form, front, decoded_at, valid_up_to};
 ghost use Rattle.chars.specs.Ranges.{within};
 ghost use Rattle.chars.specs.Blocks.{ors};
-ghost use Rattle.chars.specs.Short.{is_tail, is_two, two_code, is_three, plain_two, plain_step, Above};
-ghost use Rattle.chars.specs.Class.{admitted, outside_from, first_outside, plain_up_to, class_of};
+ghost use Rattle.chars.specs.Short.{is_tail, is_two, two_code, plain_two, plain_next, Short, Above};
+ghost use Rattle.chars.specs.Class.{admitted, first_outside, plain_up_to, Passes, class_of};
 
-// The character at a place: its code point and the place after it; no character; the text's end.
-#[derive(Clone, Copy)]
-pub enum Decoded {
-    Char(u32, usize),
-    Invalid,
-    End,
-}
-
-// The place of the first character outside the admitted set, if there is one.
-#[derive(Clone, Copy)]
-pub enum Outside {
-    At(usize),
-    Nowhere,
-}
+use std::ops::Range;
 
 // The class of a code point, as the lexer asks for it.
-#[derive(Clone, Copy)]
+#[derive(Clone, Copy, PartialEq, Eq, Debug)]
 pub enum Class {
     Letter,
     Digit,
@@ -34,186 +21,144 @@ pub enum Class {
 }
 
 // How many bytes a code point takes.
+#[tactic(auto, using(crate::proofs::Tests::tests), unfolding(crate::specs::Utf8::size))]
 pub fn len_utf8(c: u32) -> usize
     ensures { result ≡ size c }
 {
-    if c < 0x80 {
-        return 1;
+    match c {
+        0..0x80 => 1,
+        0x80..0x800 => 2,
+        0x800..0x10000 => 3,
+        _ => 4,
     }
-    if c < 0x800 {
-        return 2;
-    }
-    if c < 0x10000 {
-        return 3;
-    }
-    4
-}
-
-// A byte as a number to count with.
-fn wide(b: u8) -> u32
-    ensures { (result ≡ b) × (result < 256) }
-{
-    b as u32
-}
-
-// The byte at a place, 0 past the end.
-fn byte(text: &[u8], at: usize) -> u8
-    ensures { result ≡ get_or text.now at 0 }
-{
-    if at < text.len() { text[at] } else { 0 }
-}
-
-// The six bits of a continuation byte, 64 for any other byte.
-fn tail(b: u8) -> u32
-    ensures { result ≡ tail_of b }
-{
-    if b < 0x80 {
-        return 64;
-    }
-    if b < 0xC0 {
-        return wide(b - 0x80);
-    }
-    64
 }
 
 // Whether a code point is a scalar value: no surrogate, and at most 10FFFF.
+#[tactic(auto, using(crate::proofs::Tests::tests), unfolding(crate::specs::Utf8::scalar))]
 fn is_scalar(c: u32) -> bool
     ensures { result ≡ scalar c }
 {
-    if c < 0xD800 {
-        return true;
-    }
-    if c < 0xE000 {
-        return false;
-    }
-    c < 0x110000
+    matches!(c, 0..0xD800 | 0xE000..0x110000)
 }
 
 // The character of a form of n bytes at a place, by the form's value.
-fn formed(at: usize, n: usize, code: u32) -> Decoded
-    requires { at + n < 18446744073709551616 }
+#[tactic(auto, using(crate::proofs::Tests::tests), unfolding(crate::specs::Utf8::form, crate::specs::Utf8::decoded_at))]
+fn formed(at: usize, n: usize, code: u32) -> Option<(u32, usize)>
+    requires { at + n < 2 ^ 64 }
     ensures { result ≡ decoded_at at (form n code) }
 {
-    if is_scalar(code) {
-        if len_utf8(code) == n {
-            return Decoded::Char(code, at + n);
-        }
+    if is_scalar(code) && len_utf8(code) == n {
+        Some((code, at + n))
+    } else {
+        None
     }
-    Decoded::Invalid
+}
+
+// The six bits of the continuation byte at a place, if one stands there.
+fn tail_at(text: &[u8], at: usize) -> Option<u32>
+    ensures none { IfNone result (64 ≤ tail_of (get_or text.now at 0)) }
+    ensures some { IfSome result (λ b. (b ≡ tail_of (get_or text.now at 0)) × (b < 64) × (at < length text.now)) }
+{
+    match *text.get(at)? {
+        b @ 0x80..0xC0 => Some(u32::from(b - 0x80)),
+        _ => None,
+    }
 }
 
 // The character at a place whose first byte is above ASCII.
-fn long_at(text: &[u8], at: usize) -> Decoded
-    requires { (at < length text.now) × (0x80 ≤ get_or text.now at 0) }
+fn long_at(text: &[u8], at: usize) -> Option<(u32, usize)>
+    requires inside { at < length text.now }
+    requires above { 0x80 ≤ get_or text.now at 0 }
     ensures { result ≡ decoded_at at (front (drop at text.now)) }
 {
-    let a = wide(text[at]);
+    let a = u32::from(text[at]);
     if a < 0xC0 {
-        return Decoded::Invalid;
+        return None;
     }
-    let b = tail(byte(text, at + 1));
-    if 64 <= b {
-        return Decoded::Invalid;
-    }
+    let b = tail_at(text, at + 1)?;
     if a < 0xE0 {
         return formed(at, 2, (a - 0xC0) * 64 + b);
     }
-    let c = tail(byte(text, at + 2));
-    if 64 <= c {
-        return Decoded::Invalid;
-    }
+    let c = tail_at(text, at + 2)?;
     if a < 0xF0 {
         return formed(at, 3, (a - 0xE0) * 4096 + b * 64 + c);
     }
-    let d = tail(byte(text, at + 3));
-    if 64 <= d {
-        return Decoded::Invalid;
-    }
+    let d = tail_at(text, at + 3)?;
     formed(at, 4, (a - 0xF0) * 262144 + b * 4096 + c * 64 + d)
 }
 
 // Whether a byte is a continuation byte.
-fn is_tail(b: u32) -> bool
+#[tactic(auto, using(crate::proofs::Tests::tests), unfolding(crate::specs::Short::is_tail))]
+fn is_tail(b: u8) -> bool
     ensures { result ≡ is_tail b }
 {
-    (0x80 <= b) & (b < 0xC0)
+    matches!(b, 0x80..0xC0)
 }
 
 // Whether two bytes are a character.
-fn is_two(a: u32, b: u32) -> bool
+#[tactic(auto, using(crate::proofs::Tests::tests), unfolding(crate::specs::Short::is_two))]
+fn is_two(a: u8, b: u8) -> bool
     ensures { result ≡ is_two a b }
 {
-    if a < 0xC2 {
-        return false;
-    }
-    if 0xE0 <= a {
-        return false;
-    }
-    is_tail(b)
+    matches!(a, 0xC2..0xE0) && is_tail(b)
 }
 
-// The character of two bytes.
-fn two_code(a: u32, b: u32) -> u32
-    requires { is_two a b ≡ true }
-    ensures { result ≡ two_code a b }
+// Whether two bytes are a character of the set, where the first byte tells it.
+#[tactic(auto, using(crate::proofs::Tests::tests), unfolding(crate::specs::Short::plain_two))]
+fn plain_two(a: u8, b: u8) -> bool
+    ensures { result ≡ plain_two a b }
 {
-    (a - 0xC0) * 64 + (b - 0x80)
+    matches!(a, 0xC2..0xCB | 0xCE..0xD2) && is_tail(b)
 }
 
-// The second and the third byte of a character as one number.
-fn joined(b: u8, c: u8) -> u32
-    ensures { (result ≡ b * 64 + c) × (result < 16640) }
+// The character at a place, if its bytes alone tell it: of two bytes that `two` takes, or of three that begin with E2 and lie in `three`.
+fn short_at<F: Fn(u8, u8) -> bool>(
+    text: &[u8],
+    at: usize,
+    two: F,
+    three: Range<u32>,
+) -> Option<(u32, usize)>
+    requires inside { at ≤ length text.now }
+    requires callable { F.IsAlwaysCallable two }
+    requires takes { (a b : _) → F.post two a b true → is_two a b ≡ true }
+    requires from { 0x2000 ≤ three.start }
+    requires below { three.end ≤ 0x3000 }
+    ensures { IfSome result (λ found. Short text.now at (F.post two) three.start three.end found.0 found.1) }
 {
-    wide(b) * 64 + wide(c)
+    let &[a, b, c, ..] = &text[at..] else {
+        return None;
+    };
+    if two(a, b) {
+        return Some((u32::from(a - 0xC0) * 64 + u32::from(b - 0x80), at + 2));
+    }
+    if a != 0xE2 || !is_tail(c) {
+        return None;
+    }
+    let code = u32::from(b) * 64 + u32::from(c - 0x80);
+    three.contains(&code).then_some((code, at + 3))
 }
 
-// Whether three bytes are a character that begins with E2: a is the first byte, c the third, and d, the last two joined, lies within bounds.
-fn is_three(lo: u32, hi: u32, a: u32, c: u32, d: u32) -> bool
-    ensures { result ≡ is_three lo hi a c d }
-{
-    if a != 0xE2 {
-        return false;
-    }
-    if is_tail(c) {
-        return (lo <= d) & (d < hi);
-    }
-    false
-}
-
-// The character at a place of a text. Small, so that it is compiled into its callers: ASCII is decided here.
-pub fn char_at(text: &[u8], at: usize) -> Decoded
+// The character at a place of a text; None where no character stands there, as at the end. Small, so that it is compiled into its callers: ASCII is decided here.
+pub fn char_at(text: &[u8], at: usize) -> Option<(u32, usize)>
     ensures { result ≡ decoded_at at (front (drop at text.now)) }
 {
-    if text.len() <= at {
-        return Decoded::End;
-    }
-    let a = wide(text[at]);
+    let a = *text.get(at)?;
     if a < 0x80 {
-        return Decoded::Char(a, at + 1);
+        return Some((u32::from(a), at + 1));
     }
     long_at(text, at)
 }
 
 // The same where characters above ASCII are as likely: those of two bytes and those that begin with E2 are decided here too.
-pub fn glyph_at(text: &[u8], at: usize) -> Decoded
+pub fn glyph_at(text: &[u8], at: usize) -> Option<(u32, usize)>
     ensures { result ≡ decoded_at at (front (drop at text.now)) }
 {
-    if text.len() <= at {
-        return Decoded::End;
-    }
-    let a = wide(text[at]);
+    let a = *text.get(at)?;
     if a < 0x80 {
-        return Decoded::Char(a, at + 1);
+        return Some((u32::from(a), at + 1));
     }
-    if 2 < text.len() - at {
-        let b = wide(text[at + 1]);
-        if is_two(a, b) {
-            return Decoded::Char(two_code(a, b), at + 2);
-        }
-        let d = joined(text[at + 1], text[at + 2]);
-        if is_three(0x2080, 0x3080, a, wide(text[at + 2]), d) {
-            return Decoded::Char(d - 0x80, at + 3);
-        }
+    if let Some(found) = short_at(text, at, is_two, 0x2000..0x3000) {
+        return Some(found);
     }
     long_at(text, at)
 }
@@ -223,22 +168,12 @@ pub fn glyph_at(text: &[u8], at: usize) -> Decoded
 pub fn above_end(text: &[u8], at: usize) -> usize
     ensures { Above text.now at result }
 {
-    let mut i = at;
     if text.len() < at {
         return at;
     }
-    while 2 < text.len() - i {
-        let a = wide(text[i]);
-        if is_two(a, wide(text[i + 1])) {
-            i += 2;
-        } else {
-            let d = joined(text[i + 1], text[i + 2]);
-            if is_three(0x2080, 0x3080, a, wide(text[i + 2]), d) {
-                i += 3;
-            } else {
-                return i;
-            }
-        }
+    let mut i = at;
+    while let Some((_, next)) = short_at(text, i, is_two, 0x2000..0x3000) {
+        i = next;
     }
     i
 }
@@ -248,50 +183,35 @@ pub fn valid_up_to(text: &[u8]) -> usize
     ensures { result ≡ valid_up_to text.now }
 {
     let mut i = 0;
-    loop {
-        let d = char_at(text, i);
-        match d {
-            Decoded::Char(_, next) => {
-                i = next;
-            }
-            Decoded::Invalid => return i,
-            Decoded::End => return i,
-        }
+    while let Some((_, next)) = char_at(text, i) {
+        i = next;
     }
+    i
 }
 
 // Whether a code point is in the set that a text may use.
 pub fn is_admitted(c: u32) -> bool
     ensures { result ≡ within admitted c }
 {
-    match c {
-        0x0000..=0x02C1 | 0x0370..=0x0481 | 0x2190..=0x243F => true,
-        _ => false,
-    }
+    matches!(c, 0x0000..=0x02C1 | 0x0370..=0x0481 | 0x2190..=0x243F)
 }
 
-// The first character outside that set, in the longest UTF-8 beginning.
-pub fn first_outside(text: &[u8]) -> Outside
+// The place of the first character outside that set, in the longest UTF-8 beginning.
+pub fn first_outside(text: &[u8]) -> Option<usize>
     ensures { result ≡ first_outside text.now }
 {
     let mut i = 0;
-    loop {
-        let d = char_at(text, i);
-        match d {
-            Decoded::Char(c, next) => {
-                if is_admitted(c) {
-                    i = next;
-                } else {
-                    return Outside::At(i);
-                }
-            }
-            Decoded::Invalid => return Outside::Nowhere,
-            Decoded::End => return Outside::Nowhere,
+    while let Some((c, next)) = char_at(text, i) {
+        if !is_admitted(c) {
+            return Some(i);
         }
+        i = next;
     }
+    None
 }
 
 // Eight bytes, or-ed together: below 80 where all are ASCII.
+#[tactic(auto, unfolding(crate::specs::Blocks::ors))]
 fn eight(text: &[u8], at: usize) -> u8
     requires { at + 8 ≤ length text.now }
     ensures { result ≡ ors text.now at }
@@ -303,141 +223,94 @@ fn eight(text: &[u8], at: usize) -> u8
 // The place behind two bytes, if they are ASCII; else that of the first.
 fn ascii_two(text: &[u8], at: usize) -> usize
     requires { at + 2 ≤ length text.now }
-    ensures { (at ≤ result) × (result ≤ length text.now) × (result + sizes (decode (drop result text.now)) ≡ at + sizes (decode (drop at text.now))) × (outside_from result (decode (drop result text.now)) ≡ outside_from at (decode (drop at text.now))) }
+    ensures { Passes text.now at result }
 {
-    let x = text[at] | text[at + 1];
-    if 0x80 <= x {
-        return at;
+    if (text[at] | text[at + 1]) < 0x80 {
+        at + 2
+    } else {
+        at
     }
-    at + 2
 }
 
 // A place before which all bytes are ASCII, from one on: blocks of eight are passed over; where the third byte says that there is none, two bytes.
 fn ascii_blocks(text: &[u8], at: usize) -> usize
     requires { at ≤ length text.now }
-    ensures { (at ≤ result) × (result ≤ length text.now) × (result + sizes (decode (drop result text.now)) ≡ at + sizes (decode (drop at text.now))) × (outside_from result (decode (drop result text.now)) ≡ outside_from at (decode (drop at text.now))) }
+    ensures { Passes text.now at result }
 {
-    let mut i = at;
     if text.len() - at < 8 {
         return at;
     }
     if 0x80 <= text[at + 2] {
         return ascii_two(text, at);
     }
-    while 8 <= text.len() - i {
-        if 0x80 <= eight(text, i) {
-            return i;
-        }
+    let mut i = at;
+    while 8 <= text.len() - i && eight(text, i) < 0x80 {
         i += 8;
     }
     i
 }
 
+// How many ASCII bytes stand at a text's front.
+fn ascii_len(text: &[u8]) -> usize
+    ensures inside { result ≤ length text.now }
+    ensures first { result ≡ unwrap_or (position (λ b. nat_le 0x80 b) text.now) (length text.now) }
+{
+    text.iter().position(|b| 0x80 <= *b).unwrap_or(text.len())
+}
+
 // The same, byte by byte to the first byte above ASCII or the end.
 fn ascii_end(text: &[u8], at: usize) -> usize
     requires { at ≤ length text.now }
-    ensures { (at ≤ result) × (result ≤ length text.now) × (result + sizes (decode (drop result text.now)) ≡ at + sizes (decode (drop at text.now))) × (outside_from result (decode (drop result text.now)) ≡ outside_from at (decode (drop at text.now))) }
+    ensures { Passes text.now at result }
 {
-    let mut i = ascii_blocks(text, at);
-    while i < text.len() {
-        if 0x80 <= text[i] {
-            return i;
-        }
-        i += 1;
-    }
-    i
+    let i = ascii_blocks(text, at);
+    i + ascii_len(&text[i..])
 }
 
 // The place behind the ASCII bytes at a place: three where a character above ASCII follows, as between two quoted symbols; else as far as they go.
 fn ascii_gap(text: &[u8], at: usize) -> usize
-    requires { (at < length text.now) × (get_or text.now at 0 < 0x80) }
-    ensures { (at < result) × (result ≤ length text.now) × (result + sizes (decode (drop result text.now)) ≡ at + sizes (decode (drop at text.now))) × (outside_from result (decode (drop result text.now)) ≡ outside_from at (decode (drop at text.now))) }
+    requires inside { at < length text.now }
+    requires ascii { get_or text.now at 0 < 0x80 }
+    ensures more { at < result }
+    ensures passes { Passes text.now at result }
 {
-    if 3 < text.len() - at {
-        if 0x80 <= text[at + 3] {
-            let x = text[at + 1] | text[at + 2];
-            if x < 0x80 {
-                return at + 3;
-            }
-        }
+    if 3 < text.len() - at && 0x80 <= text[at + 3] && (text[at + 1] | text[at + 2]) < 0x80 {
+        return at + 3;
     }
     ascii_end(text, at + 1)
 }
 
-// Whether two bytes are a character of the set, where the first byte tells it: from C2 to CA and from CE to D1.
-fn plain_two(a: u32, b: u32) -> bool
-    ensures { result ≡ plain_two a b }
+// The place behind the character of the set at a place, if the first bytes tell that one stands there; those of three bytes are 2190 to 243F.
+fn plain_short(text: &[u8], at: usize) -> Option<usize>
+    requires { at ≤ length text.now }
+    ensures { IfSome result (λ next. Some next ≡ plain_next at (front (drop at text.now))) }
 {
-    if a < 0xCB {
-        if a < 0xC2 {
-            return false;
-        }
-        return is_tail(b);
-    }
-    if a < 0xCE {
-        return false;
-    }
-    if a < 0xD2 {
-        return is_tail(b);
-    }
-    false
+    let (_, next) = short_at(text, at, plain_two, 0x2190..0x2440)?;
+    Some(next)
 }
 
-// The place behind the character of the set at a place whose first byte is above ASCII; that place itself where none stands there.
-fn plain_long(text: &[u8], at: usize) -> usize
-    requires { (at < length text.now) × (0x80 ≤ get_or text.now at 0) }
-    ensures { result ≡ plain_step at (front (drop at text.now)) }
+// The place behind the character of the set at a place whose first byte is above ASCII, if one stands there: the first bytes tell it for nearly all.
+fn plain_next(text: &[u8], at: usize) -> Option<usize>
+    requires inside { at < length text.now }
+    requires above { 0x80 ≤ get_or text.now at 0 }
+    ensures { result ≡ plain_next at (front (drop at text.now)) }
 {
-    let d = long_at(text, at);
-    match d {
-        Decoded::Char(c, next) => {
-            if is_admitted(c) {
-                return next;
-            }
-            at
-        }
-        Decoded::Invalid => at,
-        Decoded::End => at,
+    if let Some(next) = plain_short(text, at) {
+        return Some(next);
     }
-}
-
-// The same, by the first byte, a, for nearly all characters of the set; those of three bytes are 2190 to 243F.
-fn plain_step(text: &[u8], at: usize, a: u32) -> usize
-    requires { (at < length text.now) × (a ≡ get_or text.now at 0) × (0x80 ≤ a) }
-    ensures { result ≡ plain_step at (front (drop at text.now)) }
-{
-    if text.len() - at < 3 {
-        return plain_long(text, at);
-    }
-    if plain_two(a, wide(text[at + 1])) {
-        return at + 2;
-    }
-    let d = joined(text[at + 1], text[at + 2]);
-    if is_three(0x2210, 0x24C0, a, wide(text[at + 2]), d) {
-        return at + 3;
-    }
-    plain_long(text, at)
+    let (c, next) = long_at(text, at)?;
+    is_admitted(c).then_some(next)
 }
 
 // The place behind the characters of the set at a place, as far as their first bytes tell them, one behind the other: in a text of glyphs most stand in such
 // runs.
 fn plain_run(text: &[u8], at: usize) -> usize
     requires { at ≤ length text.now }
-    ensures { (at ≤ result) × (result ≤ length text.now) × (result + sizes (decode (drop result text.now)) ≡ at + sizes (decode (drop at text.now))) × (outside_from result (decode (drop result text.now)) ≡ outside_from at (decode (drop at text.now))) }
+    ensures { Passes text.now at result }
 {
     let mut i = at;
-    while 2 < text.len() - i {
-        let a = wide(text[i]);
-        if plain_two(a, wide(text[i + 1])) {
-            i += 2;
-        } else {
-            let d = joined(text[i + 1], text[i + 2]);
-            if is_three(0x2210, 0x24C0, a, wide(text[i + 2]), d) {
-                i += 3;
-            } else {
-                return i;
-            }
-        }
+    while let Some(next) = plain_short(text, i) {
+        i = next;
     }
     i
 }
@@ -447,21 +320,17 @@ pub fn plain_up_to(text: &[u8]) -> usize
     ensures { result ≡ plain_up_to text.now }
 {
     let mut at = 0;
-    loop {
-        if text.len() <= at {
-            return at;
-        }
-        let a = wide(text[at]);
-        if a < 0x80 {
+    while at < text.len() {
+        if text[at] < 0x80 {
             at = ascii_gap(text, at);
         } else {
-            let next = plain_step(text, at, a);
-            if next == at {
+            let Some(next) = plain_next(text, at) else {
                 return at;
-            }
+            };
             at = plain_run(text, next);
         }
     }
+    at
 }
 
 // The class of a code point.

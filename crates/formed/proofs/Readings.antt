@@ -10,8 +10,7 @@ use lib.Dec.{ltb}
 use lib.ListN.{length, length-append, length-replicate}
 use Rattle.chars.specs.Utf8.{decode, valid_up_to}
 use Rattle.chars.specs.Class.{first_outside}
-use Rattle.chars.specs.declared.Outside.{Outside}
-use Rattle.chars.specs.declared.Outside.TheVariants.{At, Nowhere}
+use Rattle.std.specs.Prelude.{Option as Perhaps, Some, None}
 use Rattle.lexer.specs.Tokens.{Span}
 use Rattle.language.specs.Lines.{Line, read_lines}
 use Rattle.language.specs.Assembly.{Diagnostic, diagnostics}
@@ -41,10 +40,10 @@ head_or d (refused r) = d
 -- ---- rows 1 to 4
 
 -- what the four tests give
-abbrev rows : Bool → Bool → Bool → ℕ → Outside → Option Refusal
+abbrev rows : Bool → Bool → Bool → ℕ → Perhaps ℕ → Option Refusal
 rows long short invalid n o = elim long as (λ _. Option Refusal) [
   | true ↦ some text_too_long
-  | false ↦ elim short [ true ↦ some work_too_short | false ↦ elim invalid [ true ↦ some (invalid_utf8 n) | false ↦ elim o [ At p ↦ some (outside_set p) | Nowhere ↦ none ] ] ]
+  | false ↦ elim short [ true ↦ some work_too_short | false ↦ elim invalid [ true ↦ some (invalid_utf8 n) | false ↦ elim o [ Some p ↦ some (outside_set p) | None ↦ none ] ] ]
 ]
 
 -- whether there is no refusal
@@ -52,7 +51,7 @@ abbrev passes : Option Refusal → Bool
 passes none = true
 passes (some r) = false
 
-any-work : (long short invalid : Bool) (n : ℕ) (o : Outside) → passes (rows long short invalid n o) ≡ true → passes (rows long false invalid n o) ≡ true
+any-work : (long short invalid : Bool) (n : ℕ) (o : Perhaps ℕ) → passes (rows long short invalid n o) ≡ true → passes (rows long false invalid n o) ≡ true
 any-work true short invalid n o e = e
 any-work false true invalid n o e = absurd (false≢true e)
 any-work false false invalid n o e = e

@@ -12,8 +12,7 @@ use lib.ListN.{length, drop}
 use lib.Seq.{take-append_seam}
 use Rattle.chars.specs.Utf8.{decode, valid_up_to}
 use Rattle.chars.specs.Class.{first_outside}
-use Rattle.chars.specs.declared.Outside.{Outside}
-use Rattle.chars.specs.declared.Outside.TheVariants.{At, Nowhere}
+use Rattle.std.specs.Prelude.{Option as Perhaps, Some, None}
 use Rattle.chars.proofs.Theorems.{valid_le}
 use Rattle.lexer.specs.Tokens.{Span}
 use Rattle.language.specs.Lines.{Line, read_lines}
@@ -29,24 +28,24 @@ use Rattle.language.proofs.RoundTrip.{content_of_text, Reads, round_trip, forms_
 -- ---- rows 1 to 4
 
 -- what the four tests give
-abbrev rows : Bool → Bool → Bool → ℕ → Outside → Option Refusal
+abbrev rows : Bool → Bool → Bool → ℕ → Perhaps ℕ → Option Refusal
 rows long short invalid n o = elim long as (λ _. Option Refusal) [
   | true ↦ some text_too_long
-  | false ↦ elim short [ true ↦ some work_too_short | false ↦ elim invalid [ true ↦ some (invalid_utf8 n) | false ↦ elim o [ At p ↦ some (outside_set p) | Nowhere ↦ none ] ] ]
+  | false ↦ elim short [ true ↦ some work_too_short | false ↦ elim invalid [ true ↦ some (invalid_utf8 n) | false ↦ elim o [ Some p ↦ some (outside_set p) | None ↦ none ] ] ]
 ]
 
 -- a text that passes them is short and UTF-8, and passes with any work that is long enough
-record Passed (long invalid : Bool) (n : ℕ) (o : Outside) : Type 0 where
+record Passed (long invalid : Bool) (n : ℕ) (o : Perhaps ℕ) : Type 0 where
   not_long : long ≡ false
   not_invalid : invalid ≡ false
   passes : rows long false invalid n o ≡ none
 
-passed : (long short invalid : Bool) (n : ℕ) (o : Outside) → elim (rows long short invalid n o) [ none ↦ true | some r ↦ false ] ≡ true → Passed long invalid n o
+passed : (long short invalid : Bool) (n : ℕ) (o : Perhaps ℕ) → elim (rows long short invalid n o) [ none ↦ true | some r ↦ false ] ≡ true → Passed long invalid n o
 passed true short invalid n o e = absurd (false≢true e)
 passed false true invalid n o e = absurd (false≢true e)
 passed false false true n o e = absurd (false≢true e)
-passed false false false n (At p) e = absurd (false≢true e)
-passed false false false n Nowhere e = record { not_long = refl; not_invalid = refl; passes = refl }
+passed false false false n (Some p) e = absurd (false≢true e)
+passed false false false n None e = record { not_long = refl; not_invalid = refl; passes = refl }
 
 module _ (t : List ℕ) (h : admitted t ≡ true) where
   facts : Passed (ltb max_bytes (length t)) (ltb (valid_up_to t) (length t)) (valid_up_to t) (first_outside t)

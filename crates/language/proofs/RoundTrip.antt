@@ -12,8 +12,7 @@ use lib.ListN.{length}
 use Rattle.chars.specs.Ranges.{within}
 use Rattle.chars.specs.Utf8.{scalars, size, decode, encode, valid_up_to}
 use Rattle.chars.specs.Class.{outside_from, first_outside}
-use Rattle.chars.specs.declared.Outside.{Outside}
-use Rattle.chars.specs.declared.Outside.TheVariants.{At, Nowhere}
+use Rattle.std.specs.Prelude.{Option as Perhaps, Some, None}
 use Rattle.chars.proofs.Theorems.{decode-encode, encode_valid}
 use Rattle.lexer.specs.Tokens.{Span}
 use Rattle.language.specs.Content.{Content, content_of}
@@ -52,15 +51,15 @@ unfolding scalars
 fine_scalars [] h = refl
 fine_scalars (c ∷ cs) h = rw (lt-ltb c 0xD800 (fine_small c h.0)) (fine_scalars cs h.1)
 
-outside_fine : (o : ℕ) (cs : List ℕ) → AllFine cs → outside_from o cs ≡ Nowhere
+outside_fine : (o : ℕ) (cs : List ℕ) → AllFine cs → outside_from o cs ≡ None
 unfolding outside_from fine
 outside_fine o [] h = refl
 outside_fine o (c ∷ cs) h = rw (h.0, outside_from) (outside_fine (o + size c) cs h.1)
 
-some-place : (o : ℕ) → At o ≡ Nowhere → ⊥
+some-place : (o : ℕ) → Some o ≡ None → ⊥
 some-place o e = let z : ◌≡◌ {A = ℕ} 0 1 = cc in omega arith
 
-nowhere_fine : (o : ℕ) (cs : List ℕ) → outside_from o cs ≡ Nowhere → AllFine cs
+nowhere_fine : (o : ℕ) (cs : List ℕ) → outside_from o cs ≡ None → AllFine cs
 unfolding outside_from fine
 nowhere_fine o [] e = tt
 nowhere_fine o (c ∷ cs) e = by_test (fine c) (λ h. (h, nowhere_fine (o + size c) cs (sym (rw (h, outside_from)) ∙ e))) (λ h. absurd (some-place o (sym (rw (h, outside_from)) ∙ e)))
@@ -68,20 +67,20 @@ nowhere_fine o (c ∷ cs) e = by_test (fine c) (λ h. (h, nowhere_fine (o + size
 -- ---- admitted texts
 
 -- the four tests of rows 1 to 4, by what they gave
-abbrev gate : Bool → Bool → Bool → ℕ → Outside → Bool
+abbrev gate : Bool → Bool → Bool → ℕ → Perhaps ℕ → Bool
 gate long short invalid n o = elim (
     elim long as (λ _. Option Refusal) [
       | true ↦ some text_too_long
-      | false ↦ elim short [ true ↦ some work_too_short | false ↦ elim invalid [ true ↦ some (invalid_utf8 n) | false ↦ elim o [ At p ↦ some (outside_set p) | Nowhere ↦ none ] ] ]
+      | false ↦ elim short [ true ↦ some work_too_short | false ↦ elim invalid [ true ↦ some (invalid_utf8 n) | false ↦ elim o [ Some p ↦ some (outside_set p) | None ↦ none ] ] ]
     ]
     ) [ none ↦ true | some r ↦ false ]
 
-gate_open : (long short invalid : Bool) (n : ℕ) (o : Outside) → gate long short invalid n o ≡ true → o ≡ Nowhere
+gate_open : (long short invalid : Bool) (n : ℕ) (o : Perhaps ℕ) → gate long short invalid n o ≡ true → o ≡ None
 gate_open true short invalid n o e = absurd (false≢true e)
 gate_open false true invalid n o e = absurd (false≢true e)
 gate_open false false true n o e = absurd (false≢true e)
-gate_open false false false n (At p) e = absurd (false≢true e)
-gate_open false false false n Nowhere e = refl
+gate_open false false false n (Some p) e = absurd (false≢true e)
+gate_open false false false n None e = refl
 
 -- the characters of an admitted text are of the set
 pub admitted_fine : (t : List ℕ) → admitted t ≡ true → AllFine (decode t)
@@ -94,7 +93,7 @@ unfolding admitted first_outside
 fine_admitted cs h k =
     let t = encode cs in
     let valid : valid_up_to t ≡ length t = encode_valid cs (fine_scalars cs h) in
-    let outside : first_outside t ≡ Nowhere = ap (outside_from 0) (decode-encode cs (fine_scalars cs h)) ∙ outside_fine 0 cs h in
+    let outside : first_outside t ≡ None = ap (outside_from 0) (decode-encode cs (fine_scalars cs h)) ∙ outside_fine 0 cs h in
     λ i. gate (le-ltb max_bytes (length t) k i) (le-ltb (work_needed (length t)) (work_needed (length t)) (omega arith) i) ((ap (λ n. ltb n (length t)) valid ∙ le-ltb (length t) (length t) (omega arith)) i) (valid_up_to t) (outside i)
 
 -- ---- diagnostics

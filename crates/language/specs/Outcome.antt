@@ -1,9 +1,8 @@
 -- Paper 01, "What a call returns": the whole outcome of a call, from what it was lent.
-use Rattle.std.specs.Prelude.{ℕ, ◌+◌, ◌-◌, ◌*◌, ◌/◌, ◌%◌, Bool, true, false, ◌&&◌, ◌||◌, List, [], ◌∷◌, ◌++◌, leb, ltb, length, get_or, take, drop, replicate}
+use Rattle.std.specs.Prelude.{ℕ, ◌+◌, ◌-◌, ◌*◌, ◌/◌, ◌%◌, Bool, true, false, ◌&&◌, ◌||◌, List, [], ◌∷◌, ◌++◌, Some, None, leb, ltb, length, get_or, take, drop, replicate}
 use Rattle.std.proofs.Math.Option.{Option, none, some}
 use Rattle.chars.specs.Utf8.{decode, encode, valid_up_to}
 use Rattle.chars.specs.Class.{first_outside}
-use Rattle.chars.specs.declared.Outside.TheVariants.{At, Nowhere}
 use Rattle.lexer.specs.Tokens.{Span}
 use Rattle.language.specs.Content.{content_of}
 use Rattle.language.specs.Lines.{Line, read_lines}
@@ -68,7 +67,7 @@ refusal_of t work =
         | true ↦ some work_too_short
         | false ↦ elim (ltb (valid_up_to t) (length t)) [
           | true ↦ some (invalid_utf8 (valid_up_to t))
-          | false ↦ elim (first_outside t) [ At o ↦ some (outside_set o) | Nowhere ↦ none ]
+          | false ↦ elim (first_outside t) [ Some o ↦ some (outside_set o) | None ↦ none ]
         ]
       ]
     ]

@@ -1,20 +1,19 @@
 -- The tests of an ASCII character by ranges: a test that computes says that they agree with those by class.
-use mathlib.Core.Path.{◌≡◌, refl, sym, ap, subst, ◌∙◌}
+use mathlib.Core.Path.{◌≡◌, refl, sym, ap, ◌∙◌}
 use Prim.Native.Nat.{ℕ, zero, suc, ◌+◌, ◌-◌, ◌≤◌, ◌<◌, zero-le}
 use native.Mathlib.Omega.{arith}
-use mathlib.Core.Logic.{◌⊎◌, inl, inr, ⊎_elim}
-use mathlib.Core.Bool.{Bool, true, false, cond, ◌&&◌, ◌||◌, not}
+use mathlib.Core.Logic.{⊎_elim}
+use mathlib.Core.Bool.{Bool, true, false, ◌&&◌, ◌||◌, not}
 use mathlib.Core.List.{List, [], ◌∷◌, ◌++◌}
 use mathlib.Core.Option.{some}
 use lib.Dec.{leb, eqb}
 use borrow.Author.Tests.{leb-true, le-leb}
 use types.Run.{OneOf}
 use Rattle.chars.specs.Class.{classes, class_of}
-use Rattle.chars.specs.declared.Class.{Class}
 use Rattle.chars.specs.declared.Class.TheVariants.{Letter, Other}
 use Rattle.chars.proofs.Tests.{lt-or-ge, or_cases, and_both}
 use Rattle.chars.proofs.Segments.{has, over, one_over, Not, no_none, no_more, all_of}
-use Rattle.lexer.specs.Tokens.{is_letter, is_digit, is_space, is_word_continue, is_ascii_digit, is_whitespace}
+use Rattle.lexer.specs.Tokens.{is_word_continue, is_ascii_digit, is_whitespace}
 use Rattle.lexer.proofs.Scans.{by_test, digit_range}
 use Rattle.lexer.proofs.Keywords.{all_below, all_below_lem}
 

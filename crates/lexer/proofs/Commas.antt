@@ -1,6 +1,6 @@
 -- A comma behind a token: written if one stands there, and then the state of `fill`'s loop is the one behind it.
 use mathlib.Core.Path.{◌≡◌, refl, sym, ap, subst, ◌∙◌}
-use mathlib.Core.Bool.{Bool, true, false, cond}
+use mathlib.Core.Bool.{cond}
 use mathlib.Core.List.{List, [], ◌∷◌}
 use Prim.Native.Nat.{ℕ, ◌+◌, ◌-◌, ◌*◌, ◌≤◌, ◌<◌}
 use native.Mathlib.Omega.{arith}
@@ -11,10 +11,8 @@ use mir.Syntax.{w32, w64}
 use mir.Val.{Fits}
 use borrow.Author.Tests.{eqb-true, eq-eqb, ne_eqb, leb-true, leb-false}
 use Rattle.chars.specs.Utf8.{decode}
-use Rattle.lexer.specs.Places.{piece}
+use Rattle.lexer.specs.Places.{Found, Tok, piece}
 use Rattle.lexer.specs.Quick.{lead_of, leads_from, leads, WordAt, quick_value, quick_piece, comma_words, WordPut}
-use Rattle.lexer.specs.declared.Piece.{Piece}
-use Rattle.lexer.specs.declared.Piece.TheVariants.{Token as Tok}
 use Rattle.lexer.proofs.Scans.{by_test}
 use Rattle.lexer.proofs.Leads.{quick_lead}
 use Rattle.lexer.proofs.Writes.{State, word_end_in, token_falls, state_token, state_quick}
@@ -88,7 +86,7 @@ module _ (t : List ℕ) (at : ℕ) where
         subst (λ (i : ℕ). State t w₀ w' i (n + r)) here (subst (λ (i : ℕ). State t w₀ w' at i) same (subst (λ (v : List ℕ). State t w₀ v at n) (sym words) st)))
 
 -- ---- a token and the comma behind it
-module _ (t w₀ w : List ℕ) (at n : ℕ) (r : Piece) (st : State t w₀ w at n) (s : r ≡ piece at (decode (drop at t))) (k e v m : ℕ) (p : r ≡ Tok k e v m) where
+module _ (t w₀ w : List ℕ) (at n : ℕ) (r : Found) (st : State t w₀ w at n) (s : r ≡ piece at (decode (drop at t))) (k e v m : ℕ) (p : r ≡ Tok k e v m) where
   module _ (w' : List ℕ) (q : w' ≡ sets w (4 * n) (k ∷ at ∷ e ∷ v ∷ [])) where
     after : State t w₀ w' m (n + 1)
     after = state_token t w₀ w at n r st s k e v m p w' q

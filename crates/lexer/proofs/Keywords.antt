@@ -1,20 +1,19 @@
 -- Laws of names: when two are equal, parts of a text, and the table of keywords.
-use mathlib.Core.Path.{◌≡◌, refl, sym, ap, subst, ◌∙◌}
+use mathlib.Core.Path.{◌≡◌, refl, sym, ap, ◌∙◌}
 use Prim.Native.Nat.{ℕ, zero, suc, ◌+◌, ◌-◌, ◌≤◌, ◌<◌}
 use native.Mathlib.Omega.{arith}
 use native.Mathlib.Numerals.{add-one}
-use mathlib.Core.Logic.{◌⊎◌, inl, inr, ⊎_elim}
-use mathlib.Core.Bool.{Bool, true, false, cond, ◌&&◌}
-use mathlib.Core.List.{List, [], ◌∷◌, ◌++◌, map}
+use mathlib.Core.Logic.{⊎_elim}
+use mathlib.Core.Bool.{Bool, true, false, ◌&&◌}
+use mathlib.Core.List.{List, [], ◌∷◌}
 use lib.Dec.{eqb, leb}
 use lib.ListN.{length, get_or, take, drop, drop_of_length-le}
 use lib.Seq.{drop-cons}
-use borrow.Author.Tests.{eq-eqb, ne_eqb, eqb-true, eqb-false, leb-true, le-leb, lt-leb}
-use Rattle.chars.specs.Utf8.{encode}
+use borrow.Author.Tests.{eq-eqb, ne_eqb, eqb-true, eqb-false, le-leb, lt-leb}
 use Rattle.chars.proofs.Tests.{and_both, lt-or-ge}
 use Rattle.chars.proofs.Segments.{has, Not, no_none, no_more}
 use Rattle.lexer.specs.Text.{same}
-use Rattle.lexer.specs.Words.{keywords, keyword_bytes, position, numbered, keywords_of, number_in}
+use Rattle.lexer.specs.Words.{keyword_bytes, position, numbered, keywords_of, number_in}
 use Rattle.lexer.specs.Places.{part}
 use Rattle.lexer.proofs.Scans.{by_test}
 

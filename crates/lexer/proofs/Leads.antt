@@ -1,6 +1,6 @@
 -- Tokens of one ASCII character: what the table and the byte behind the character say is what the definition says.
 use mathlib.Core.Path.{◌≡◌, refl, sym, ap, subst, ◌∙◌}
-use Prim.Native.Nat.{ℕ, zero, suc, ◌+◌, ◌-◌, ◌%◌, ◌≤◌, ◌<◌, min}
+use Prim.Native.Nat.{ℕ, zero, suc, ◌+◌, ◌%◌, ◌≤◌, ◌<◌, min}
 use native.Mathlib.Omega.{arith}
 use native.Mathlib.Nat.{add-zero}
 use mathlib.Core.Bool.{Bool, true, false, cond, not}
@@ -16,13 +16,11 @@ use Rattle.chars.proofs.Laws.{decode-end}
 use Rattle.chars.proofs.Blocks.{ascii_decode}
 use Rattle.lexer.specs.Tokens.{sign, tok, is_digit, is_ascii_digit, is_word_continue, run, word_step, number_step, step}
 use Rattle.lexer.specs.Words.{sign_number, position, keyword_bytes, value_from, value}
-use Rattle.lexer.specs.Places.{part, piece_of, piece}
+use Rattle.lexer.specs.Places.{part, Found, Tok, piece_of, piece}
 use Rattle.lexer.specs.Quick.{other_lead, lead_of, leads_from, leads, WordAt, quick_value, quick_piece}
-use Rattle.lexer.specs.declared.Piece.{Piece}
-use Rattle.lexer.specs.declared.Piece.TheVariants.{Token as Tok, Gap}
 use Rattle.lexer.proofs.Scans.{by_test, run_true, run_false, run-nil, sizes-nil, digit_range}
 use Rattle.lexer.proofs.Keywords.{all_below, all_below_lem}
-use Rattle.lexer.proofs.Pieces.{word-one, word_long, number_token, step_class, step-word, step_sign, sign_token, piece_of_lem, from_feed, from_space, from_sign}
+use Rattle.lexer.proofs.Pieces.{word-one, word_long, number_token, step_class, step-word, step_sign, sign_token, piece_of_lem, from_feed, from_space}
 
 -- ---- the table
 leads_from_lem : (n c j : ℕ) → j < n → get_or (leads_from n c) j 0 ≡ lead_of (c + j)
@@ -201,7 +199,7 @@ module _ (t : List ℕ) (at : ℕ) (h : at < length t) (ascii : get_or t at 0 < 
   ascii_next : at + 1 ≡ at + size (get_or t at 0)
   ascii_next = omega (arith, size_ascii (get_or t at 0) ascii)
 
-  ascii_seen : (y : Piece) → y ≡ piece_of at (at + 1) (decode (drop (at + 1) t)) (step (get_or t at 0) (decode (drop (at + 1) t))) → y ≡ piece at (decode (drop at t))
+  ascii_seen : (y : Found) → y ≡ piece_of at (at + 1) (decode (drop (at + 1) t)) (step (get_or t at 0) (decode (drop (at + 1) t))) → y ≡ piece at (decode (drop at t))
   unfolding piece
   ascii_seen y p =
       p ∙ ap (λ (j : ℕ). piece_of at j (decode (drop (at + 1) t)) (step (get_or t at 0) (decode (drop (at + 1) t)))) ascii_next
@@ -209,7 +207,7 @@ module _ (t : List ℕ) (at : ℕ) (h : at < length t) (ascii : get_or t at 0 < 
 
 -- ---- `word_value`
 module _ (t : List ℕ) (at end : ℕ) (w : WordAt t at) (g : end ≡ at + 1 + sizes (run is_word_continue (decode (drop (at + 1) t)))) where
-  word-seen : (y : Piece) → y ≡ piece_of at (at + 1) (decode (drop (at + 1) t)) (word_step (get_or t at 0) (decode (drop (at + 1) t))) → y ≡ piece at (decode (drop at t))
+  word-seen : (y : Found) → y ≡ piece_of at (at + 1) (decode (drop (at + 1) t)) (word_step (get_or t at 0) (decode (drop (at + 1) t))) → y ≡ piece at (decode (drop at t))
   word-seen y p =
       let r : List ℕ = decode (drop (at + 1) t) in
       ascii_seen t at w.inside w.ascii y (piece_of_lem at (at + 1) r _ _ _ (word-lead (get_or t at 0) r w.lead) p)
@@ -247,7 +245,7 @@ module _ (t table : List ℕ) (at x k : ℕ) (i : table ≡ leads) (h : at < len
   next : at + 1 ≡ at + size (get_or t at 0)
   next = ascii_next t at h ascii
 
-  seen : (y : Piece) → y ≡ piece_of at (at + 1) (decode (drop (at + 1) t)) (step (get_or t at 0) (decode (drop (at + 1) t))) → y ≡ piece at (decode (drop at t))
+  seen : (y : Found) → y ≡ piece_of at (at + 1) (decode (drop (at + 1) t)) (step (get_or t at 0) (decode (drop (at + 1) t))) → y ≡ piece at (decode (drop at t))
   seen = ascii_seen t at h ascii
 
   pub no_word : k ≡ 18 → WordAt t at

@@ -3,44 +3,22 @@ use mathlib.Core.Path.{◌≡◌, refl, sym, ap, ◌∙◌}
 use Prim.Native.Nat.{ℕ, ◌+◌, ◌-◌, ◌≤◌, ◌<◌}
 use native.Mathlib.Omega.{arith}
 use mathlib.Core.Bool.{Bool, true, false, ◌&&◌, not}
-use mathlib.Core.List.{List, [], ◌∷◌}
+use mathlib.Core.List.{List}
 use lib.Dec.{leb, ltb, eqb}
 use lib.ListN.{length, get_or, drop}
-use borrow.Author.Tests.{leb-true, ltb-true, eqb-false, ne_eqb}
-use Rattle.chars.specs.Utf8.{sizes, front, decode, decoded_at}
-use Rattle.chars.specs.declared.Decoded.{Decoded}
-use Rattle.chars.specs.declared.Decoded.TheVariants.{Char}
+use borrow.Author.Tests.{leb-true, ltb-true, eqb-false}
+use Rattle.chars.specs.Utf8.{front, decode, decoded_at}
+use Rattle.std.specs.Prelude.{Option as Perhaps, Some}
 use Rattle.chars.proofs.Tests.{and_both}
 use Rattle.chars.proofs.Front.{char_at_ascii}
-use Rattle.chars.proofs.Segments.{no_none, no_more}
-use Rattle.chars.proofs.Blocks.{many, below_eight}
+use Rattle.chars.proofs.Blocks.{many}
 use Rattle.lexer.specs.Tokens.{is_whitespace}
 use Rattle.lexer.specs.Places.{string_end}
-use Rattle.lexer.specs.Blocks.{plain_byte, inner_byte, all_eight}
-use Rattle.lexer.specs.declared.StringEnd.{StringEnd}
+use Rattle.lexer.specs.Blocks.{plain_byte, inner_byte}
 use Rattle.lexer.proofs.Scans.{by_test, Lined, lined_white, lined_other, string-plain}
 use Rattle.lexer.proofs.Ascii.{blank_dark}
 
--- ---- the eight bytes
-pub eight_of : (f : ℕ → Bool) (t : List ℕ) (i : ℕ) (a b c d e g h k : Bool) → a ≡ f (get_or t i 0) → b ≡ f (get_or t (i + 1) 0) → c ≡ f (get_or t (i + 2) 0) → d ≡ f (get_or t (i + 3) 0)
-    → e ≡ f (get_or t (i + 4) 0) → g ≡ f (get_or t (i + 5) 0) → h ≡ f (get_or t (i + 6) 0) → k ≡ f (get_or t (i + 7) 0)
-    → (((a && b) && (c && d)) && ((e && g) && (h && k))) ≡ all_eight f t i
-unfolding all_eight
-eight_of f t i a b c d e g h k p q r s u v w x = cc
-
-all_eight_lem : (f : ℕ → Bool) (t : List ℕ) (i : ℕ) → all_eight f t i ≡ true → (j : ℕ) → j < 8 → f (get_or t (i + j) 0) ≡ true
-unfolding all_eight
-all_eight_lem f t i e =
-    let z : i + 0 ≡ i = omega arith in
-    let u = and_both _ _ e in
-    let l = and_both _ _ u.0 in
-    let r = and_both _ _ u.1 in
-    let a = and_both (f (get_or t i 0)) (f (get_or t (i + 1) 0)) l.0 in
-    let b = and_both (f (get_or t (i + 2) 0)) (f (get_or t (i + 3) 0)) l.1 in
-    let c = and_both (f (get_or t (i + 4) 0)) (f (get_or t (i + 5) 0)) r.0 in
-    let d = and_both (f (get_or t (i + 6) 0)) (f (get_or t (i + 7) 0)) r.1 in
-    below_eight (λ (j : ℕ). f (get_or t (i + j) 0) ≡ true) (rw z a.0) a.1 b.0 b.1 c.0 c.1 d.0 d.1
-
+-- ---- the bytes
 plain-range : (b : ℕ) → plain_byte b ≡ true → (0x20 ≤ b) × (b < 0x80)
 unfolding plain_byte
 plain-range b e = let w = and_both (leb 0x20 b) (ltb b 0x80) e in (leb-true 0x20 b w.0, ltb-true b 0x80 w.1)
@@ -52,14 +30,14 @@ not_true false e = refl
 inner_range : (b : ℕ) → inner_byte b ≡ true → (0x20 ≤ b) × (b < 0x80) × (eqb b 0x22 ≡ false) × (eqb b 0x5C ≡ false)
 unfolding inner_byte
 inner_range b e =
-    let w = and_both _ _ e in
-    let u = and_both (leb 0x20 b) (ltb b 0x80) w.0 in
-    let v = and_both (not (eqb b 0x22)) (not (eqb b 0x5C)) w.1 in
-    (leb-true 0x20 b u.0, ltb-true b 0x80 u.1, not_true (eqb b 0x22) v.0, not_true (eqb b 0x5C) v.1)
+    let w = and_both (plain_byte b && not (eqb b 0x22)) (not (eqb b 0x5C)) e in
+    let u = and_both (plain_byte b) (not (eqb b 0x22)) w.0 in
+    let v = plain-range b u.0 in
+    (v.0, v.1, not_true (eqb b 0x22) u.1, not_true (eqb b 0x5C) w.1)
 
 -- ---- a line
 module _ (t : List ℕ) (at i : ℕ) (h : i < length t) (p : plain_byte (get_or t i 0) ≡ true) (last : ℕ) (st : Lined t at i last) where
-  here : Char (get_or t i 0) (i + 1) ≡ decoded_at i (front (drop i t))
+  here : Some (get_or t i 0, i + 1) ≡ decoded_at i (front (drop i t))
   here = char_at_ascii t i (get_or t i 0) h refl (plain-range (get_or t i 0) p).1
 
   no_feed : get_or t i 0 ≡ 10 → ⊥
@@ -68,22 +46,22 @@ module _ (t : List ℕ) (at i : ℕ) (h : i < length t) (p : plain_byte (get_or 
   line_dark : (get_or t i 0 ≡ 0x20 → ⊥) → Lined t at (i + 1) (i + 1)
   line_dark f =
       let w = plain-range (get_or t i 0) p in
-      lined_other t at i last (Char (get_or t i 0) (i + 1)) here st (get_or t i 0) (i + 1) refl no_feed false (sym (blank_dark (get_or t i 0) w.0 w.1 f)) refl
+      lined_other t at i last (Some (get_or t i 0, i + 1)) here st (get_or t i 0) (i + 1) refl no_feed false (sym (blank_dark (get_or t i 0) w.0 w.1 f)) refl
 
   line-any : (n : ℕ) × Lined t at (i + 1) n
   line-any =
       by_test (is_whitespace (get_or t i 0))
-      (λ e. (last, lined_white t at i last (Char (get_or t i 0) (i + 1)) here st (get_or t i 0) (i + 1) refl no_feed true (sym e) refl))
-      (λ e. (i + 1, lined_other t at i last (Char (get_or t i 0) (i + 1)) here st (get_or t i 0) (i + 1) refl no_feed false (sym e) refl))
+      (λ e. (last, lined_white t at i last (Some (get_or t i 0, i + 1)) here st (get_or t i 0) (i + 1) refl no_feed true (sym e) refl))
+      (λ e. (i + 1, lined_other t at i last (Some (get_or t i 0, i + 1)) here st (get_or t i 0) (i + 1) refl no_feed false (sym e) refl))
 
   line_blank : get_or t i 0 ≡ 0x20 → Lined t at (i + 1) last
   unfolding is_whitespace
   line_blank e =
-      lined_white t at i last (Char (get_or t i 0) (i + 1)) here st (get_or t i 0) (i + 1) refl no_feed true (sym (ap is_whitespace e)) refl
+      lined_white t at i last (Some (get_or t i 0, i + 1)) here st (get_or t i 0) (i + 1) refl no_feed true (sym (ap is_whitespace e)) refl
 
-module _ (t : List ℕ) (at i last : ℕ) (b : Bool) (h : 8 ≤ length t - i) (st : Lined t at i last) (e : b ≡ all_eight plain_byte t i) (p : b ≡ true) where
+module _ (t : List ℕ) (at i last : ℕ) (h : 8 ≤ length t - i) (st : Lined t at i last) (e : (j : ℕ) → j < 8 → true ≡ plain_byte (get_or t (i + j) 0)) where
   each-plain : (j : ℕ) → j < 8 → plain_byte (get_or t (i + j) 0) ≡ true
-  each-plain = all_eight_lem plain_byte t i (sym e ∙ p)
+  each-plain j l = sym (e j l)
 
   -- after k of them
   after : (k : ℕ) → k ≤ 8 → (n : ℕ) × Lined t at (i + k) n
@@ -109,15 +87,15 @@ module _ (t : List ℕ) (at i last : ℕ) (b : Bool) (h : 8 ≤ length t - i) (s
       rw u at m
 
 -- ---- a string
-string_inner : (t : List ℕ) (i : ℕ) (v : StringEnd) → i < length t → inner_byte (get_or t i 0) ≡ true → string_end false i (decode (drop i t)) ≡ v → string_end false (i + 1) (decode (drop (i + 1) t)) ≡ v
+string_inner : (t : List ℕ) (i : ℕ) (v : Perhaps ℕ) → i < length t → inner_byte (get_or t i 0) ≡ true → string_end false i (decode (drop i t)) ≡ v → string_end false (i + 1) (decode (drop (i + 1) t)) ≡ v
 string_inner t i v h p q =
     let c : ℕ = get_or t i 0 in
     let w = inner_range c p in
     sym (ap (λ (b : Bool). string_end b (i + 1) (decode (drop (i + 1) t))) w.3)
-    ∙ string-plain t 0 i false (Char c (i + 1)) (char_at_ascii t i c h refl w.1) v q c (i + 1) refl (λ (z : c ≡ 10). omega arith) refl (eqb-false c 0x22 w.2)
+    ∙ string-plain t 0 i false (Some (c, i + 1)) (char_at_ascii t i c h refl w.1) v q c (i + 1) refl (λ (z : c ≡ 10). omega arith) refl (eqb-false c 0x22 w.2)
 
-pub string-eight : (t : List ℕ) (i : ℕ) (b : Bool) (v : StringEnd) → 8 ≤ length t - i → b ≡ all_eight inner_byte t i → b ≡ true
+pub string-eight : (t : List ℕ) (i : ℕ) (v : Perhaps ℕ) → 8 ≤ length t - i → ((j : ℕ) → j < 8 → true ≡ inner_byte (get_or t (i + j) 0))
     → string_end false i (decode (drop i t)) ≡ v → string_end false (i + 8) (decode (drop (i + 8) t)) ≡ v
-string-eight t i b v h e p q =
+string-eight t i v h e q =
     many t (λ (j : ℕ). string_end false j (decode (drop j t)) ≡ v) (λ (x : ℕ). inner_byte x ≡ true) (λ j g r s. string_inner t j v g r s) 8 i (omega arith)
-    (all_eight_lem inner_byte t i (sym e ∙ p)) q
+    (λ j l. sym (e j l)) q

@@ -1,38 +1,32 @@
 -- Laws of the pieces: what each way through the code of `lex` answers.
-use mathlib.Core.Path.{◌≡◌, refl, sym, ap, subst, ◌∙◌}
-use Prim.Native.Nat.{ℕ, zero, suc, ◌+◌, ◌-◌, ◌*◌, ◌≤◌, ◌<◌, min}
+use mathlib.Core.Path.{◌≡◌, refl, sym, ap, ◌∙◌}
+use Prim.Native.Nat.{ℕ, zero, suc, ◌+◌, ◌-◌, ◌≤◌, ◌<◌, min}
 use native.Mathlib.Omega.{arith}
-use mathlib.Core.Bool.{Bool, true, false, cond, ◌&&◌, ◌||◌, not}
-use mathlib.Core.Logic.{◌⊎◌, ⊎_elim}
-use mathlib.Core.List.{List, [], ◌∷◌, ◌++◌, map}
+use mathlib.Core.Bool.{Bool, true, false, cond, ◌&&◌}
+use mathlib.Core.Logic.{⊎_elim}
+use mathlib.Core.List.{List, [], ◌∷◌, map}
 use lib.Dec.{eqb}
 use lib.ListN.{length, get_or, take, drop, take-append-drop}
-use borrow.Author.Tests.{eq-eqb, ne_eqb, eqb-true, eqb-false}
+use borrow.Author.Tests.{eq-eqb, ne_eqb, eqb-true}
 use mir.Syntax.{w32, w64}
 use mir.Val.{Fits}
 use Rattle.chars.specs.Utf8.{size, sizes, scalars, Front, one, bad, none, front, decoded_at, decode, encode}
 use Rattle.chars.specs.Class.{class_of}
 use Rattle.chars.specs.declared.Class.{Class}
 use Rattle.chars.specs.declared.Class.TheVariants.{Letter, Digit, Space, Sign, Other}
-use Rattle.chars.specs.declared.Decoded.{Decoded}
-use Rattle.chars.specs.declared.Decoded.TheVariants.{Char, Invalid}
-use Rattle.chars.specs.declared.Decoded
+use Rattle.std.specs.Prelude.{Option as Perhaps, Some, None}
 use Rattle.chars.proofs.Tests.{and_both, lt-or-ge}
 use Rattle.chars.proofs.Blocks.{ascii_decode}
 use Rattle.chars.proofs.Short.{high_char}
 use Rattle.chars.proofs.Encoding.{size-range}
-use Rattle.chars.proofs.Laws.{decode-end, decode_bad, decode-none, front-decode, char_next, char_decode, char_le, invalid_decode, end-decode, points_next, points_le}
+use Rattle.chars.proofs.Laws.{decode-end, decode_bad, decode-none, front-decode, char_next, char_decode, none_decode, points_next, points_le}
 use Rattle.chars.proofs.Theorems.{part_bytes, part-scalars, encode_injective}
 use Rattle.lexer.specs.Text.{same}
-use Rattle.lexer.specs.Tokens.{TokenKind, word, number, quoted, str, sign, comment, newline, unterminated_string, unterminated_quote, Span, Token, token_at, is_letter, is_digit, is_word_start, is_ascii_digit, is_word_continue, is_whitespace, run, line, trim_cons, trim_end, indent, comment_text, Inside, closed, unclosed, inside, Step, gap, tok, word_step, number_step, string_step, quoted_step, comment_step, slash_step, other_step, step}
+use Rattle.lexer.specs.Tokens.{TokenKind, word, number, quoted, str, sign, comment, newline, unterminated_string, unterminated_quote, token_at, is_digit, is_ascii_digit, is_word_continue, is_whitespace, run, line, trim_cons, trim_end, indent, comment_text, Inside, closed, unclosed, inside, Step, gap, tok, word_step, number_step, string_step, quoted_step, comment_step, slash_step, other_step, step}
 use Rattle.lexer.specs.Words.{keywords, keyword_bytes, keyword, position, value, sign_number, kind_number, word_value, token_value}
-use Rattle.lexer.specs.Places.{starts_with, part, line_at, string_end, piece_of, piece}
+use Rattle.lexer.specs.Places.{starts_with, part, line_at, string_end, Found, Tok, Gap, End, piece_of, piece}
 use Rattle.lexer.specs.declared.Line.{Line}
-use Rattle.lexer.specs.declared.StringEnd.{StringEnd}
-use Rattle.lexer.specs.declared.StringEnd.TheVariants.{Closed, Unclosed}
-use Rattle.lexer.specs.declared.Piece.{Piece}
-use Rattle.lexer.specs.declared.Piece.TheVariants.{Token as Tok, Gap, End}
-use Rattle.lexer.proofs.Scans.{by_test, run_true, run_false, sizes-nil, sizes-cons, run-nil}
+use Rattle.lexer.proofs.Scans.{by_test, run_true, run_false, sizes-nil, sizes-cons}
 use Rattle.lexer.proofs.Keywords.{same_true, same_refl, tests_equal, part-inside}
 
 -- ---- the first character
@@ -78,7 +72,7 @@ pub piece_tok : (o n : ℕ) (r : List ℕ) (t : TokenKind) (w a b k e v m : ℕ)
 unfolding piece_of
 piece_tok o n r t w a b k e v m p q g = cc
 
-pub piece_of_lem : (o n : ℕ) (r : List ℕ) (s s' : Step) (x : Piece) → s ≡ s' → x ≡ piece_of o n r s' → x ≡ piece_of o n r s
+pub piece_of_lem : (o n : ℕ) (r : List ℕ) (s s' : Step) (x : Found) → s ≡ s' → x ≡ piece_of o n r s' → x ≡ piece_of o n r s
 piece_of_lem o n r s s' x p q = q ∙ sym (ap (piece_of o n r) p)
 
 -- the beginnings that the scans find
@@ -125,14 +119,11 @@ quoted_char : (x : ℕ) (r : List ℕ) → (x ≡ 10 → ⊥) → quoted_step (x
 unfolding quoted_step
 quoted_char x r f = rw (ne_eqb x 10 f, quoted_step)
 
-module _ (t : List ℕ) (at : ℕ) (r : Decoded) (s : r ≡ decoded_at (at + 1) (front (drop (at + 1) t))) where
-  pub quoted_invalid : r ≡ Invalid → Tok 15 (at + 1) 0 (at + 1) ≡ piece_of at (at + 1) (decode (drop (at + 1) t)) (quoted_step (decode (drop (at + 1) t)))
-  quoted_invalid e = piece_of_lem at (at + 1) _ _ _ _ (ap quoted_step (invalid_decode t (at + 1) r s e) ∙ quoted-nil) (lone at (decode (drop (at + 1) t)))
+module _ (t : List ℕ) (at : ℕ) (r : Perhaps (ℕ × ℕ)) (s : r ≡ decoded_at (at + 1) (front (drop (at + 1) t))) where
+  pub quoted_none : r ≡ None → Tok 15 (at + 1) 0 (at + 1) ≡ piece_of at (at + 1) (decode (drop (at + 1) t)) (quoted_step (decode (drop (at + 1) t)))
+  quoted_none e = piece_of_lem at (at + 1) _ _ _ _ (ap quoted_step (none_decode t (at + 1) r s e) ∙ quoted-nil) (lone at (decode (drop (at + 1) t)))
 
-  pub quoted-end : r ≡ Decoded.End → Tok 15 (at + 1) 0 (at + 1) ≡ piece_of at (at + 1) (decode (drop (at + 1) t)) (quoted_step (decode (drop (at + 1) t)))
-  quoted-end e = piece_of_lem at (at + 1) _ _ _ _ (ap quoted_step (end-decode t (at + 1) r s e) ∙ quoted-nil) (lone at (decode (drop (at + 1) t)))
-
-  module _ (c n : ℕ) (e : r ≡ Char c n) where
+  module _ (c n : ℕ) (e : r ≡ Some (c, n)) where
     pub quoted-at_feed : c ≡ 10 → Tok 15 (at + 1) 0 (at + 1) ≡ piece_of at (at + 1) (decode (drop (at + 1) t)) (quoted_step (decode (drop (at + 1) t)))
     quoted-at_feed f =
         piece_of_lem at (at + 1) _ _ _ _ (ap quoted_step (char_decode t (at + 1) r s c n e) ∙ quoted_feed c (decode (drop n t)) f) (lone at (decode (drop (at + 1) t)))
@@ -156,24 +147,24 @@ module _ (t : List ℕ) (at : ℕ) (r : Decoded) (s : r ≡ decoded_at (at + 1) 
           (piece_tok at (at + 1) (c ∷ 0x27 ∷ u) (quoted c) (2 + size c) 0 0 2 (n + 1) c (n + 1) (omega arith) refl (omega arith)))
 
 -- ---- a string
-string_inv : (b : Bool) (at : ℕ) (cs : List ℕ) (n : ℕ) → string_end b at cs ≡ Closed n → (v : List ℕ) × (k : ℕ) × (inside b cs ≡ closed v k) × (n ≡ at + sizes (take k cs))
+string_inv : (b : Bool) (at : ℕ) (cs : List ℕ) (n : ℕ) → string_end b at cs ≡ Some n → (v : List ℕ) × (k : ℕ) × (inside b cs ≡ closed v k) × (n ≡ at + sizes (take k cs))
 unfolding string_end
 string_inv b at cs n e = go (inside b cs) refl
   where
     go : (x : Inside) → inside b cs ≡ x → (v : List ℕ) × (k : ℕ) × (inside b cs ≡ closed v k) × (n ≡ at + sizes (take k cs))
-    go (closed v k) p = let q : Closed (at + sizes (take k cs)) ≡ Closed n = sym (rw (p, string_end)) ∙ e in (v, k, p, cc)
-    go unclosed p = let q : Unclosed ≡ Closed n = sym (rw (p, string_end)) ∙ e in let z : ◌≡◌ {A = ℕ} 0 1 = cc in absurd (omega arith)
+    go (closed v k) p = let q : Some (at + sizes (take k cs)) ≡ Some n = sym (rw (p, string_end)) ∙ e in (v, k, p, cc)
+    go unclosed p = let q : None ≡ Some n = sym (rw (p, string_end)) ∙ e in let z : ◌≡◌ {A = ℕ} 0 1 = cc in absurd (omega arith)
 
-string-open : (b : Bool) (at : ℕ) (cs : List ℕ) → string_end b at cs ≡ Unclosed → inside b cs ≡ unclosed
+string-open : (b : Bool) (at : ℕ) (cs : List ℕ) → string_end b at cs ≡ None → inside b cs ≡ unclosed
 unfolding string_end
 string-open b at cs e = go (inside b cs) refl
   where
     go : (x : Inside) → inside b cs ≡ x → inside b cs ≡ unclosed
-    go (closed v k) p = let q : Closed (at + sizes (take k cs)) ≡ Unclosed = sym (rw (p, string_end)) ∙ e in let z : ◌≡◌ {A = ℕ} 0 1 = cc in absurd (omega arith)
+    go (closed v k) p = let q : Some (at + sizes (take k cs)) ≡ None = sym (rw (p, string_end)) ∙ e in let z : ◌≡◌ {A = ℕ} 0 1 = cc in absurd (omega arith)
     go unclosed p = p
 
-module _ (t : List ℕ) (at : ℕ) (r : StringEnd) (s : r ≡ string_end false (at + 1) (decode (drop (at + 1) t))) where
-  pub string_token : (n : ℕ) → r ≡ Closed n → Tok 3 n 1 n ≡ piece_of at (at + 1) (decode (drop (at + 1) t)) (string_step (decode (drop (at + 1) t)))
+module _ (t : List ℕ) (at : ℕ) (r : Perhaps ℕ) (s : r ≡ string_end false (at + 1) (decode (drop (at + 1) t))) where
+  pub string_token : (n : ℕ) → r ≡ Some n → Tok 3 n 1 n ≡ piece_of at (at + 1) (decode (drop (at + 1) t)) (string_step (decode (drop (at + 1) t)))
   unfolding string_step kind_number token_value
   string_token n e =
       let cs : List ℕ = decode (drop (at + 1) t) in
@@ -184,7 +175,7 @@ module _ (t : List ℕ) (at : ℕ) (r : StringEnd) (s : r ≡ string_end false (
       piece_of_lem at (at + 1) cs _ (tok (str v) (1 + sizes (take k cs)) 1 1 k) _ (rw (w.2, string_step))
       (piece_tok at (at + 1) cs (str v) (1 + sizes (take k cs)) 1 1 k n 1 n (omega arith) (omega arith) p)
 
-  pub string-rest : (l : Line) → r ≡ Unclosed → l ≡ line_at (at + 1) (decode (drop (at + 1) t))
+  pub string-rest : (l : Line) → r ≡ None → l ≡ line_at (at + 1) (decode (drop (at + 1) t))
       → Tok 14 l.trimmed 0 l.end ≡ piece_of at (at + 1) (decode (drop (at + 1) t)) (string_step (decode (drop (at + 1) t)))
   unfolding string_step kind_number token_value line_at
   string-rest l e g =
@@ -278,7 +269,7 @@ module _ (t : List ℕ) (at : ℕ) (b : Bool) (h : b ≡ starts_with 0x2F (decod
   unfolding size
   slash_in e = omega (arith, starts_in t (at + 1) 0x2F b h e)
 
-  pub slash-comment : (x : Piece) → b ≡ true → x ≡ piece_of at (at + 1) (0x2F ∷ decode (drop (at + 2) t)) (comment_step (decode (drop (at + 2) t)))
+  pub slash-comment : (x : Found) → b ≡ true → x ≡ piece_of at (at + 1) (0x2F ∷ decode (drop (at + 2) t)) (comment_step (decode (drop (at + 2) t)))
       → x ≡ piece_of at (at + 1) (decode (drop (at + 1) t)) (slash_step (decode (drop (at + 1) t)))
   unfolding size
   slash-comment x e p =
@@ -405,16 +396,25 @@ unfolding keyword_bytes
 word_fits name k q = omega (arith, position-le keyword_bytes 1 name)
 
 -- ---- a number
-pub number_token : (t : List ℕ) (at c next end v : ℕ) → next ≡ at + size c → decode (drop at t) ≡ c ∷ decode (drop next t) → is_ascii_digit c ≡ true
-    → end ≡ next + sizes (run is_ascii_digit (decode (drop next t))) → v ≡ min (value (run is_ascii_digit (decode (drop at t)))) 256
-    → Tok 1 end v end ≡ piece_of at next (decode (drop next t)) (number_step c (decode (drop next t)))
-unfolding number_step kind_number token_value
-number_token t at c next end v m d p g e =
-    let r : List ℕ = decode (drop next t) in
-    let w : List ℕ = run is_ascii_digit r in
-    piece_tok at next r (number (c ∷ w)) (size c + sizes w) 0 0 (length w) end v end (omega arith)
-    (e ∙ ap (λ (l : List ℕ). min (value l) 256) (ap (run is_ascii_digit) d ∙ run_true is_ascii_digit c r p))
-    (g ∙ ap (λ (l : List ℕ). next + sizes l) (sym (run_prefix is_ascii_digit r)))
+module _ (t : List ℕ) (at c next end v : ℕ) (m : next ≡ at + size c) (d : decode (drop at t) ≡ c ∷ decode (drop next t)) (p : is_ascii_digit c ≡ true) where
+  pub number_token : end ≡ next + sizes (run is_ascii_digit (decode (drop next t))) → v ≡ min (value (run is_ascii_digit (decode (drop at t)))) 256
+      → Tok 1 end v end ≡ piece_of at next (decode (drop next t)) (number_step c (decode (drop next t)))
+  unfolding number_step kind_number token_value
+  number_token g e =
+      let r : List ℕ = decode (drop next t) in
+      let w : List ℕ = run is_ascii_digit r in
+      piece_tok at next r (number (c ∷ w)) (size c + sizes w) 0 0 (length w) end v end (omega arith)
+      (e ∙ ap (λ (l : List ℕ). min (value l) 256) (ap (run is_ascii_digit) d ∙ run_true is_ascii_digit c r p))
+      (g ∙ ap (λ (l : List ℕ). next + sizes l) (sym (run_prefix is_ascii_digit r)))
+
+  -- the same by a scan from its first digit on
+  pub number_at : end ≡ at + sizes (run is_ascii_digit (decode (drop at t))) → v ≡ min (value (run is_ascii_digit (decode (drop at t)))) 256
+      → Tok 1 end v end ≡ piece_of at next (decode (drop next t)) (number_step c (decode (drop next t)))
+  number_at g e =
+      let w : List ℕ = run is_ascii_digit (decode (drop next t)) in
+      let q : run is_ascii_digit (decode (drop at t)) ≡ c ∷ w = ap (run is_ascii_digit) d ∙ run_true is_ascii_digit c (decode (drop next t)) p in
+      let o : end ≡ at + (size c + sizes w) = g ∙ ap (λ (l : List ℕ). at + sizes l) q ∙ ap (λ (n : ℕ). at + n) (sizes-cons c w) in
+      number_token (omega arith) e
 
 -- ---- a character of no class, and the first character of any piece
 pub step-word : (c : ℕ) (r : List ℕ) → c ≡ 0x5F → other_step c r ≡ word_step c r
@@ -450,7 +450,7 @@ step_class c r f Sign e = rw (ne_eqb c 10 f, step) (rw e)
 step_class c r f Other e = rw (ne_eqb c 10 f, step) (rw e)
 
 module _ (t : List ℕ) (at c next : ℕ) (m : next ≡ at + size c) where
-  pub other_word : (x : Piece) → c ≡ 0x5F → x ≡ piece_of at next (decode (drop next t)) (word_step c (decode (drop next t))) → x ≡ piece_of at next (decode (drop next t)) (other_step c (decode (drop next t)))
+  pub other_word : (x : Found) → c ≡ 0x5F → x ≡ piece_of at next (decode (drop next t)) (word_step c (decode (drop next t))) → x ≡ piece_of at next (decode (drop next t)) (other_step c (decode (drop next t)))
   other_word x e p = piece_of_lem at next _ _ _ x (step-word c (decode (drop next t)) e) p
 
   pub other_sign : (k : ℕ) → (c ≡ 0x5F → ⊥) → (c ≡ 0x22 → ⊥) → (c ≡ 0x27 → ⊥) → (c ≡ 0x2F → ⊥) → k ≡ sign_number c
@@ -458,27 +458,27 @@ module _ (t : List ℕ) (at c next : ℕ) (m : next ≡ at + size c) where
   other_sign k f g h i e = piece_of_lem at next _ _ _ _ (step_sign c (decode (drop next t)) f g h i) (sign_token at c next k (decode (drop next t)) m e)
 
   -- ---- a quote or a slash: the piece at the place behind a character of one byte
-  moved : (x : Piece) (s : List ℕ → Step) → at + 1 ≡ next → step c (decode (drop next t)) ≡ s (decode (drop next t))
+  moved : (x : Found) (s : List ℕ → Step) → at + 1 ≡ next → step c (decode (drop next t)) ≡ s (decode (drop next t))
       → x ≡ piece_of at (at + 1) (decode (drop (at + 1) t)) (s (decode (drop (at + 1) t))) → x ≡ piece_of at next (decode (drop next t)) (step c (decode (drop next t)))
   moved x s o q p = piece_of_lem at next _ _ _ x q (p ∙ ap (λ (j : ℕ). piece_of at j (decode (drop j t)) (s (decode (drop j t)))) o)
 
-  pub from_string : (x : Piece) → c ≡ 0x22 → x ≡ piece_of at (at + 1) (decode (drop (at + 1) t)) (string_step (decode (drop (at + 1) t)))
+  pub from_string : (x : Found) → c ≡ 0x22 → x ≡ piece_of at (at + 1) (decode (drop (at + 1) t)) (string_step (decode (drop (at + 1) t)))
       → x ≡ piece_of at next (decode (drop next t)) (step c (decode (drop next t)))
   unfolding size step
   from_string x e p = moved x string_step (one-next at c 0x22 next m e refl) (ap (λ (y : ℕ). step y (decode (drop next t))) e) p
 
-  pub from_quoted : (x : Piece) → c ≡ 0x27 → x ≡ piece_of at (at + 1) (decode (drop (at + 1) t)) (quoted_step (decode (drop (at + 1) t)))
+  pub from_quoted : (x : Found) → c ≡ 0x27 → x ≡ piece_of at (at + 1) (decode (drop (at + 1) t)) (quoted_step (decode (drop (at + 1) t)))
       → x ≡ piece_of at next (decode (drop next t)) (step c (decode (drop next t)))
   unfolding size step
   from_quoted x e p = moved x quoted_step (one-next at c 0x27 next m e refl) (ap (λ (y : ℕ). step y (decode (drop next t))) e) p
 
-  pub from_slash : (x : Piece) → c ≡ 0x2F → x ≡ piece_of at (at + 1) (decode (drop (at + 1) t)) (slash_step (decode (drop (at + 1) t)))
+  pub from_slash : (x : Found) → c ≡ 0x2F → x ≡ piece_of at (at + 1) (decode (drop (at + 1) t)) (slash_step (decode (drop (at + 1) t)))
       → x ≡ piece_of at next (decode (drop next t)) (step c (decode (drop next t)))
   unfolding size step
   from_slash x e p = moved x slash_step (one-next at c 0x2F next m e refl) (ap (λ (y : ℕ). step y (decode (drop next t))) e) p
 
   -- an ASCII letter
-  pub from_latin : (y : Piece) (b : Bool) → (b ≡ true → class_of c ≡ Letter) → b ≡ true → y ≡ piece_of at next (decode (drop next t)) (word_step c (decode (drop next t)))
+  pub from_latin : (y : Found) (b : Bool) → (b ≡ true → class_of c ≡ Letter) → b ≡ true → y ≡ piece_of at next (decode (drop next t)) (word_step c (decode (drop next t)))
       → y ≡ piece_of at next (decode (drop next t)) (step c (decode (drop next t)))
   unfolding class_of
   from_latin y b f e q = piece_of_lem at next _ _ _ y (step_class c (decode (drop next t)) (λ (z : c ≡ 10). feed_letter (ap class_of (sym z) ∙ f e)) Letter (f e)) q
@@ -494,7 +494,7 @@ module _ (t : List ℕ) (at c next : ℕ) (m : next ≡ at + size c) where
       (piece_tok at next (decode (drop next t)) newline 1 0 0 0 next 0 next (sym (one-next at c 10 next m e refl)) refl (no_bytes next))
 
   module _ (f : c ≡ 10 → ⊥) (k : Class) (e : k ≡ class_of c) where
-    from_class : (x : Class) (y : Piece) → k ≡ x → y ≡ piece_of at next (decode (drop next t)) (by_class x c (decode (drop next t)))
+    from_class : (x : Class) (y : Found) → k ≡ x → y ≡ piece_of at next (decode (drop next t)) (by_class x c (decode (drop next t)))
         → y ≡ piece_of at next (decode (drop next t)) (step c (decode (drop next t)))
     from_class x y p q = piece_of_lem at next _ _ _ y (step_class c (decode (drop next t)) f x (sym e ∙ p)) q
 
@@ -502,18 +502,18 @@ module _ (t : List ℕ) (at c next : ℕ) (m : next ≡ at + size c) where
     unfolding piece_of
     from_space p = from_class Space (Gap next) p refl
 
-    pub from_letter : (y : Piece) → k ≡ Letter → y ≡ piece_of at next (decode (drop next t)) (word_step c (decode (drop next t)))
+    pub from_letter : (y : Found) → k ≡ Letter → y ≡ piece_of at next (decode (drop next t)) (word_step c (decode (drop next t)))
         → y ≡ piece_of at next (decode (drop next t)) (step c (decode (drop next t)))
     from_letter y p q = from_class Letter y p q
 
-    pub from_digit : (y : Piece) → k ≡ Digit → y ≡ piece_of at next (decode (drop next t)) (number_step c (decode (drop next t)))
+    pub from_digit : (y : Found) → k ≡ Digit → y ≡ piece_of at next (decode (drop next t)) (number_step c (decode (drop next t)))
         → y ≡ piece_of at next (decode (drop next t)) (step c (decode (drop next t)))
     from_digit y p q = from_class Digit y p q
 
     pub from_sign : (n : ℕ) → k ≡ Sign → n ≡ sign_number c → Tok n next c next ≡ piece_of at next (decode (drop next t)) (step c (decode (drop next t)))
     from_sign n p q = from_class Sign (Tok n next c next) p (sign_token at c next n (decode (drop next t)) m q)
 
-    pub from_other : (y : Piece) → k ≡ Other → y ≡ piece_of at next (decode (drop next t)) (other_step c (decode (drop next t)))
+    pub from_other : (y : Found) → k ≡ Other → y ≡ piece_of at next (decode (drop next t)) (other_step c (decode (drop next t)))
         → y ≡ piece_of at next (decode (drop next t)) (step c (decode (drop next t)))
     from_other y p q = from_class Other y p q
 
@@ -532,21 +532,17 @@ module _ (t : List ℕ) (at : ℕ) (b : Bool) (e : b ≡ starts_with 0x27 (decod
   unfolding size
   quote_in p = omega (arith, starts_in t at 0x27 b e p)
 
-  pub piece-quoted : (y : Piece) → b ≡ true → y ≡ piece_of at (at + 1) (decode (drop (at + 1) t)) (quoted_step (decode (drop (at + 1) t))) → y ≡ piece at (decode (drop at t))
+  pub piece-quoted : (y : Found) → b ≡ true → y ≡ piece_of at (at + 1) (decode (drop (at + 1) t)) (quoted_step (decode (drop (at + 1) t))) → y ≡ piece at (decode (drop at t))
   unfolding piece size step
   piece-quoted y p q = q ∙ sym (ap (piece at) (starts-rest t at 0x27 b e p))
 
-module _ (t : List ℕ) (at : ℕ) (r : Decoded) (s : r ≡ decoded_at at (front (drop at t))) where
-  pub piece_char : (c n : ℕ) (y : Piece) → r ≡ Char c n → y ≡ piece_of at n (decode (drop n t)) (step c (decode (drop n t))) → y ≡ piece at (decode (drop at t))
+module _ (t : List ℕ) (at : ℕ) (r : Perhaps (ℕ × ℕ)) (s : r ≡ decoded_at at (front (drop at t))) where
+  pub piece_char : (c n : ℕ) (y : Found) → r ≡ Some (c, n) → y ≡ piece_of at n (decode (drop n t)) (step c (decode (drop n t))) → y ≡ piece at (decode (drop at t))
   unfolding piece
   piece_char c n y e p =
       p ∙ ap (λ (j : ℕ). piece_of at j (decode (drop n t)) (step c (decode (drop n t)))) (char_next t at r s c n e)
       ∙ sym (ap (piece at) (char_decode t at r s c n e))
 
-  pub piece_invalid : r ≡ Invalid → End ≡ piece at (decode (drop at t))
+  pub piece_none : r ≡ None → End ≡ piece at (decode (drop at t))
   unfolding piece
-  piece_invalid e = sym (ap (piece at) (invalid_decode t at r s e))
-
-  pub piece-end : r ≡ Decoded.End → End ≡ piece at (decode (drop at t))
-  unfolding piece
-  piece-end e = sym (ap (piece at) (end-decode t at r s e))
+  piece_none e = sym (ap (piece at) (none_decode t at r s e))

@@ -1,8 +1,8 @@
 -- The characters at a token's place are those of the token: code that keeps places keeps the values.
 use mathlib.Core.Path.{◌≡◌, refl, sym, ap, subst, ◌∙◌}
-use Prim.Native.Nat.{ℕ, zero, suc, ◌+◌, ◌-◌, ◌*◌, ◌≤◌, ◌<◌}
+use Prim.Native.Nat.{ℕ, zero, suc, ◌+◌, ◌-◌, ◌≤◌, ◌<◌}
 use native.Mathlib.Omega.{arith}
-use mathlib.Core.Bool.{Bool, true, false}
+use mathlib.Core.Bool.{true}
 use mathlib.Core.List.{List, [], ◌∷◌, ◌++◌}
 use lib.ListN.{length, get_or, take, drop, take-append-drop}
 use lib.Seq.{take-add}
@@ -13,7 +13,7 @@ use Rattle.lexer.specs.Text.{same}
 use Rattle.lexer.specs.Tokens.{TokenKind, word, number, quoted, str, sign, comment, newline, unterminated_string, unterminated_quote, Span, span, Token, token_at, Step, gap, tok, step, emit, tokens_from, tokens}
 use Rattle.lexer.specs.Places.{part, chars_at}
 use Rattle.lexer.proofs.Keywords.{part-inside}
-use Rattle.lexer.proofs.Pieces.{jump, jump_le, jump_scalars, same-encode}
+use Rattle.lexer.proofs.Pieces.{jump, jump_le, same-encode}
 use Rattle.lexer.proofs.Steps.{Says, Good, Sides, Fit, Fits, step_fits}
 use Rattle.lexer.proofs.Writes.{sizes-take}
 

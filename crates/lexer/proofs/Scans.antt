@@ -1,29 +1,29 @@
 -- Laws of the scans: what a scan finds from a place on, a character at a time.
-use mathlib.Core.Path.{◌≡◌, refl, sym, ap, subst, ◌∙◌}
-use Prim.Native.Nat.{ℕ, zero, suc, ◌+◌, ◌-◌, ◌*◌, ◌≤◌, ◌<◌, min}
+use mathlib.Core.Path.{◌≡◌, refl, sym, ap, ◌∙◌}
+use Prim.Native.Nat.{ℕ, ◌+◌, ◌-◌, ◌*◌, ◌≤◌, ◌<◌, min}
 use native.Mathlib.Omega.{arith}
-use mathlib.Core.Bool.{Bool, true, false, cond, ◌&&◌, ◌||◌, not}
+use mathlib.Core.Bool.{Bool, true, false, cond, ◌&&◌, ◌||◌}
 use mathlib.Core.List.{List, [], ◌∷◌}
 use mathlib.Core.Option.{Option, none, some}
+use mathlib.Core.Logic.{◌⊎◌, ⊎_elim}
+use denote.Enum.Bare.{sameb}
 use lib.Dec.{eqb, leb}
 use lib.ListN.{length, take, drop}
 use borrow.Author.Tests.{eq-eqb, ne_eqb, eqb-true, eqb-false, leb-true}
-use Rattle.chars.specs.Utf8.{size, sizes, Front, front, decoded_at, decode}
+use Rattle.chars.specs.Utf8.{size, sizes, front, decoded_at, decode}
 use Rattle.chars.specs.Class.{class_of, classes}
 use Rattle.chars.specs.Ranges.{Entry, row, lookup}
 use Rattle.chars.specs.declared.Class.{Class}
 use Rattle.chars.specs.declared.Class.TheVariants.{Letter, Digit, Space, Sign, Other}
-use Rattle.chars.specs.declared.Decoded.{Decoded}
-use Rattle.chars.specs.declared.Decoded.TheVariants.{Char, Invalid, End}
+use Rattle.std.specs.Prelude.{Option as Perhaps, Some, None}
+use Rattle.chars.specs.contracts.Class.{the_type}
 use Rattle.chars.proofs.Tests.{and_both}
 use Rattle.chars.specs.Short.{Above, no_more, one_more}
-use Rattle.chars.proofs.Laws.{char_next, char_lt, char_falls, char_decode, invalid_decode, end-decode}
-use Rattle.lexer.specs.Tokens.{is_letter, is_digit, is_space, is_word_start, is_word_continue, is_ascii_digit, is_whitespace, run, line, trim_cons, trim_end, escape, Inner, ends, breaks, escapes, stands, inner_of, Inside, closed, unclosed, put, pass, inside}
+use Rattle.chars.proofs.Laws.{char_next, char_lt, char_falls, char_decode, none_decode}
+use Rattle.lexer.specs.Tokens.{is_letter, is_digit, is_space, is_word_start, is_word_continue, is_ascii_digit, is_whitespace, run, line, trim_cons, trim_end, escape, Inside, closed, unclosed, put, pass, inside}
 use Rattle.lexer.specs.Words.{value_from, value}
 use Rattle.lexer.specs.Places.{line_at, trimmed_at, string_end}
 use Rattle.lexer.specs.declared.Line.{Line}
-use Rattle.lexer.specs.declared.StringEnd.{StringEnd}
-use Rattle.lexer.specs.declared.StringEnd.TheVariants.{Closed, Unclosed}
 
 -- to go by a test and keep what it said
 pub by_test : {X : Type 0} (b : Bool) → (b ≡ true → X) → (b ≡ false → X) → X
@@ -92,27 +92,21 @@ pub run-nil : (f : ℕ → Bool) → run f [] ≡ []
 unfolding run
 run-nil f = refl
 
-module _ (f : ℕ → Bool) (t : List ℕ) (i : ℕ) (r : Decoded) (s : r ≡ decoded_at i (front (drop i t))) (v : ℕ) (inv : i + sizes (run f (decode (drop i t))) ≡ v) where
-  pub run_on : (c n : ℕ) (w : Bool) → r ≡ Char c n → w ≡ f c → w ≡ true → n + sizes (run f (decode (drop n t))) ≡ v
+module _ (f : ℕ → Bool) (t : List ℕ) (i : ℕ) (r : Perhaps (ℕ × ℕ)) (s : r ≡ decoded_at i (front (drop i t))) (v : ℕ) (inv : i + sizes (run f (decode (drop i t))) ≡ v) where
+  pub run_on : (c n : ℕ) (w : Bool) → r ≡ Some (c, n) → w ≡ f c → w ≡ true → n + sizes (run f (decode (drop n t))) ≡ v
   run_on c n w e p q =
       let d = char_decode t i r s c n e in
       let m = char_next t i r s c n e in
       let u : sizes (run f (decode (drop i t))) ≡ size c + sizes (run f (decode (drop n t))) = rw (d, run_true f c (decode (drop n t)) (sym p ∙ q), sizes-cons) in
       omega arith
 
-  pub run_off : (c n : ℕ) (w : Bool) → r ≡ Char c n → w ≡ f c → w ≡ false → i ≡ v
+  pub run_off : (c n : ℕ) (w : Bool) → r ≡ Some (c, n) → w ≡ f c → w ≡ false → i ≡ v
   run_off c n w e p q =
       let u : sizes (run f (decode (drop i t))) ≡ 0 = rw (char_decode t i r s c n e, run_false f c (decode (drop n t)) (sym p ∙ q), sizes-nil) in
       omega arith
 
-  run_none : decode (drop i t) ≡ [] → i ≡ v
-  run_none d = let u : sizes (run f (decode (drop i t))) ≡ 0 = rw (d, run-nil, sizes-nil) in omega arith
-
-  pub run_invalid : r ≡ Invalid → i ≡ v
-  run_invalid e = run_none (invalid_decode t i r s e)
-
-  pub run_end : r ≡ End → i ≡ v
-  run_end e = run_none (end-decode t i r s e)
+  pub run_none : r ≡ None → i ≡ v
+  run_none e = let u : sizes (run f (decode (drop i t))) ≡ 0 = rw (none_decode t i r s e, run-nil, sizes-nil) in omega arith
 
 -- ---- the value of a number
 -- each row that gives a digit lies within 0 to 9
@@ -169,26 +163,23 @@ pub counted_start : (t : List ℕ) (at : ℕ) → Counted t at at 0
 unfolding value
 counted_start t at = record { small = omega arith; same = refl }
 
-module _ (t : List ℕ) (at i v : ℕ) (r : Decoded) (s : r ≡ decoded_at i (front (drop i t))) (st : Counted t at i v) where
-  pub counted-on : (c n u : ℕ) (w : Bool) → r ≡ Char c n → w ≡ is_ascii_digit c → w ≡ true → u ≡ min (v * 10 + (c - 0x30)) 256 → Counted t at n u
+module _ (t : List ℕ) (at i v : ℕ) (r : Perhaps (ℕ × ℕ)) (s : r ≡ decoded_at i (front (drop i t))) (st : Counted t at i v) where
+  pub counted-on : (c n u : ℕ) (w : Bool) → r ≡ Some (c, n) → w ≡ is_ascii_digit c → w ≡ true → u ≡ min (v * 10 + (c - 0x30)) 256 → Counted t at n u
   unfolding value_from
   counted-on c n u w e p q g =
       let l : List ℕ = run is_ascii_digit (decode (drop n t)) in
       let d : run is_ascii_digit (decode (drop i t)) ≡ c ∷ l = rw (char_decode t i r s c n e, run_true is_ascii_digit c (decode (drop n t)) (sym p ∙ q)) in
       record { small = omega arith; same = value_cut l u (v * 10 + (c - 0x30)) (omega arith) ∙ sym (ap (λ (x : List ℕ). min (value_from v x) 256) d) ∙ st.same }
 
-  counted_none : run is_ascii_digit (decode (drop i t)) ≡ [] → v ≡ min (value (run is_ascii_digit (decode (drop at t)))) 256
+  counted_stop : run is_ascii_digit (decode (drop i t)) ≡ [] → v ≡ min (value (run is_ascii_digit (decode (drop at t)))) 256
   unfolding value_from
-  counted_none d = let e = sym (ap (λ (x : List ℕ). min (value_from v x) 256) d) ∙ st.same in omega arith
+  counted_stop d = let e = sym (ap (λ (x : List ℕ). min (value_from v x) 256) d) ∙ st.same in omega arith
 
-  pub counted_off : (c n : ℕ) (w : Bool) → r ≡ Char c n → w ≡ is_ascii_digit c → w ≡ false → v ≡ min (value (run is_ascii_digit (decode (drop at t)))) 256
-  counted_off c n w e p q = counted_none (rw (char_decode t i r s c n e, run_false is_ascii_digit c (decode (drop n t)) (sym p ∙ q)))
+  pub counted_off : (c n : ℕ) (w : Bool) → r ≡ Some (c, n) → w ≡ is_ascii_digit c → w ≡ false → v ≡ min (value (run is_ascii_digit (decode (drop at t)))) 256
+  counted_off c n w e p q = counted_stop (rw (char_decode t i r s c n e, run_false is_ascii_digit c (decode (drop n t)) (sym p ∙ q)))
 
-  pub counted_invalid : r ≡ Invalid → v ≡ min (value (run is_ascii_digit (decode (drop at t)))) 256
-  counted_invalid e = counted_none (rw (invalid_decode t i r s e, run-nil))
-
-  pub counted-end : r ≡ End → v ≡ min (value (run is_ascii_digit (decode (drop at t)))) 256
-  counted-end e = counted_none (rw (end-decode t i r s e, run-nil))
+  pub counted_none : r ≡ None → v ≡ min (value (run is_ascii_digit (decode (drop at t)))) 256
+  counted_none e = counted_stop (rw (none_decode t i r s e, run-nil))
 
 pub digit_low : (v c : ℕ) (w : Bool) → w ≡ is_ascii_digit c → w ≡ true → 0x30 ≤ c
 digit_low v c w p q = (digit_range c (sym p ∙ q)).0
@@ -240,8 +231,8 @@ pub record Lined (t : List ℕ) (at i last : ℕ) : Type 0 where
 pub lined_start : (t : List ℕ) (at : ℕ) → Lined t at at at
 lined_start t at = record { end = refl; trimmed = trimmed_same at (trim_end (line (decode (drop at t)))) }
 
-module _ (t : List ℕ) (at i last : ℕ) (r : Decoded) (s : r ≡ decoded_at i (front (drop i t))) (st : Lined t at i last) where
-  module _ (c n : ℕ) (e : r ≡ Char c n) where
+module _ (t : List ℕ) (at i last : ℕ) (r : Perhaps (ℕ × ℕ)) (s : r ≡ decoded_at i (front (drop i t))) (st : Lined t at i last) where
+  module _ (c n : ℕ) (e : r ≡ Some (c, n)) where
     module _ (f : c ≡ 10 → ⊥) (w : Bool) (p : w ≡ is_whitespace c) where
       on_line : line (decode (drop i t)) ≡ c ∷ line (decode (drop n t))
       on_line = rw (char_decode t i r s c n e, line_more c (decode (drop n t)) f)
@@ -280,20 +271,17 @@ module _ (t : List ℕ) (at i last : ℕ) (r : Decoded) (s : r ≡ decoded_at i 
       let b : i ≡ at + sizes (line (decode (drop at t))) = omega (arith, st.end, ap sizes d) in
       λ x. record { trimmed = a x; end = b x }
 
-  pub lined_feed : (c n : ℕ) → r ≡ Char c n → c ≡ 10 → ◌≡◌ {A = Line} (record { trimmed = last; end = i }) (line_at at (decode (drop at t)))
+  pub lined_feed : (c n : ℕ) → r ≡ Some (c, n) → c ≡ 10 → ◌≡◌ {A = Line} (record { trimmed = last; end = i }) (line_at at (decode (drop at t)))
   lined_feed c n e f = lined_stop (rw (char_decode t i r s c n e, line_feed c (decode (drop n t)) f))
 
-  pub lined_invalid : r ≡ Invalid → ◌≡◌ {A = Line} (record { trimmed = last; end = i }) (line_at at (decode (drop at t)))
-  lined_invalid e = lined_stop (rw (invalid_decode t i r s e, line-nil))
-
-  pub lined_end : r ≡ End → ◌≡◌ {A = Line} (record { trimmed = last; end = i }) (line_at at (decode (drop at t)))
-  lined_end e = lined_stop (rw (end-decode t i r s e, line-nil))
+  pub lined_none : r ≡ None → ◌≡◌ {A = Line} (record { trimmed = last; end = i }) (line_at at (decode (drop at t)))
+  lined_none e = lined_stop (rw (none_decode t i r s e, line-nil))
 
 -- ---- a string
 -- where a string ends that goes on behind a character c, at the place n
-abbrev end_of : ℕ → List ℕ → Inside → StringEnd
-end_of at cs (closed v n) = Closed (at + sizes (take n cs))
-end_of at cs unclosed = Unclosed
+abbrev end_of : ℕ → List ℕ → Inside → Perhaps ℕ
+end_of at cs (closed v n) = Some (at + sizes (take n cs))
+end_of at cs unclosed = None
 
 string_end_of : (b : Bool) (at : ℕ) (cs : List ℕ) → string_end b at cs ≡ end_of at cs (inside b cs)
 unfolding string_end
@@ -310,7 +298,7 @@ end-put at v cs unclosed = refl
 
 end-pass : (i c : ℕ) (cs : List ℕ) (x : Inside) → end_of i (c ∷ cs) (pass x) ≡ end_of (i + size c) cs x
 unfolding pass sizes
-end-pass i c cs (closed w n) = ap Closed (omega arith)
+end-pass i c cs (closed w n) = ap Some (omega arith)
 end-pass i c cs unclosed = refl
 
 -- how a string goes on behind a character that is no line feed: not at all, with a backslash standing before, or plainly
@@ -337,7 +325,7 @@ end-escaped i e r f = go (escape e) refl
         (rw (ne_eqb e 10 f)
         (end-put i 0x5C (e ∷ r) (put e (pass (inside false r))) ∙ end-put i e (e ∷ r) (pass (inside false r)) ∙ end-pass i e r (inside false r)))
 
-end_feed : (b : Bool) (i c : ℕ) (r : List ℕ) → c ≡ 10 → end_of i (c ∷ r) (inside b (c ∷ r)) ≡ Unclosed
+end_feed : (b : Bool) (i c : ℕ) (r : List ℕ) → c ≡ 10 → end_of i (c ∷ r) (inside b (c ∷ r)) ≡ None
 unfolding inside
 end_feed true i c r e = rw e
 end_feed false i c r e = rw e
@@ -351,34 +339,31 @@ end-plain i c r f g =
     rw (b, inside-plain c r f g (eqb-false c 0x5C b))
     (end-put i c (c ∷ r) (pass (inside false r)) ∙ end-pass i c r (inside false r)))
 
-module _ (t : List ℕ) (at i : ℕ) (b : Bool) (r : Decoded) (s : r ≡ decoded_at i (front (drop i t))) (v : StringEnd) (inv : string_end b i (decode (drop i t)) ≡ v) where
-  stopped : decode (drop i t) ≡ [] → Unclosed ≡ v
+module _ (t : List ℕ) (at i : ℕ) (b : Bool) (r : Perhaps (ℕ × ℕ)) (s : r ≡ decoded_at i (front (drop i t))) (v : Perhaps ℕ) (inv : string_end b i (decode (drop i t)) ≡ v) where
+  stopped : decode (drop i t) ≡ [] → None ≡ v
   unfolding inside
   stopped d = sym (string_end_of b i (decode (drop i t)) ∙ ap (λ (l : List ℕ). end_of i l (inside b l)) d ∙ nothing b) ∙ inv
     where
-      nothing : (b : Bool) → end_of i [] (inside b []) ≡ Unclosed
+      nothing : (b : Bool) → end_of i [] (inside b []) ≡ None
       nothing true = refl
       nothing false = refl
 
-  pub string_invalid : r ≡ Invalid → Unclosed ≡ v
-  string_invalid e = stopped (invalid_decode t i r s e)
+  pub string_none : r ≡ None → None ≡ v
+  string_none e = stopped (none_decode t i r s e)
 
-  pub string_stop : r ≡ End → Unclosed ≡ v
-  string_stop e = stopped (end-decode t i r s e)
-
-  module _ (c n : ℕ) (e : r ≡ Char c n) where
+  module _ (c n : ℕ) (e : r ≡ Some (c, n)) where
     seen : end_of i (c ∷ decode (drop n t)) (inside b (c ∷ decode (drop n t))) ≡ v
     seen = sym (string_end_of b i (decode (drop i t)) ∙ ap (λ (l : List ℕ). end_of i l (inside b l)) (char_decode t i r s c n e)) ∙ inv
 
-    pub string_feed : c ≡ 10 → Unclosed ≡ v
+    pub string_feed : c ≡ 10 → None ≡ v
     string_feed f = sym (end_feed b i c (decode (drop n t)) f) ∙ seen
 
-    pub string_closed : b ≡ false → c ≡ 0x22 → Closed n ≡ v
+    pub string_closed : b ≡ false → c ≡ 0x22 → Some n ≡ v
     unfolding sizes
     string_closed p q =
         let m = char_next t i r s c n e in
         let o : n ≡ i + (size c + 0) = omega arith in
-        ap Closed o ∙ sym (ap (λ (x : Bool). end_of i (c ∷ decode (drop n t)) (inside x (c ∷ decode (drop n t)))) p
+        ap Some o ∙ sym (ap (λ (x : Bool). end_of i (c ∷ decode (drop n t)) (inside x (c ∷ decode (drop n t)))) p
         ∙ ap (end_of i (c ∷ decode (drop n t))) (inside_quote c (decode (drop n t)) q)) ∙ seen
 
     -- the rest is at the place n
@@ -396,18 +381,18 @@ module _ (t : List ℕ) (at i : ℕ) (b : Bool) (r : Decoded) (s : r ≡ decoded
         ∙ sym (ap (λ (x : Bool). end_of i (c ∷ decode (drop n t)) (inside x (c ∷ decode (drop n t)))) p) ∙ seen)
 
 -- behind characters above ASCII a string ends where it ended before them
-behind_above : (t : List ℕ) (n : ℕ) (v : StringEnd) (m : ℕ) → Above t n m → string_end false n (decode (drop n t)) ≡ v → string_end false m (decode (drop m t)) ≡ v
+behind_above : (t : List ℕ) (n : ℕ) (v : Perhaps ℕ) (m : ℕ) → Above t n m → string_end false n (decode (drop n t)) ≡ v → string_end false m (decode (drop m t)) ≡ v
 behind_above t n v m no_more q = q
 behind_above t n v m (one_more {j = j} {c = c} a s h) q =
     ap (λ (x : Bool). string_end x m (decode (drop m t))) (sym (ne_eqb c 0x5C (λ z. omega arith)))
-    ∙ string-plain t 0 j false (Char c m) s v (behind_above t n v j a q) c m refl (λ z. omega arith) refl (λ z. omega arith)
+    ∙ string-plain t 0 j false (Some (c, m)) s v (behind_above t n v j a q) c m refl (λ z. omega arith) refl (λ z. omega arith)
 
 above_le : (t : List ℕ) (n m : ℕ) → Above t n m → n ≤ m
 above_le t n m no_more = omega arith
-above_le t n m (one_more {j = j} {c = c} a s h) = omega (arith, above_le t n j a, char_lt t j (Char c m) s c m refl)
+above_le t n m (one_more {j = j} {c = c} a s h) = omega (arith, above_le t n j a, char_lt t j (Some (c, m)) s c m refl)
 
-module _ (t : List ℕ) (at i : ℕ) (b : Bool) (r : Decoded) (s : r ≡ decoded_at i (front (drop i t))) (v : StringEnd) (inv : string_end b i (decode (drop i t)) ≡ v)
-    (c n : ℕ) (e : r ≡ Char c n) where
+module _ (t : List ℕ) (at i : ℕ) (b : Bool) (r : Perhaps (ℕ × ℕ)) (s : r ≡ decoded_at i (front (drop i t))) (v : Perhaps ℕ) (inv : string_end b i (decode (drop i t)) ≡ v)
+    (c n : ℕ) (e : r ≡ Some (c, n)) where
   pub string-slash : (c ≡ 10 → ⊥) → b ≡ false → (c ≡ 0x22 → ⊥) → c ≡ 0x5C → string_end true n (decode (drop n t)) ≡ v
   string-slash f p g k = ap (λ (x : Bool). string_end x n (decode (drop n t))) (sym (eq-eqb c 0x5C k)) ∙ string-plain t at i b r s v inv c n e f p g
 
@@ -416,5 +401,29 @@ module _ (t : List ℕ) (at i : ℕ) (b : Bool) (r : Decoded) (s : r ≡ decoded
       ap (λ (x : Bool). string_end x m (decode (drop m t))) p
       ∙ behind_above t n v m a (ap (λ (x : Bool). string_end x n (decode (drop n t))) (sym (ne_eqb c 0x5C k)) ∙ string-plain t at i b r s v inv c n e f p g)
 
-pub above_falls : (t : List ℕ) (i : ℕ) (r : Decoded) → r ≡ decoded_at i (front (drop i t)) → (c n : ℕ) → r ≡ Char c n → (m : ℕ) → Above t n m → length t - m < length t - i
+pub above_falls : (t : List ℕ) (i : ℕ) (r : Perhaps (ℕ × ℕ)) → r ≡ decoded_at i (front (drop i t)) → (c n : ℕ) → r ≡ Some (c, n) → (m : ℕ) → Above t n m → length t - m < length t - i
 above_falls t i r s c n e m a = omega (arith, char_falls t i r s c n e, above_le t n m a)
+
+-- ---- by class
+pub above_in : (c : ℕ) (k : Class) → k ≡ class_of c → 0x80 ≤ c → (k ≡ Letter) ⊎ (k ≡ Digit) → true ≡ is_word_continue c
+above_in c k e l = ⊎_elim (λ (p : k ≡ Letter). continue_class_above c k Letter true e p l refl) (λ (p : k ≡ Digit). continue_class_above c k Digit true e p l refl)
+
+pub above_out : (c : ℕ) (k : Class) → k ≡ class_of c → 0x80 ≤ c → (k ≡ Letter → ⊥) → (k ≡ Digit → ⊥) → false ≡ is_word_continue c
+above_out c k e l f g = go k refl
+  where
+    go : (x : Class) → k ≡ x → false ≡ is_word_continue c
+    go Letter p = absurd (f p)
+    go Digit p = absurd (g p)
+    go Space p = continue_class_above c k Space false e p l refl
+    go Sign p = continue_class_above c k Sign false e p l refl
+    go Other p = continue_class_above c k Other false e p l refl
+
+pub space_same : (c : ℕ) (k : Class) → k ≡ class_of c → sameb the_type k Space ≡ is_whitespace c
+space_same c k e = go k refl
+  where
+    go : (x : Class) → k ≡ x → sameb the_type k Space ≡ is_whitespace c
+    go Space p = ap (λ (y : Class). sameb the_type y Space) p ∙ space_class c k Space true e p refl
+    go Letter p = ap (λ (y : Class). sameb the_type y Space) p ∙ space_class c k Letter false e p refl
+    go Digit p = ap (λ (y : Class). sameb the_type y Space) p ∙ space_class c k Digit false e p refl
+    go Sign p = ap (λ (y : Class). sameb the_type y Space) p ∙ space_class c k Sign false e p refl
+    go Other p = ap (λ (y : Class). sameb the_type y Space) p ∙ space_class c k Other false e p refl

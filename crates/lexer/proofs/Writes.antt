@@ -1,11 +1,11 @@
 -- The loop of `tokenize`: what is left to write, written behind what is there, gives the words of all tokens at the front.
-use mathlib.Core.Path.{◌≡◌, refl, sym, ap, subst, ◌∙◌}
+use mathlib.Core.Path.{◌≡◌, refl, sym, ap, ◌∙◌}
 use Prim.Native.Nat.{ℕ, zero, suc, ◌+◌, ◌-◌, ◌*◌, ◌≤◌, ◌<◌}
 use native.Mathlib.Omega.{arith}
 use native.Mathlib.Nat.{zero-add}
 use mathlib.Core.List.{List, [], ◌∷◌, ◌++◌}
-use lib.ListN.{length, get_or, take, drop, length-append, length-take}
-use lib.Seq.{sets, sets-eq, length-sets, take-take}
+use lib.ListN.{length, get_or, take, drop}
+use lib.Seq.{sets, sets-eq, length-sets}
 use lib.Dec.{leb}
 use borrow.Author.Tests.{eq-eqb, ne_eqb, le-leb, lt-leb}
 use mir.Syntax.{w32}
@@ -15,11 +15,14 @@ use Rattle.chars.proofs.Encoding.{size-range}
 use Rattle.chars.proofs.Laws.{points_next, points_le}
 use Rattle.chars.proofs.Theorems.{valid_le}
 use Rattle.lexer.specs.Tokens.{TokenKind, newline, Span, span, Token, token_at, Step, gap, tok, step, emit, tokens_from, tokens}
-use Rattle.lexer.specs.Words.{kind_number, token_value, token_words, flat, onto, tokenized}
-use Rattle.lexer.specs.Places.{piece_of, piece}
+use Rattle.lexer.specs.Words.{token_words, flat, onto, tokenized}
+use denote.Enum.Declared.{tag_of}
+use Rattle.lexer.specs.Kinds.{kind_word}
+use Rattle.lexer.specs.contracts.kind.TokenKind.{the_type}
+use Rattle.lexer.specs.declared.kind.TokenKind.{TokenKind as Kind}
+use Rattle.lexer.specs.declared.kind.TokenKind.TheVariants.{Word, Number, Quoted, Str, LParen, RParen, LBrace, RBrace, Comma, Eq, Star, Other, Comment, Newline, UnterminatedString, UnterminatedQuote}
+use Rattle.lexer.specs.Places.{Found, Tok, Gap, End, piece_of, piece}
 use Rattle.lexer.specs.Quick.{quick_value, quick_piece}
-use Rattle.lexer.specs.declared.Piece.{Piece}
-use Rattle.lexer.specs.declared.Piece.TheVariants.{Token as Tok, Gap, End}
 use Rattle.lexer.proofs.Scans.{by_test}
 use Rattle.lexer.proofs.Pieces.{jump, jump_le}
 use Rattle.lexer.proofs.Steps.{Fit, Fits as FitsStep, step_fits}
@@ -157,7 +160,7 @@ unfolding flat
 length-flat [] = refl
 length-flat (x ∷ r) = omega (arith, length-flat r)
 
-module _ (t w₀ w : List ℕ) (at n : ℕ) (r : Piece) (st : State t w₀ w at n) (s : r ≡ piece at (decode (drop at t))) where
+module _ (t w₀ w : List ℕ) (at n : ℕ) (r : Found) (st : State t w₀ w at n) (s : r ≡ piece at (decode (drop at t))) where
   module _ (k e v m : ℕ) (p : r ≡ Tok k e v m) where
     next : Next t at k e v m
     next = token_here (decode (drop at t)) t at k e v m refl (sym s ∙ p)
@@ -290,3 +293,22 @@ module _ (t w : List ℕ) where
       → ◌≡◌ {A = ℕ × List ℕ} (r, w') (tokenized t w)
   unfolding tokenized
   answered r w' g h p q = rw (le-leb (length t) 0x400000 g, le-leb (6 * length t + 6) (length w) h) (λ i. (p i, q i))
+
+-- the code's cast of a kind is its word
+pub tag_word : (k : Kind) → tag_of the_type k ≡ kind_word k
+tag_word Word = refl
+tag_word Number = refl
+tag_word Quoted = refl
+tag_word Str = refl
+tag_word LParen = refl
+tag_word RParen = refl
+tag_word LBrace = refl
+tag_word RBrace = refl
+tag_word Comma = refl
+tag_word Eq = refl
+tag_word Star = refl
+tag_word Other = refl
+tag_word Comment = refl
+tag_word Newline = refl
+tag_word UnterminatedString = refl
+tag_word UnterminatedQuote = refl

@@ -4,3 +4,5 @@ pub mod Words
 pub mod Places
 pub mod Quick
 pub mod Blocks
+pub mod Kinds
+pub mod Heads

@@ -1,13 +1,9 @@
 -- The text by places: what the code answers of it.
-use Rattle.std.specs.Prelude.{ℕ, suc, ◌+◌, ◌-◌, Bool, true, false, cond, ◌&&◌, List, [], ◌∷◌, eqb, leb, length, take, drop}
+use Rattle.std.specs.Prelude.{ℕ, ◌+◌, ◌-◌, Bool, false, cond, ◌&&◌, List, [], ◌∷◌, Option, Some, None, eqb, leb, length, take, drop}
 use Rattle.chars.specs.Utf8.{size, sizes, decode}
-use Rattle.lexer.specs.Tokens.{Span, TokenKind, Token, token_at, Step, gap, tok, step, line, trim_end, Inside, closed, unclosed, inside}
+use Rattle.lexer.specs.Tokens.{Span, token_at, Step, gap, tok, step, line, trim_end, closed, unclosed, inside}
 use Rattle.lexer.specs.Words.{kind_number, token_value}
 use Rattle.lexer.specs.declared.Line.{Line}
-use Rattle.lexer.specs.declared.StringEnd.{StringEnd}
-use Rattle.lexer.specs.declared.StringEnd.TheVariants.{Closed, Unclosed}
-use Rattle.lexer.specs.declared.Piece.{Piece}
-use Rattle.lexer.specs.declared.Piece.TheVariants.{Token as Tok, Gap, End}
 
 -- the characters of a text from a place on
 abbrev pub rest : List ℕ → ℕ → List ℕ
@@ -37,19 +33,25 @@ abbrev pub trimmed_at : ℕ → ℕ → List ℕ → ℕ
 trimmed_at last i [] = last
 trimmed_at last i (c ∷ r) = i + sizes (c ∷ r)
 
--- a string's end, from its text at a place; `true`: a backslash stands before
-unfoldable pub string_end : Bool → ℕ → List ℕ → StringEnd
+-- a string's end, from its text at a place, if there is one; `true`: a backslash stands before
+unfoldable pub string_end : Bool → ℕ → List ℕ → Option ℕ
 unfolding sizes inside
-string_end b at cs = elim (inside b cs) [ closed v n ↦ Closed (at + sizes (take n cs)) | unclosed ↦ Unclosed ]
+string_end b at cs = elim (inside b cs) [ closed v n ↦ Some (at + sizes (take n cs)) | unclosed ↦ None ]
+
+-- what stands at a place: a token, with its kind's number, its end, its value and the place to go on from; white space up to a place; no character
+pub data Found : Type 0 where
+  Tok : ℕ → ℕ → ℕ → ℕ → Found
+  Gap : ℕ → Found
+  End : Found
 
 -- what stands at the place o, where the characters r stand at the place n behind its first
-unfoldable pub piece_of : ℕ → ℕ → List ℕ → Step → Piece
+unfoldable pub piece_of : ℕ → ℕ → List ℕ → Step → Found
 unfolding sizes kind_number token_value
 piece_of o n r gap = Gap n
 piece_of o n r (tok t w a b k) = Tok (kind_number t) (o + w) (token_value (token_at o t w a b)) (n + sizes (take k r))
 
 -- what the characters at the place o begin with
-unfoldable pub piece : ℕ → List ℕ → Piece
+unfoldable pub piece : ℕ → List ℕ → Found
 unfolding step size piece_of
 piece o [] = End
 piece o (c ∷ r) = piece_of o (o + size c) r (step c r)

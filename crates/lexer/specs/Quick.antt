@@ -5,9 +5,7 @@ use Rattle.chars.specs.Utf8.{decode}
 use Rattle.chars.specs.Class.{class_of}
 use Rattle.chars.specs.declared.Class.TheVariants.{Letter, Digit, Space, Sign, Other}
 use Rattle.lexer.specs.Words.{sign_number}
-use Rattle.lexer.specs.Places.{piece}
-use Rattle.lexer.specs.declared.Piece.{Piece}
-use Rattle.lexer.specs.declared.Piece.TheVariants.{Token as Tok, Gap}
+use Rattle.lexer.specs.Places.{Found, Tok, Gap, piece}
 
 -- what a character of no class begins: a word 0, a quoted character 2, a string or a comment 17, else the number of a sign
 unfoldable pub other_lead : ℕ → ℕ
@@ -41,7 +39,7 @@ unfoldable pub quick_value : ℕ → ℕ → ℕ
 quick_value k c = cond (eqb k 1) (c % 16) (cond (eqb k 13) 0 c)
 
 -- what stands at the place o, where it is the character c alone and begins k
-unfoldable pub quick_piece : ℕ → ℕ → ℕ → Piece
+unfoldable pub quick_piece : ℕ → ℕ → ℕ → Found
 unfolding quick_value
 quick_piece o k c = cond (eqb k 16) (Gap (o + 1)) (Tok k (o + 1) (quick_value k c) (o + 1))
 

@@ -6,6 +6,8 @@ ghost use Rattle.std.proofs.lemmas.List.Edits.{sets};
 ghost use Rattle.chars.specs.Utf8.{decode};
 ghost use Rattle.lexer.specs.Tokens.{tokens};
 ghost use Rattle.lexer.specs.Words.{flat, onto, tokenized};
+ghost use Rattle.lexer.specs.Kinds.{kind_word, found};
+ghost use Rattle.lexer.specs.Places.{Tok};
 ghost use Rattle.lexer.specs.Quick.{leads, WordAt, comma_words, WordPut};
 
 mod block;
@@ -14,6 +16,8 @@ mod lex;
 pub mod names;
 mod quick;
 mod scan;
+
+use crate::kind::TokenKind;
 
 // A half-open range of byte offsets.
 #[derive(Clone, Copy)]
@@ -25,12 +29,31 @@ pub struct Span {
 // What stands at a place of the text.
 #[derive(Clone, Copy)]
 pub enum Piece {
-    // A token: its kind, its end, its value, and the place to go on from.
-    Token(u32, usize, u32, usize),
+    // A token: its kind, where it ends, its value, and the place to go on from.
+    Token {
+        kind: TokenKind,
+        end: usize,
+        value: u32,
+        next: usize,
+    },
     // White space, and the place behind it.
     Gap(usize),
     // No character.
     End,
+}
+
+impl Piece {
+    // A token behind which the text goes on.
+    fn token(kind: TokenKind, end: usize, value: u32) -> Self
+        ensures { found result ≡ Tok (kind_word kind) end value end }
+    {
+        Self::Token {
+            kind,
+            end,
+            value,
+            next: end,
+        }
+    }
 }
 
 // The rest of a line: its end, and its end without the white space before it.
@@ -40,11 +63,18 @@ pub struct Line {
     pub end: usize,
 }
 
-// A string behind its quote: the place behind the closing quote, or none on the line.
-#[derive(Clone, Copy)]
-pub enum StringEnd {
-    Closed(usize),
-    Unclosed,
+impl Line {
+    // A token up to the line's end, trimmed.
+    fn token(&self, kind: TokenKind, value: u32) -> Piece
+        ensures { found result ≡ Tok (kind_word kind) self.now.trimmed value self.now.end }
+    {
+        Piece::Token {
+            kind,
+            end: self.trimmed,
+            value,
+            next: self.end,
+        }
+    }
 }
 
 // Where the text goes on, and how many tokens there are.
@@ -59,11 +89,7 @@ fn push(work: &mut [u32], n: usize, kind: u32, start: u32, end: u32, value: u32)
     requires { 4 * n + 4 ≤ length work.old }
     ensures { work.new ≡ sets work.old (4 * n) (kind ∷ start ∷ end ∷ value ∷ []) }
 {
-    let o = 4 * n;
-    work[o] = kind;
-    work[o + 1] = start;
-    work[o + 2] = end;
-    work[o + 3] = value;
+    work[4 * n..4 * n + 4].copy_from_slice(&[kind, start, end, value]);
 }
 
 // The comma at a place, if one stands there, as token number n; answers how many tokens that is.
@@ -71,10 +97,7 @@ fn comma(text: &[u8], at: usize, work: &mut [u32], n: usize) -> usize
     requires { (length text.now ≤ 0x400000) × (at < length text.now → 4 * n + 4 ≤ length work.old) }
     ensures { (result ≤ 1) × (4 * result ≡ length (comma_words text.now at)) × (work.new ≡ sets work.old (4 * n) (comma_words text.now at)) }
 {
-    if text.len() <= at {
-        return 0;
-    }
-    if text[at] != 0x2C {
+    if text.len() <= at || text[at] != b',' {
         return 0;
     }
     push(work, n, kind::COMMA, at as u32, (at + 1) as u32, 0x2C);
@@ -118,10 +141,14 @@ fn fill(table: &[u8; 128], text: &[u8], work: &mut [u32]) -> usize
             at = c.at;
             n = c.n;
         } else {
-            let p = lex::piece_at(text, at);
-            match p {
-                Piece::Token(kind, end, value, next) => {
-                    push(work, n, kind, at as u32, end as u32, value);
+            match lex::piece_at(text, at) {
+                Piece::Token {
+                    kind,
+                    end,
+                    value,
+                    next,
+                } => {
+                    push(work, n, kind as u32, at as u32, end as u32, value);
                     let m = comma(text, next, work, n + 1);
                     n = n + 1 + m;
                     at = next + m;
@@ -153,10 +180,10 @@ pub extern "C" fn pevzoncs_tokenize(text: &[u8], work: &mut [u32]) -> usize
     ensures { (result, work.new) ≡ tokenized text.now work.old }
 {
     if 0x400000 < text.len() {
-        return 0xffff_ffff_ffff_ffff;
+        return usize::MAX;
     }
     if work.len() < 6 * text.len() + 6 {
-        return 0xffff_ffff_ffff_ffff;
+        return usize::MAX;
     }
     tokenize(text, work)
 }

@@ -1,5 +1,5 @@
 -- `lexer::names::same_part` meets its contract: the invariant: what is left is equal exactly where the whole is. Assumes nothing.
-use Prim.Native.Nat.{◌-◌, ◌≤◌}
+use Prim.Native.Nat.{◌-◌}
 use mathlib.Core.Path.{◌≡◌}
 use lib.ListN.{length, drop}
 use Rattle.lexer.specs.Text.{same}

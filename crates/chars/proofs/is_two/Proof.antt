@@ -1,9 +1,0 @@
--- `chars::is_two` meets its contract: the definition makes the same tests in the same order.
-use Rattle.chars.specs.Short.{is_two}
-use Rattle.chars.proofs.Tests.{tests}
-use Rattle.chars.proofs.is_two.Statement.{statement}
-use Rattle.chars.proofs.is_two.Tie as tie
-
-pub is_two_spec : {M : Type 1} → statement M
-unfolding is_two
-is_two_spec = tie.close (tie.spec (λ c. search tests) (λ c. search tests) (λ c κs. search tests) (λ c. search tests))
