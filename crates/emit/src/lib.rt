@@ -1,7 +1,7 @@
 // Bytes appended to a lent row: each is stored where there is room and counted in any case, so that one body counts and writes.
 #![tactic(auto)]
 
-ghost use Rattle.std.specs.Prelude.{◌≡◌, [], ◌∷◌, ◌+◌, ◌%◌, ◌<◌, min};
+ghost use Rattle.std.specs.Prelude.{◌≡◌, [], ◌∷◌, ◌+◌, ◌%◌, ◌<◌};
 ghost use Rattle.chars.specs.Utf8.{encode_one};
 ghost use Rattle.emit.specs.Output.{output, counted, appended};
 ghost use Rattle.emit.specs.Decimal.{decimal};
@@ -53,7 +53,7 @@ impl<'a> Output<'a> {
         self.at = end;
     }
 
-    // A code point in UTF-8.
+    // A code point in UTF-8; it may be a surrogate, which no `char` is.
     pub fn code_point(&mut self, c: u32)
         requires { c < 0x110000 }
         ensures { Appends (encode_one c) self.old self.new }
@@ -71,7 +71,7 @@ impl<'a> Output<'a> {
         }
     }
 
-    // A number in decimal.
+    // A number in decimal. Its Display would write it to an impl of fmt::Write, whose answer has to be dropped here: that is no plainer.
     pub fn decimal(&mut self, n: u64)
         ensures { Appends (decimal n) self.old self.new }
     {
@@ -94,14 +94,4 @@ fn tail(c: u32) -> u8
     ensures { result ≡ 0x80 + c % 64 }
 {
     (0x80 + c % 64) as u8
-}
-
-// The lesser of two counts.
-pub fn least(a: usize, b: usize) -> usize
-    ensures { result ≡ min a b }
-{
-    if a < b {
-        return a;
-    }
-    b
 }

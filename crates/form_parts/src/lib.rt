@@ -93,6 +93,8 @@ pub fn comment_lines(out: &mut Output, text: &[u8], words: &[u32], n: u32)
 
 // ---- lists
 
+// A row may end before the records that it is said to hold, and what lies past its end is 0: so the loops count records, and cut no chunks.
+
 // The names of n states.
 pub fn names(out: &mut Output, text: &[u8], words: &[u32], n: u32)
     requires { Every (NameIn text.now) (groups 3 n words.now) }

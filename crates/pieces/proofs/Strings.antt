@@ -9,9 +9,9 @@ use lib.Dec.{eqb}
 use lib.ListN.{length, drop}
 use borrow.Author.Tests.{eqb-true, ne_eqb}
 use Rattle.chars.specs.Utf8.{encode, decode, front, decoded_at}
-use Rattle.chars.specs.declared.Decoded.{Decoded}
-use Rattle.chars.specs.declared.Decoded.TheVariants.{Char, Invalid, End}
-use Rattle.chars.proofs.Laws.{char_decode, invalid_decode, end-decode}
+use Rattle.std.specs.Prelude as P
+use Rattle.std.specs.Prelude.{Some, None}
+use Rattle.chars.proofs.Laws.{char_decode, none_decode}
 use Rattle.lexer.specs.Tokens.{escape, Inner, ends, breaks, escapes, stands, inner_of, Inside, closed, unclosed, put, pass, inside, unescape}
 use Rattle.language.specs.Plain.{Piece, say, escaped, in_string, escaped_text}
 use Rattle.language.proofs.Every.{by_test}
@@ -49,26 +49,6 @@ module _ (c : ℕ) (o r : Output) where
       same (λ rest. ap (λ x. in_string x c rest) e) w
 
 -- ---- escapes
-
-pub escape_quote : (c : ℕ) → c ≡ 0x22 → true ≡ is_escape c
-unfolding is_escape
-escape_quote c e = sym (ap is_escape e)
-
-pub escape-slash : (c : ℕ) → c ≡ 0x5C → true ≡ is_escape c
-unfolding is_escape
-escape-slash c e = sym (ap is_escape e)
-
-pub escape_feed : (c : ℕ) → c ≡ 0x6E → true ≡ is_escape c
-unfolding is_escape
-escape_feed c e = sym (ap is_escape e)
-
-pub escape-other : (c : ℕ) → (c ≡ 0x22 → ⊥) → (c ≡ 0x5C → ⊥) → (c ≡ 0x6E → ⊥) → eqb c 0x74 ≡ is_escape c
-unfolding is_escape
-escape-other c h k l = go (eqb c 0x74) refl
-  where
-    go : (b : Bool) → eqb c 0x74 ≡ b → b ≡ is_escape c
-    go true e = let p : escape c ≡ some 9 = rw (ne_eqb c 0x22 h, escape) (rw (ne_eqb c 0x5C k, ne_eqb c 0x6E l, e)) in rw (p, is_escape)
-    go false e = let p : escape c ≡ none = rw (ne_eqb c 0x22 h, escape) (rw (ne_eqb c 0x5C k, ne_eqb c 0x6E l, e)) in rw (p, is_escape)
 
 -- an escape as it is written again
 escape-written : (c : ℕ) → is_escape c ≡ true → (rest : List ℕ) → rewritten true c rest ≡ 0x5C ∷ c ∷ rest
@@ -243,15 +223,15 @@ unfolding inside escaped_text value_from value_of
 value_none false h rest = refl
 value_none true h rest = none_closed h
 
-module _ (part : List ℕ) (i : ℕ) (d : Decoded) (s : d ≡ decoded_at i (front (drop i part))) (b : Bool) (h : ClosedFrom b (decode (drop i part))) where
-  next-at : (c n : ℕ) → d ≡ Char c n → Next b (not b && eqb c 0x5C) c (decode (drop n part))
+module _ (part : List ℕ) (i : ℕ) (d : P.Option (ℕ × ℕ)) (s : d ≡ decoded_at i (front (drop i part))) (b : Bool) (h : ClosedFrom b (decode (drop i part))) where
+  next-at : (c n : ℕ) → d ≡ Some (c, n) → Next b (not b && eqb c 0x5C) c (decode (drop n part))
   next-at c n e = next c (decode (drop n part)) b (subst (ClosedFrom b) (char_decode part i d s c n e) h)
 
-  pub text_closes : (c n : ℕ) (t : Bool) → d ≡ Char c n → t ≡ (not b && eqb c 0x5C) → ClosedFrom t (decode (drop n part))
+  pub text_closes : (c n : ℕ) (t : Bool) → d ≡ Some (c, n) → t ≡ (not b && eqb c 0x5C) → ClosedFrom t (decode (drop n part))
   text_closes c n t e q = rw q (next-at c n e).closes
 
   module _ (o : Output) (p₀ : Piece) (o₀ : Output) (g : Goes (escaped_text (value_from b (decode (drop i part)))) o p₀ o₀) where
-    pub text_on : (c n : ℕ) (t : Bool) (a : Output) → d ≡ Char c n → t ≡ (not b && eqb c 0x5C) → Writes (rewritten b c) o a
+    pub text_on : (c n : ℕ) (t : Bool) (a : Output) → d ≡ Some (c, n) → t ≡ (not b && eqb c 0x5C) → Writes (rewritten b c) o a
         → Goes (escaped_text (value_from t (decode (drop n part)))) a p₀ o₀
     text_on c n t a e q w =
         goes_on (λ rest. ap (λ cs. escaped_text (value_from b cs) rest) (char_decode part i d s c n e) ∙ rw q ((next-at c n e).value rest)) g w
@@ -259,16 +239,5 @@ module _ (part : List ℕ) (i : ℕ) (d : Decoded) (s : d ≡ decoded_at i (fron
     text_done : decode (drop i part) ≡ [] → Writes p₀ o₀ o
     text_done e = goes_end (λ rest. ap (λ cs. escaped_text (value_from b cs) rest) e ∙ value_none b (subst (ClosedFrom b) e h) rest) g
 
-    text_invalid : d ≡ Invalid → Writes p₀ o₀ o
-    text_invalid e = text_done (invalid_decode part i d s e)
-
-    text_end : d ≡ End → Writes p₀ o₀ o
-    text_end e = text_done (end-decode part i d s e)
-
-    pub text_over : ((c n : ℕ) → d ≡ Char c n → ⊥) → Writes p₀ o₀ o
-    text_over k = go d refl
-      where
-        go : (x : Decoded) → d ≡ x → Writes p₀ o₀ o
-        go (Char c n) e = absurd (k c n e)
-        go Invalid e = text_invalid e
-        go End e = text_end e
+    pub text_over : d ≡ None → Writes p₀ o₀ o
+    text_over e = text_done (none_decode part i d s e)

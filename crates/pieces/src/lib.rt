@@ -9,7 +9,6 @@ ghost use Rattle.language.specs.Plain.{say, only, symbol, escaped, in_string, es
 ghost use Rattle.pieces.specs.Writes.{Writes};
 ghost use Rattle.pieces.specs.Strings.{is_escape, rewritten, Whole};
 
-use chars::Decoded;
 use emit::Output;
 
 // A character.
@@ -93,7 +92,7 @@ pub fn string_text(out: &mut Output, part: &[u8])
 {
     let mut i = 0;
     let mut slash = false;
-    while let Decoded::Char(c, next) = chars::char_at(part, i) {
+    while let Some((c, next)) = chars::char_at(part, i) {
         rewritten(out, slash, c);
         slash = !slash && c == 0x5C;
         i = next;
