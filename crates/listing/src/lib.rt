@@ -6,25 +6,24 @@ ghost use Rattle.answer.specs.Answer.{read_in};
 ghost use Rattle.emit.specs.Output.{output, appended};
 ghost use Rattle.list_lines.specs.Listing.{listing, listed};
 
-use answer::Answer;
-use answer::words::{answer_number, answer_value};
+use answer::{Answer, Refusal};
 use std::io;
 
 // The longest text that is taken.
 pub const MAX_INPUT: usize = 2048;
 
 // Lists an answer with its log and sheet at the front of `out`, as far as there is room; the listing's length.
-fn list(a: Answer, text: &[u8], log: &[u32], sheet: &[u32], out: &mut [u8]) -> usize
+fn list(a: Result<Answer, Refusal>, text: &[u8], log: &[u32], sheet: &[u32], out: &mut [u8]) -> usize
     ensures { output out.new result ≡ appended (output out.old 0) (listing text.now (read_in a log.now sheet.now)) }
 {
     match a {
-        Answer::Machine(h) => {
+        Ok(Answer::Machine(h)) => {
             let n = h.counts;
             let start = h.start;
             list_lines::machine(out, 0, text, n, start, sheet)
         }
-        Answer::Diagnostics(n) => list_lines::diagnosed(out, 0, text, n, log),
-        Answer::Refused(_) => list_lines::refused(out, 0, answer_number(a), answer_value(a)),
+        Ok(Answer::Diagnostics(n)) => list_lines::diagnosed(out, 0, text, n, log),
+        Err(refusal) => list_lines::refused(out, 0, refusal.number(), refusal.value()),
     }
 }
 
