@@ -7,7 +7,6 @@ ghost use Rattle.emit.specs.Output.{output, appended};
 ghost use Rattle.list_lines.specs.Listing.{lines, listed};
 ghost use Rattle.list_lines.specs.Puts.{Puts};
 
-use answer::words::{answer_number, answer_value};
 use answer::{Answer, Refusal};
 use emit::Output;
 use std::io;
@@ -28,15 +27,13 @@ const SHEET_WORDS: usize = 16384;
 const LISTING_BYTES: usize = 2097152;
 
 // Lists an answer with its log and sheet.
-fn list(out: &mut Output, answer: Answer, text: &[u8], log: &[u32], sheet: &[u32])
+fn list(out: &mut Output, answer: Result<Answer, Refusal>, text: &[u8], log: &[u32], sheet: &[u32])
     ensures { Puts (lines text.now (read_in answer log.now sheet.now)) out.old out.new }
 {
     match answer {
-        Answer::Machine(head) => list_lines::machine(out, text, &head, sheet),
-        Answer::Diagnostics(n) => list_lines::diagnosed(out, text, n, log),
-        Answer::Refused(_) => {
-            list_lines::refused(out, answer_number(answer), answer_value(answer));
-        }
+        Ok(Answer::Machine(head)) => list_lines::machine(out, text, &head, sheet),
+        Ok(Answer::Diagnostics(n)) => list_lines::diagnosed(out, text, n, log),
+        Err(refusal) => list_lines::refused(out, refusal.number(), refusal.value()),
     }
 }
 
@@ -52,7 +49,7 @@ fn list_text(
     ensures { output out.new result ≡ appended (output out.old 0) (listed text.now (length work.old) log.old sheet.old) }
 {
     let answer = if MAX_INPUT < text.len() {
-        Answer::Refused(Refusal::TextTooLong)
+        Err(Refusal::TextTooLong)
     } else {
         worded::read(text, work, log, sheet)
     };

@@ -6,8 +6,10 @@ use borrow.Author.Tests.{lt-leb}
 use Rattle.language.specs.Outcome.{ReadOutcome, read_outcome, reply_words, reply_number, WriteOutcome, WriteReply, write_outcome, write_words}
 use Rattle.lexer.proofs.Scans.{by_test}
 use Rattle.answer.specs.declared.Refusal.TheVariants.{TextTooLong, WorkTooShort, InvalidUtf8, OutsideSet, LogTooShort, SheetTooShort}
+use Rattle.std.specs.Prelude.{Result, Ok, Err}
+use Rattle.answer.specs.declared.Refusal.{Refusal}
 use Rattle.answer.specs.declared.Answer.{Answer}
-use Rattle.answer.specs.declared.Answer.TheVariants.{Machine, Diagnostics, Refused}
+use Rattle.answer.specs.declared.Answer.TheVariants.{Machine, Diagnostics}
 use Rattle.answer.specs.Answer.{reply_in, read_in, leaves_work}
 use Rattle.reader.specs.Reading.{leaves_work_number}
 use Rattle.writer.specs.Given.{Given, given, given_by}
@@ -162,15 +164,15 @@ soiled_read before c text work work' log log' sheet sheet' r h ew el es q =
     rw (k, el, es) at q
 
 -- ---- an answer
-pub leaves : (a : Answer) → leaves_work_number (reply_number (reply_in a)) ≡ true → leaves_work a ≡ true
-leaves (Machine h) e = e
-leaves (Diagnostics n) e = e
-leaves (Refused TextTooLong) e = refl
-leaves (Refused WorkTooShort) e = refl
-leaves (Refused (InvalidUtf8 n)) e = e
-leaves (Refused (OutsideSet n)) e = e
-leaves (Refused (LogTooShort n)) e = e
-leaves (Refused (SheetTooShort n)) e = e
+pub leaves : (a : Result Answer Refusal) → leaves_work_number (reply_number (reply_in a)) ≡ true → leaves_work a ≡ true
+leaves (Ok (Machine h)) e = e
+leaves (Ok (Diagnostics n)) e = e
+leaves (Err TextTooLong) e = refl
+leaves (Err WorkTooShort) e = refl
+leaves (Err (InvalidUtf8 n)) e = e
+leaves (Err (OutsideSet n)) e = e
+leaves (Err (LogTooShort n)) e = e
+leaves (Err (SheetTooShort n)) e = e
 
 -- a row whose words are those that are to stand there
 left-all : (before c : List ℕ) (from m i : ℕ) (row : List ℕ) → ((j : ℕ) → j < length row → get_or row j 0 ≡ wanted before c from m (i + j)) → left_from before c from m i row ≡ true
@@ -192,7 +194,7 @@ untouched before c work e =
     let z : 0 + j ≡ j = omega arith in
     rw z (ap (λ (r : List ℕ). get_or r j 0) e ∙ get_or-take (length work) before j 0 h ∙ wanted-before before c 0 4294967295 j refl)))
 
-module _ (before c : List ℕ) (a : Answer) (row log sheet : List ℕ) (o : ReadOutcome) (q : row ≡ reply_words (reply_in a)) (e : read_in a log sheet ≡ o) (u : Bool) (eu : u ≡ left before c 9 36 row) where
+module _ (before c : List ℕ) (a : Result Answer Refusal) (row log sheet : List ℕ) (o : ReadOutcome) (q : row ≡ reply_words (reply_in a)) (e : read_in a log sheet ≡ o) (u : Bool) (eu : u ≡ left before c 9 36 row) where
   answer_of : u ≡ left before c 9 36 (reply_words o.reply)
   answer_of = eu ∙ ap (left before c 9 36) q ∙ ap (λ (x : ReadOutcome). left before c 9 36 (reply_words x.reply)) e
 

@@ -19,7 +19,9 @@ use Rattle.language.specs.Layout as L
 use Rattle.language.specs.Outcome.{Refusal, refusal_of, zeros, ReadOutcome, read_outcome, read_with, read_machine, read_diagnostics, words_needed}
 use Rattle.language.proofs.Every.{by_test}
 use borrow.Author.Tests.{ltb-false}
+use Rattle.std.specs.Prelude.{Result}
 use Rattle.answer.specs.declared.Answer.{Answer}
+use Rattle.answer.specs.declared.Refusal as Code
 use Rattle.answer.specs.Answer.{read_in}
 use Rattle.enter.specs.Records as Q
 use Rattle.enter.specs.Records.{read_records}
@@ -77,7 +79,7 @@ log_keeps t work log sheet = go (refusal_of t work) refl
 -- ---- the call
 
 -- reading answered a and left the records l and the sheet s; the records were copied over 5,120 words
-module _ (t : List ℕ) (work : ℕ) (log : List Diagnostic) (sheet : List ℕ) (a : Answer) (l : List Diagnostic) (s : List ℕ) (unused-log : log ≡ replicate 1024 unused) (read : Q.read_in a l s ≡ read_records t work log sheet) where
+module _ (t : List ℕ) (work : ℕ) (log : List Diagnostic) (sheet : List ℕ) (a : Result Answer Code.Refusal) (l : List Diagnostic) (s : List ℕ) (unused-log : log ≡ replicate 1024 unused) (read : Q.read_in a l s ≡ read_records t work log sheet) where
   -- the call on words
   abbrev o : ReadOutcome
   o = read_outcome t work (flat log) sheet

@@ -23,6 +23,7 @@ use Rattle.machine.specs.declared.Span.{Span}
 use Rattle.machine.specs.declared.Kind.TheVariants.{Transducer}
 use Rattle.machine.specs.declared.Decoder.TheVariants.{Word}
 use Rattle.machine.specs.Meaning.{head_in}
+use Rattle.std.specs.Prelude.{Ok}
 use Rattle.answer.specs.declared.Answer.TheVariants.{Machine}
 use Rattle.reply.specs.declared.WriteAnswer.TheVariants.{Written}
 use Rattle.writer.specs.Claim.{ReadCall, WriteCall, form, answered, Claim}
@@ -84,7 +85,7 @@ read_call = record {
   sheet_lent = replicate 59 7;
   work_fits = omega arith;
   sheet_fits = omega arith;
-  answer = Machine head;
+  answer = Ok (Machine head);
   log = replicate 7 0;
   sheet = sheet ++ 0 ∷ 0 ∷ [];
   contract = refl;
@@ -96,7 +97,7 @@ unfolding words_needed read_lines decode form_of write_outcome bytes
 write_call = record {
   lent = record { work = 126; log = replicate 7 7; sheet = replicate 57 7; output = replicate 129 7 };
   enough = record { work_fits = omega arith; sheet_fits = omega arith; output_fits = omega arith };
-  answer = Written 127;
+  answer = Ok (Written 127);
   log = replicate 7 0;
   sheet = sheet;
   output = bytes plain ++ 7 ∷ 7 ∷ [];
@@ -138,7 +139,7 @@ reads t good =
       sheet_lent = rows;
       work_fits = omega arith;
       sheet_fits = fits;
-      answer = Machine (M.head_of (Layout.head_of m));
+      answer = Ok (Machine (M.head_of (Layout.head_of m)));
       log = zeros 0;
       sheet = filled (sheet_words m) (length rows);
       contract = ap (λ h. record { reply = machine h; log = zeros 0; sheet = filled (sheet_words m) (length rows) }) (head_back (Layout.head_of m)) ∙ sym (read_is t (work_needed (length t)) [] rows (not-refused t good.is_admitted (work_needed (length t)) (omega arith)) good.no_diagnostic fits);

@@ -1,5 +1,5 @@
 -- Demand 3 on the calls: what may be concluded from the bytes that `write` leaves, whatever the lent buffers held.
-use Rattle.std.specs.Prelude.{ℕ, ◌≤◌, List, ◌↔◌, ◌≡◌, length}
+use Rattle.std.specs.Prelude.{ℕ, ◌≤◌, List, ◌↔◌, ◌≡◌, length, Result}
 use Rattle.std.proofs.Math.Option.{Option}
 use Rattle.chars.specs.Utf8.{decode}
 use Rattle.language.specs.Agreement as L
@@ -7,8 +7,10 @@ use Rattle.language.specs.Lines.{read_lines}
 use Rattle.language.specs.Outcome.{work_needed, words_needed, read_outcome}
 use Rattle.language.specs.Claim.{Lent, writing, Enough, Writable, form_left, answer_given, BothAgree}
 use Rattle.answer.specs.declared.Answer.{Answer}
+use Rattle.answer.specs.declared.Refusal.{Refusal}
 use Rattle.answer.specs.Answer.{read_in}
 use Rattle.reply.specs.declared.WriteAnswer.{WriteAnswer}
+use Rattle.reply.specs.declared.WriteRefusal.{WriteRefusal}
 use Rattle.reply.specs.Answer.{write_in}
 
 -- a call of `read` on a text, lent work and a sheet long enough: what it was lent, and what it left, as its contract says
@@ -18,7 +20,7 @@ pub record ReadCall (t : List ℕ) : Type 0 where
   pub sheet_lent : List ℕ
   pub work_fits : work_needed (length t) ≤ work
   pub sheet_fits : words_needed (read_lines (decode t)) ≤ length sheet_lent
-  pub answer : Answer
+  pub answer : Result Answer Refusal
   pub log : List ℕ
   pub sheet : List ℕ
   pub contract : read_in answer log sheet ≡ read_outcome t work log_lent sheet_lent
@@ -27,7 +29,7 @@ pub record ReadCall (t : List ℕ) : Type 0 where
 pub record WriteCall (t : List ℕ) : Type 0 where
   pub lent : Lent
   pub enough : Enough t lent
-  pub answer : WriteAnswer
+  pub answer : Result WriteAnswer WriteRefusal
   pub log : List ℕ
   pub sheet : List ℕ
   pub output : List ℕ

@@ -7,7 +7,7 @@ ghost use Rattle.reader.specs.Reading.{leaves_work_number};
 ghost use Rattle.reply.specs.Answer.{write_reply_in, write_in, leaves_work};
 ghost use Rattle.writer.specs.Given.{given, given_by};
 
-use reply::WriteAnswer;
+use reply::{WriteAnswer, WriteRefusal};
 
 // Writes the plain form of a text: answers its length; or the number of diagnostics, which the log holds; or a refusal.
 pub fn write(
@@ -16,11 +16,11 @@ pub fn write(
     log: &mut [u32],
     sheet: &mut [u32],
     output: &mut [u8],
-) -> WriteAnswer
+) -> Result<WriteAnswer, WriteRefusal>
     ensures { (write_in result log.new sheet.new output.new ≡ write_outcome text.now (length work.old) log.old sheet.old output.old) × (leaves_work (write_reply_in result) ≡ true → work.new ≡ work.old) }
 {
-    let a = reader::read(text, work, log, sheet);
-    fit::write_answer(a, text, sheet, output)
+    let read = reader::read(text, work, log, sheet)?;
+    fit::write_answer(read, text, sheet, output)
 }
 
 // The same for callers in other languages: the answer in 36 words, and its number.
@@ -35,6 +35,5 @@ pub extern "C" fn pevzoncs_write(
 ) -> u32
     ensures { (given result answer.new log.new sheet.new output.new ≡ given_by (write_outcome text.now (length work.old) log.old sheet.old output.old) answer.old) × (leaves_work_number result ≡ true → work.new ≡ work.old) }
 {
-    let a = write(text, work, log, sheet, output);
-    reply::words::give(a, answer)
+    reply::words::give(write(text, work, log, sheet, output), answer)
 }

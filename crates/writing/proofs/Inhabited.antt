@@ -13,6 +13,7 @@ use Rattle.language.specs.Outcome.{words_needed, form_of, ReadOutcome}
 use Rattle.language.specs.Claim.{Writable, BothAgree}
 use Rattle.language.proofs.Samples.{bytes}
 use Rattle.machine.specs.Meaning.{head_in}
+use Rattle.std.specs.Prelude.{Ok}
 use Rattle.answer.specs.declared.Answer.TheVariants.{Machine}
 use Rattle.enter.specs.Records.{read_records}
 use Rattle.reply.specs.declared.WriteAnswer.TheVariants.{Written}
@@ -35,7 +36,7 @@ read_call = record {
   sheet_lent = replicate 59 7;
   work_fits = omega arith;
   sheet_fits = omega arith;
-  answer = Machine head;
+  answer = Ok (Machine head);
   log = replicate 2 unused;
   sheet = sheet ++ 0 ∷ 0 ∷ [];
   contract = refl;
@@ -52,7 +53,7 @@ write_call = record {
   work_fits = omega arith;
   sheet_fits = omega arith;
   output_fits = omega arith;
-  answer = Written 127;
+  answer = Ok (Written 127);
   log = replicate 2 unused;
   sheet = sheet;
   output = bytes plain ++ 7 ∷ 7 ∷ [];

@@ -1,5 +1,5 @@
 -- Demand 3 on the calls with a log of records: what may be concluded from the bytes that `write` leaves, whatever the lent buffers held.
-use Rattle.std.specs.Prelude.{ℕ, ◌≤◌, List, [], ◌↔◌, ◌≡◌, length, take}
+use Rattle.std.specs.Prelude.{ℕ, ◌≤◌, List, [], ◌↔◌, ◌≡◌, length, take, Result}
 use Rattle.std.proofs.Math.Option.{Option, none, some}
 use Rattle.chars.specs.Utf8.{decode}
 use Rattle.diag.specs.declared.Diagnostic.{Diagnostic}
@@ -8,9 +8,11 @@ use Rattle.language.specs.Lines.{read_lines}
 use Rattle.language.specs.Outcome.{work_needed, words_needed, form_of, machine, diagnosed, refused, written, not_written, not_read}
 use Rattle.language.specs.Claim.{Writable, BothAgree}
 use Rattle.answer.specs.declared.Answer.{Answer}
+use Rattle.answer.specs.declared.Refusal.{Refusal}
 use Rattle.answer.specs.Answer.{reply_in}
 use Rattle.enter.specs.Records.{read_in, read_records}
 use Rattle.reply.specs.declared.WriteAnswer.{WriteAnswer}
+use Rattle.reply.specs.declared.WriteRefusal.{WriteRefusal}
 use Rattle.reply.specs.Answer.{write_reply_in}
 use Rattle.writing.specs.Records.{write_in, write_records}
 
@@ -21,7 +23,7 @@ pub record ReadCall (t : List ℕ) : Type 0 where
   pub sheet_lent : List ℕ
   pub work_fits : work_needed (length t) ≤ work
   pub sheet_fits : words_needed (read_lines (decode t)) ≤ length sheet_lent
-  pub answer : Answer
+  pub answer : Result Answer Refusal
   pub log : List Diagnostic
   pub sheet : List ℕ
   pub contract : read_in answer log sheet ≡ read_records t work log_lent sheet_lent
@@ -35,7 +37,7 @@ pub record WriteCall (t : List ℕ) : Type 0 where
   pub work_fits : work_needed (length t) ≤ work
   pub sheet_fits : words_needed (read_lines (decode t)) ≤ length sheet_lent
   pub output_fits : length (form_of t) ≤ length output_lent
-  pub answer : WriteAnswer
+  pub answer : Result WriteAnswer WriteRefusal
   pub log : List Diagnostic
   pub sheet : List ℕ
   pub output : List ℕ

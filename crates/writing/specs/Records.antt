@@ -1,9 +1,10 @@
 -- A writing call whose log is a slice of records.
-use Rattle.std.specs.Prelude.{ℕ, List, length}
+use Rattle.std.specs.Prelude.{ℕ, List, length, Result}
 use Rattle.language.specs.Outcome as O
 use Rattle.diag.specs.declared.Diagnostic.{Diagnostic}
 use Rattle.diag.specs.Log.{records, flat}
 use Rattle.reply.specs.declared.WriteAnswer.{WriteAnswer}
+use Rattle.reply.specs.declared.WriteRefusal.{WriteRefusal}
 use Rattle.reply.specs.Answer.{write_reply_in}
 
 -- what a writing call answers, and the log, the sheet and the output as it leaves them
@@ -14,7 +15,7 @@ pub record RecordsOutcome : Type 0 where
   pub output : List ℕ
 
 -- the answer, and the log, the sheet and the output that are left with it
-abbrev pub write_in : WriteAnswer → List Diagnostic → List ℕ → List ℕ → RecordsOutcome
+abbrev pub write_in : Result WriteAnswer WriteRefusal → List Diagnostic → List ℕ → List ℕ → RecordsOutcome
 write_in a log sheet output = record { reply = write_reply_in a; log = log; sheet = sheet; output = output }
 
 -- an outcome on words, its log as n records

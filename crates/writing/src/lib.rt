@@ -8,7 +8,7 @@ ghost use Rattle.writing.specs.Records.{write_in, write_records};
 ghost use Rattle.writing.specs.Given.{given, given_by};
 
 use diag::Diagnostic;
-use reply::WriteAnswer;
+use reply::{WriteAnswer, WriteRefusal};
 
 // Writes the plain form of a text: answers its length; or the number of diagnostics, which the log holds; or a refusal.
 pub fn write(
@@ -17,11 +17,11 @@ pub fn write(
     log: &mut [Diagnostic],
     sheet: &mut [u32],
     output: &mut [u8],
-) -> WriteAnswer
+) -> Result<WriteAnswer, WriteRefusal>
     ensures { (write_in result log.new sheet.new output.new ≡ write_records text.now (length work.old) log.old sheet.old output.old) × (leaves_work (write_reply_in result) ≡ true → work.new ≡ work.old) }
 {
-    let a = reading::read(text, work, log, sheet);
-    fit::write_answer(a, text, sheet, output)
+    let read = reading::read(text, work, log, sheet)?;
+    fit::write_answer(read, text, sheet, output)
 }
 
 // The same for callers in other languages: the answer in 36 words, and its number.
@@ -36,6 +36,5 @@ pub extern "C" fn pevzoncs_write_records(
 ) -> u32
     ensures { (given result answer.new log.new sheet.new output.new ≡ given_by (write_records text.now (length work.old) log.old sheet.old output.old) answer.old) × (leaves_work_number result ≡ true → work.new ≡ work.old) }
 {
-    let a = write(text, work, log, sheet, output);
-    reply::words::give(a, answer)
+    reply::words::give(write(text, work, log, sheet, output), answer)
 }

@@ -7,7 +7,7 @@ use Rattle.writing.proofs.pevzoncs_write_records.Goals as goal
 
 pub returns : goal.returns
 returns c = (
-  given_back (write_records c.args.text.now (length c.args.work.now) c.args.log.now c.args.sheet.now c.args.output.now) c.write-a.result c.write-a.new.log c.write-a.new.sheet c.write-a.new.output c.args.answer.now c.give.new.row c.give.result
-      c.write-a.ensures.0 c.give.ensures.0 c.give.ensures.1,
-  number_keeps c.write-a.result c.give.result c.args.work.now c.write-a.new.work c.give.ensures.0 c.write-a.ensures.1,
+  given_back (write_records c.args.text.now (length c.args.work.now) c.args.log.now c.args.sheet.now c.args.output.now) c.write.result c.write.new.log c.write.new.sheet c.write.new.output c.args.answer.now c.give.new.row c.give.result
+      c.write.ensures.0 c.give.ensures.0 c.give.ensures.1,
+  number_keeps c.write.result c.give.result c.args.work.now c.write.new.work c.give.ensures.0 c.write.ensures.1,
 )
