@@ -1,9 +1,9 @@
 -- A search's cursor, and one step of it.
-use Rattle.std.specs.Prelude.{ℕ, ◌+◌, Bool, false, cond, List, [], ◌∷◌, eqb}
+use Rattle.std.specs.Prelude.{ℕ, ◌+◌, Bool, cond, List, [], ◌∷◌, eqb, Option, None, Some}
 use Rattle.tokens.specs.declared.Token.{Token}
 use Rattle.parser.specs.Row.{peek}
 use Rattle.diag.specs.declared.Diagnostic.{Diagnostic}
-use Rattle.diag.specs.Log.{none, error, record_from}
+use Rattle.diag.specs.Log.{record_from}
 use Rattle.assembler.specs.declared.rules.Tally.{Tally}
 use Rattle.assembler.specs.Entries.{entry_at, behind}
 use Rattle.assembler.specs.Rules.{verdict, after}
@@ -32,12 +32,17 @@ ruled ts s = let c = after (tally_of s) (verdict s.tally (entry_at ts s.at)) in 
 
 -- a step, with what a log of one record, given n diagnostics, took
 abbrev pub stepped : Search → List ℕ → ℕ → Step
-stepped s log n = record { search = s; found = eqb n 1; diagnostic = record_from log 0 }
+stepped s log n = record { search = s; found = cond (eqb n 1) (Some (record_from log 0)) None }
 
 -- a step that finds nothing, to a token of a pass
 abbrev pub onward : Search → ℕ → ℕ → Step
-onward s p i = record { search = moved s p i; found = false; diagnostic = error 0 none }
+onward s p i = record { search = moved s p i; found = None }
+
+-- the diagnostic that is there, or none
+abbrev pub option_list : Option Diagnostic → List Diagnostic
+option_list None = []
+option_list (Some d) = d ∷ []
 
 -- what a step found
 unfoldable pub taken : Step → List Diagnostic
-taken r = cond r.found (r.diagnostic ∷ []) []
+taken r = option_list r.found

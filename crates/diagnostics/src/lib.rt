@@ -46,8 +46,7 @@ pub struct Found {
 #[derive(Clone, Copy)]
 pub struct Step {
     pub search: Search,
-    pub found: bool,
-    pub diagnostic: Diagnostic,
+    pub found: Option<Diagnostic>,
 }
 
 impl Search {
@@ -95,16 +94,12 @@ pub fn next(text: &[u8], work: &mut [u32], s: Search) -> Found
     requires { Stands text.now work.old s × (1 ≤ length (pending text.now work.old s)) }
     ensures { (pending text.now work.old s ≡ result.diagnostic ∷ pending text.now work.new result.search) × Stands text.now work.new result.search × (length work.new ≡ length work.old) }
 {
-    let mut q = s;
+    let mut search = s;
     loop {
-        let p = passes::step(text, work, q);
-        q = p.search;
-        if p.found {
-            let diagnostic = p.diagnostic;
-            return Found {
-                search: q,
-                diagnostic,
-            };
+        let step = passes::step(text, work, search);
+        search = step.search;
+        if let Some(diagnostic) = step.found {
+            return Found { search, diagnostic };
         }
     }
 }

@@ -18,12 +18,12 @@ use assembler::{declarations, entry, failures, finals, rules};
 fn stepped(search: Search, log: &[u32; 5], n: usize) -> Step
     ensures { result ≡ stepped search log.now n }
 {
-    let diagnostic = diag::record_at(log, 0);
-    Step {
-        search,
-        found: n == 1,
-        diagnostic,
-    }
+    let found = if n == 1 {
+        Some(diag::record_at(log, 0))
+    } else {
+        None
+    };
+    Step { search, found }
 }
 
 // A line, as one that may have failed.

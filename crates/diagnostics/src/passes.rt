@@ -6,7 +6,6 @@ ghost use Rattle.diagnostics.specs.Stands.{Stands, Stepped};
 
 use crate::{FAILURES, FINALS, NAMES, RULES, Search, Step, lines};
 use assembler::{entry, finals};
-use diag::{Diagnostic, Span};
 use lexer::kind;
 
 // The step to the beginning of another pass.
@@ -15,8 +14,7 @@ fn onward(s: Search, pass: u32, at: usize) -> Step
 {
     Step {
         search: s.moved(pass, at),
-        found: false,
-        diagnostic: Diagnostic::error(0, Span::NONE),
+        found: None,
     }
 }
 
