@@ -13,15 +13,15 @@ pub mod lines;
 pub mod passes;
 
 // The passes, in their order.
-pub const FAILURES: u32 = 0;
+#[derive(Clone, Copy, Debug, PartialEq, Eq)]
+pub enum Pass {
+    Failures,
+    Names,
+    Finals,
+    Rules,
+}
 
-pub const NAMES: u32 = 1;
-
-pub const FINALS: u32 = 2;
-
-pub const RULES: u32 = 3;
-
-// How far a search has come: what assembly found, the number of the pass, the index of the token to look at, the rules so far and whether one was
+// How far a search has come: what assembly found, the pass, the index of the token to look at, the rules so far and whether one was
 // dropped for the limit.
 #[derive(Clone, Copy)]
 pub struct Search {
@@ -29,7 +29,7 @@ pub struct Search {
     pub first: [u32; 11],
     pub errors: usize,
     pub rules: usize,
-    pub pass: u32,
+    pub pass: Pass,
     pub at: usize,
     pub tally: usize,
     pub cut: bool,
@@ -51,7 +51,7 @@ pub struct Step {
 
 impl Search {
     // The search at a token of a pass.
-    pub fn moved(mut self, pass: u32, at: usize) -> Self
+    pub fn moved(mut self, pass: Pass, at: usize) -> Self
         ensures { result ≡ moved self pass at }
     {
         self.pass = pass;
@@ -82,7 +82,7 @@ pub fn start(text: &[u8], work: &mut [u32], count: usize) -> Search
         first,
         errors: a.errors,
         rules: a.rules,
-        pass: FAILURES,
+        pass: Pass::Failures,
         at: 0,
         tally: 0,
         cut: false,

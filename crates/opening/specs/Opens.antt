@@ -3,6 +3,7 @@ use Rattle.std.specs.Prelude.{ℕ, ◌-◌, ◌*◌, ◌≤◌, ◌≡◌, true,
 use Rattle.diag.specs.declared.Diagnostic.{Diagnostic}
 use Rattle.diag.specs.Log.{sort}
 use Rattle.records.specs.Unused.{unused}
+use Rattle.diagnostics.specs.declared.Pass.TheVariants.{Failures}
 use Rattle.diagnostics.specs.declared.Search.{Search}
 use Rattle.diagnostics.specs.Pending.{pending}
 use Rattle.diagnostics.specs.Stands.{Stands}
@@ -14,7 +15,7 @@ use Rattle.enter.specs.Records.{read_in, read_records}
 
 -- a text that is refused
 abbrev pub refused_by : Refusal → Opened
-refused_by r = record { admitted = false; errors = 0; search = record { count = 0; first = replicate 11 0; errors = 0; rules = 0; pass = 0; at = 0; tally = 0; cut = false }; answer = Refused r }
+refused_by r = record { admitted = false; errors = 0; search = record { count = 0; first = replicate 11 0; errors = 0; rules = 0; pass = Failures; at = 0; tally = 0; cut = false }; answer = Refused r }
 
 -- the first c diagnostics that are pending, sorted, at the front of n records
 abbrev pub reported : List ℕ → List ℕ → Search → ℕ → ℕ → List Diagnostic

@@ -9,7 +9,7 @@ ghost use Rattle.opening.specs.Opens.{refused_by, Opens};
 
 use admission::Admission;
 use answer::{Answer, Refusal};
-use diagnostics::Search;
+use diagnostics::{Pass, Search};
 
 // Whether the text was admitted; how many diagnostics the log takes: none where it has too few records; the search for them, at its beginning; and the
 // answer.
@@ -31,7 +31,7 @@ fn refused(r: Refusal) -> Opened
         first,
         errors: 0,
         rules: 0,
-        pass: 0,
+        pass: Pass::Failures,
         at: 0,
         tally: 0,
         cut: false,
