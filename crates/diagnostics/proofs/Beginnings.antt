@@ -24,15 +24,16 @@ use Rattle.assembler.specs.Records.{record_of, records_of}
 use Rattle.assembler.specs.Assembled.{Tokenized, Outcome, row_diagnostics, words_from, marks_from}
 use Rattle.assembler.proofs.Rows.{length-rows}
 use Rattle.assembler.proofs.AssembledLaws.{row_mean, passes_laid}
+use Rattle.diagnostics.specs.declared.Pass.TheVariants.{Failures}
 use Rattle.diagnostics.specs.declared.Search.{Search}
 use Rattle.diagnostics.specs.Repeats.{name_errors}
-use Rattle.diagnostics.specs.Pending.{pending_in, pending}
+use Rattle.diagnostics.specs.Pending.{pending_in, pending, passes_left}
 use Rattle.diagnostics.specs.Stands.{Stands, Started}
 use Rattle.diagnostics.proofs.RepeatLaws.{repeats}
 
 -- the search at its beginning
 abbrev beginning : ℕ → Assembled → Search
-beginning count r = record { count = count; first = r.first; errors = r.errors; rules = r.rules; pass = 0; at = 0; tally = 0; cut = false }
+beginning count r = record { count = count; first = r.first; errors = r.errors; rules = r.rules; pass = Failures; at = 0; tally = 0; cut = false }
 
 -- what it finds in a row
 row_found : (text : List ℕ) (ts : List Token) (count : ℕ) (r : Assembled) → length ts ≡ count → count ≤ 0xffffffff → r.first ≡ declarations count undeclared (entries ts)
@@ -47,7 +48,7 @@ row_found text ts count r size few e =
     ∙ ap (λ (ds : List Diagnostic). line_errors es ++ (ds ++ (finals_errors text ts all ++ rules))) (sym (repeats ts (omega arith)))
 
 pub started : (text : List ℕ) (count : ℕ) (w₀ w log₀ log : List ℕ) (r : Assembled) → Tokenized text count w₀ → Outcome text count w₀ w log₀ log r
-    → Started text count w₀ w (record { count = count; first = r.first; errors = r.errors; rules = r.rules; pass = 0; at = 0; tally = 0; cut = false })
+    → Started text count w₀ w (record { count = count; first = r.first; errors = r.errors; rules = r.rules; pass = Failures; at = 0; tally = 0; cut = false })
 started text count w₀ w log₀ log r p o =
     let laid : Laid count (words_from (length text)) (marks_from (length text)) w = passes_laid text count w₀ w p o.entered in
     let size : length (rows count w) ≡ count = length-rows count w (omega (arith, laid.tokens, laid.words, laid.marks)) in
@@ -63,10 +64,9 @@ started text count w₀ w log₀ log r p o =
       stands = record {
         laid = laid;
         names = o.named.listed;
-        pass = omega arith;
         tally = omega arith;
-        behind = λ e. absurd (omega arith);
-        marks = λ e. absurd (omega arith);
+        behind = λ e. absurd (let z : 3 ≡ 1 = ap passes_left e in omega arith);
+        marks = λ e. absurd (let z : 3 ≡ 1 = ap passes_left e in omega arith);
       };
       whole = row_found text (rows count w) count r size (omega (arith, laid.few)) o.first ∙ ap (row_diagnostics text) row ∙ row_mean text few;
     }

@@ -18,10 +18,12 @@ use Rattle.assembler.specs.Finals.{name_at, names_from, names_of, final_error_at
 use Rattle.assembler.specs.Rules.{rule_errors}
 use Rattle.assembler.proofs.MarkLaws.{kept_laid, kept_row, kept_interned, kept_trans}
 use Rattle.assembler.proofs.FinalLaws.{errors_on, names_stop, names-on, names-end, kept_marks}
+use Rattle.diagnostics.specs.declared.Pass.{Pass}
+use Rattle.diagnostics.specs.declared.Pass.TheVariants.{Names, Finals, Rules}
 use Rattle.diagnostics.specs.declared.Search.{Search}
 use Rattle.diagnostics.specs.declared.Step.{Step}
 use Rattle.diagnostics.specs.Cursor.{moved, tally_of, onward, taken}
-use Rattle.diagnostics.specs.Pending.{names_in, names_before, finals_at, pending_in, pending, left}
+use Rattle.diagnostics.specs.Pending.{names_in, names_before, finals_at, pending_in, pending, passes_left, left}
 use Rattle.diagnostics.specs.Stands.{Stands, Stepped}
 use Rattle.diagnostics.proofs.Steps.{here, stepped_by, stepped-on, stands_moved, stands_size, names_done, less-on}
 
@@ -97,36 +99,35 @@ module _ (text w₀ : List ℕ) (s : Search) (st : Stands text w₀ s) where
   f = get_or s.first 10 0
 
   -- a cursor on F's line: what stands there
-  stands_finals : (w : List ℕ) (i : ℕ) → Kept b w₀ w → f < i → Marks text (rows c w₀) a b w (names_of (rows c w₀) q) (names_before (rows c w₀) f i) → Stands text w (moved s 2 i)
+  stands_finals : (w : List ℕ) (i : ℕ) → Kept b w₀ w → f < i → Marks text (rows c w₀) a b w (names_of (rows c w₀) q) (names_before (rows c w₀) f i) → Stands text w (moved s Finals i)
   stands_finals w i k h m = record {
     laid = kept_laid c a b w₀ w st.laid k;
     names = λ g. kept_interned c a b w₀ w st.laid k text (st.names g);
-    pass = omega arith;
     tally = st.tally;
     behind = λ e. h;
     marks = λ e. subst (λ (r : List Token). Marks text r a b w (names_of r q) (names_before r f i)) (sym (kept_row c a b w₀ w st.laid k)) m;
   }
 
   -- the same diagnostics in a row that was kept
-  pending-kept : (w : List ℕ) (i : ℕ) → Kept b w₀ w → pending text w₀ (moved s 2 i) ≡ pending text w (moved s 2 i)
-  pending-kept w i k = ap (λ (r : List Token). pending_in text r (moved s 2 i)) (sym (kept_row c a b w₀ w st.laid k))
+  pending-kept : (w : List ℕ) (i : ℕ) → Kept b w₀ w → pending text w₀ (moved s Finals i) ≡ pending text w (moved s Finals i)
+  pending-kept w i k = ap (λ (r : List Token). pending_in text r (moved s Finals i)) (sym (kept_row c a b w₀ w st.laid k))
 
   -- without F there is nothing to tell
-  pub finals-passed : (r : Step) (y : ℕ) → s.pass ≡ 1 → s.count ≤ s.at → y ≡ get_or s.first 10 0 → s.count ≤ y → r ≡ onward s 3 0 → Stepped text w₀ w₀ s r
+  pub finals-passed : (r : Step) (y : ℕ) → s.pass ≡ Names → s.count ≤ s.at → y ≡ get_or s.first 10 0 → s.count ≤ y → r ≡ onward s Rules 0 → Stepped text w₀ w₀ s r
   unfolding pending_in left entries
   finals-passed r y one h ey g e =
       let ts : List Token = rows c w₀ in
       let none : names_from (suc f) (drop (suc f) ts) ≡ [] = names-end ts (suc f) (omega (arith, stands_size text w₀ s st)) in
-      let found : pending text w₀ s ≡ pending text w₀ (moved s 3 0) =
+      let found : pending text w₀ s ≡ pending text w₀ (moved s Rules 0) =
       names_done text w₀ s st one h ∙ ap (λ (ds : List Diagnostic). ds ++ rule_errors (tally_of s) (entries ts)) (sym (finals-first text ts s.first) ∙ finals-none text ts s.first (suc f) none) in
-      stepped-on text w₀ w₀ s r 3 0 e (stands_moved text w₀ s 3 0 st (omega arith) (λ e. absurd (omega arith))) found
-      (subst (λ (p : ℕ). (3 - 3) * (c + 1) + (c - 0) < (3 - p) * (c + 1) + (c - s.at)) (sym one) (omega arith)) refl
+      stepped-on text w₀ w₀ s r Rules 0 e (stands_moved text w₀ s Rules 0 st (λ e. absurd (let z : 0 ≡ 1 = ap passes_left e in omega arith))) found
+      (subst (λ (p : Pass). 0 * (c + 1) + (c - 0) < passes_left p * (c + 1) + (c - s.at)) (sym one) (omega arith)) refl
 
   -- where there is F its names are known
   pub finals-names : get_or s.first 10 0 < s.count → Interned text (rows s.count w₀) (words_from (length text)) w₀
   finals-names h = st.names h
 
-  pub listed-names : s.pass ≡ 2 → s.at < s.count → Interned text (rows s.count w₀) (words_from (length text)) w₀
+  pub listed-names : s.pass ≡ Finals → s.at < s.count → Interned text (rows s.count w₀) (words_from (length text)) w₀
   listed-names two h = st.names (omega (arith, st.behind two))
 
   module _ (w₁ : List ℕ) (kept : Kept (marks_from (length text)) w₀ w₁)
@@ -140,9 +141,9 @@ module _ (text w₀ : List ℕ) (s : Search) (st : Stands text w₀ s) where
     pub cleared_marks : Marks text (rows s.count w₁) (words_from (length text)) (marks_from (length text)) w₁ [] []
     cleared_marks = kept_marks c a b w₀ w₁ st.laid kept text [] [] cleared
 
-    pub finals-entered : (w : List ℕ) (r : Step) (x y : ℕ) → s.pass ≡ 1 → s.count ≤ s.at → x ≡ get_or s.first 5 0 → y ≡ get_or s.first 10 0
+    pub finals-entered : (w : List ℕ) (r : Step) (x y : ℕ) → s.pass ≡ Names → s.count ≤ s.at → x ≡ get_or s.first 5 0 → y ≡ get_or s.first 10 0
         → Kept (marks_from (length text)) w₁ w → Marks text (rows s.count w₁) (words_from (length text)) (marks_from (length text)) w (names_of (rows s.count w₁) x) []
-        → r ≡ onward s 2 (y + 1) → Stepped text w₀ w s r
+        → r ≡ onward s Finals (y + 1) → Stepped text w₀ w s r
     unfolding pending_in left
     finals-entered w r x y one h ex ey k m e =
         let i : ℕ = suc f in
@@ -153,31 +154,31 @@ module _ (text w₀ : List ℕ) (s : Search) (st : Stands text w₀ s) where
         let m₁ : Marks text ts a b w (names_of ts x) [] = subst (λ (r : List Token). Marks text r a b w (names_of r x) []) row₁ m in
         let m₂ : Marks text ts a b w (names_of ts q) [] = subst (λ (x : ℕ). Marks text ts a b w (names_of ts x) []) ex m₁ in
         let m₃ : Marks text ts a b w (names_of ts q) (names_before ts f i) = subst (λ (l : List ℕ). Marks text ts a b w (names_of ts q) l) (sym (before-first ts f)) m₂ in
-        let found : pending text w₀ s ≡ pending text w (moved s 2 i) =
+        let found : pending text w₀ s ≡ pending text w (moved s Finals i) =
         names_done text w₀ s st one h ∙ ap (λ (ds : List Diagnostic). ds ++ rule_errors (tally_of s) (entries ts)) (sym (finals-first text ts s.first)) ∙ pending-kept w i k' in
-        stepped-on text w₀ w s r 2 i (e ∙ ap (onward s 2) j) (stands_finals w i k' (omega arith) m₃) found
-        (subst (λ (p : ℕ). (3 - 2) * (c + 1) + (c - i) < (3 - p) * (c + 1) + (c - s.at)) (sym one) (omega arith)) k'.size
+        stepped-on text w₀ w s r Finals i (e ∙ ap (onward s Finals) j) (stands_finals w i k' (omega arith) m₃) found
+        (subst (λ (p : Pass). 1 * (c + 1) + (c - i) < passes_left p * (c + 1) + (c - s.at)) (sym one) (omega arith)) k'.size
 
   -- ---- in the pass
-  module _ (two : s.pass ≡ 2) where
-    ended-stepped : (r : Step) → names_from s.at (drop s.at (rows s.count w₀)) ≡ [] → r ≡ onward s 3 0 → Stepped text w₀ w₀ s r
+  module _ (two : s.pass ≡ Finals) where
+    ended-stepped : (r : Step) → names_from s.at (drop s.at (rows s.count w₀)) ≡ [] → r ≡ onward s Rules 0 → Stepped text w₀ w₀ s r
     unfolding pending_in left entries
     ended-stepped r none e =
         let ts : List Token = rows c w₀ in
-        let found : pending text w₀ s ≡ pending text w₀ (moved s 3 0) =
-        ap (pending text w₀) (sym (here s 2 two)) ∙ ap (λ (ds : List Diagnostic). ds ++ rule_errors (tally_of s) (entries ts)) (finals-none text ts s.first s.at none) in
-        stepped-on text w₀ w₀ s r 3 0 e (stands_moved text w₀ s 3 0 st (omega arith) (λ e. absurd (omega arith))) found
-        (subst (λ (p : ℕ). (3 - 3) * (c + 1) + (c - 0) < (3 - p) * (c + 1) + (c - s.at)) (sym two) (omega arith)) refl
+        let found : pending text w₀ s ≡ pending text w₀ (moved s Rules 0) =
+        ap (pending text w₀) (sym (here s Finals two)) ∙ ap (λ (ds : List Diagnostic). ds ++ rule_errors (tally_of s) (entries ts)) (finals-none text ts s.first s.at none) in
+        stepped-on text w₀ w₀ s r Rules 0 e (stands_moved text w₀ s Rules 0 st (λ e. absurd (let z : 0 ≡ 1 = ap passes_left e in omega arith))) found
+        (subst (λ (p : Pass). 0 * (c + 1) + (c - 0) < passes_left p * (c + 1) + (c - s.at)) (sym two) (omega arith)) refl
 
-    pub finals-stepped : (r : Step) → s.count ≤ s.at → r ≡ onward s 3 0 → Stepped text w₀ w₀ s r
+    pub finals-stepped : (r : Step) → s.count ≤ s.at → r ≡ onward s Rules 0 → Stepped text w₀ w₀ s r
     finals-stepped r h e = ended-stepped r (names-end (rows c w₀) s.at (omega (arith, stands_size text w₀ s st))) e
 
-    pub newline_stepped : (r : Step) (t : Token) → s.at < s.count → t ≡ peek (rows s.count w₀) s.at → t.kind ≡ 13 → r ≡ onward s 3 0 → Stepped text w₀ w₀ s r
+    pub newline_stepped : (r : Step) (t : Token) → s.at < s.count → t ≡ peek (rows s.count w₀) s.at → t.kind ≡ 13 → r ≡ onward s Rules 0 → Stepped text w₀ w₀ s r
     newline_stepped r t h et k e =
         ended-stepped r (names_stop (rows c w₀) s.at (omega (arith, stands_size text w₀ s st)) (ap (λ (t : Token). t.kind) (sym et) ∙ k)) e
 
     pub listed-stepped : (w : List ℕ) (r : Step) (t : Token) (x : ℕ) → s.at < s.count → t ≡ peek (rows s.count w₀) s.at → (t.kind ≡ 13 → ⊥) → x ≡ get_or s.first 5 0
-        → Kept (marks_from (length text)) w₀ w → r.search ≡ moved s 2 (s.at + 1)
+        → Kept (marks_from (length text)) w₀ w → r.search ≡ moved s Finals (s.at + 1)
         → ((qs before : List ℕ) → Marks text (rows s.count w₀) (words_from (length text)) (marks_from (length text)) w₀ qs before
         → (taken r ≡ final_error_at text (rows s.count w₀) (ltb x s.count) qs before s.at)
         × Marks text (rows s.count w₀) (words_from (length text)) (marks_from (length text)) w qs (before ++ name_at s.at (peek (rows s.count w₀) s.at))) → Stepped text w₀ w s r
@@ -195,9 +196,9 @@ module _ (text w₀ : List ℕ) (s : Search) (st : Stands text w₀ s) where
         let took : taken r ≡ ds = p.0 ∙ ap (λ (d : Bool). final_error_at text ts d (names_of ts q) before s.at) same in
         let m : Marks text ts a b w (names_of ts q) (names_before ts f i) = subst (λ (l : List ℕ). Marks text ts a b w (names_of ts q) l) (sym (before_on ts f s.at (st.behind two) low)) p.1 in
         let rest : List Diagnostic = rule_errors (tally_of s) (entries ts) in
-        let found : pending text w₀ s ≡ ds ++ pending text w (moved s 2 i) =
-        ap (pending text w₀) (sym (here s 2 two))
+        let found : pending text w₀ s ≡ ds ++ pending text w (moved s Finals i) =
+        ap (pending text w₀) (sym (here s Finals two))
         ∙ ap (λ (l : List Diagnostic). l ++ rest) (finals-on text ts s.first s.at (st.behind two) low (λ z. k (ap (λ (t : Token). t.kind) et ∙ z)))
         ∙ append_assoc ds (finals_at text ts s.first i) rest ∙ ap (λ (l : List Diagnostic). ds ++ l) (pending-kept w i kept) in
-        stepped_by text w₀ w s r (moved s 2 i) ds took (to ∙ ap (moved s 2) (add-one s.at)) (stands_finals w i kept (omega (arith, st.behind two)) m) found
-        (less-on text w₀ s st 2 i two h (omega arith)) kept.size
+        stepped_by text w₀ w s r (moved s Finals i) ds took (to ∙ ap (moved s Finals) (add-one s.at)) (stands_finals w i kept (omega (arith, st.behind two)) m) found
+        (less-on text w₀ s st Finals i two h (omega arith)) kept.size

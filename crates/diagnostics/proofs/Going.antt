@@ -1,6 +1,6 @@
 -- Laws of the loop of `next`: as long as nothing is found, what is to be found stays the same.
 use mathlib.Core.Path.{◌≡◌, refl, sym, ap, subst, ◌∙◌}
-use mathlib.Core.Bool.{Bool, true, false, cond}
+use Rattle.std.specs.Prelude.{None, Some}
 use mathlib.Core.List.{List, [], ◌∷◌, ◌++◌}
 use Prim.Native.Nat.{ℕ, ◌≤◌, ◌<◌}
 use native.Mathlib.Omega.{arith}
@@ -8,7 +8,7 @@ use lib.ListN.{length}
 use Rattle.diag.specs.declared.Diagnostic.{Diagnostic}
 use Rattle.diagnostics.specs.declared.Search.{Search}
 use Rattle.diagnostics.specs.declared.Step.{Step}
-use Rattle.diagnostics.specs.Cursor.{taken}
+use Rattle.diagnostics.specs.Cursor.{option_list, taken}
 use Rattle.diagnostics.specs.Pending.{pending, left}
 use Rattle.diagnostics.specs.Stands.{Stands, Stepped}
 
@@ -22,16 +22,16 @@ pub record Going (text w₀ : List ℕ) (s : Search) (w : List ℕ) (q : Search)
 pub going_start : (text w : List ℕ) (s : Search) → Stands text w s → 1 ≤ length (pending text w s) → Going text w s w s
 going_start text w s st h = record { same = refl; stands = st; some = h; size = refl }
 
-took_none : (r : Step) → r.found ≡ false → taken r ≡ []
+took_none : (r : Step) → r.found ≡ None → taken r ≡ []
 unfolding taken
-took_none r e = rw e
+took_none r e = ap option_list e
 
-took_one : (r : Step) → r.found ≡ true → taken r ≡ r.diagnostic ∷ []
+took_one : (r : Step) (d : Diagnostic) → r.found ≡ Some d → taken r ≡ d ∷ []
 unfolding taken
-took_one r e = rw e
+took_one r d e = ap option_list e
 
 module _ (text w₀ : List ℕ) (s : Search) (w : List ℕ) (q : Search) (g : Going text w₀ s w q) (v : List ℕ) (r : Step) (p : Stepped text w v q r) where
-  pub going_on : r.found ≡ false → Going text w₀ s v r.search
+  pub going_on : r.found ≡ None → Going text w₀ s v r.search
   going_on e =
       let same : pending text w q ≡ pending text v r.search = p.found ∙ ap (λ (ds : List Diagnostic). ds ++ pending text v r.search) (took_none r e) in
       record {
@@ -44,8 +44,8 @@ module _ (text w₀ : List ℕ) (s : Search) (w : List ℕ) (q : Search) (g : Go
   pub going_less : left r.search < left q
   going_less = p.less
 
-  pub found-next : r.found ≡ true → pending text w₀ s ≡ r.diagnostic ∷ pending text v r.search
-  found-next e = g.same ∙ p.found ∙ ap (λ (ds : List Diagnostic). ds ++ pending text v r.search) (took_one r e)
+  pub found-next : (d : Diagnostic) → r.found ≡ Some d → pending text w₀ s ≡ d ∷ pending text v r.search
+  found-next d e = g.same ∙ p.found ∙ ap (λ (ds : List Diagnostic). ds ++ pending text v r.search) (took_one r d e)
 
   pub found_stands : Stands text v r.search
   found_stands = p.stands

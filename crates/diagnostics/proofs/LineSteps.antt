@@ -20,6 +20,8 @@ use Rattle.assembler.specs.declared.rules.Verdict.{Verdict}
 use Rattle.assembler.proofs.FailureLaws.{line_error-one}
 use Rattle.assembler.proofs.FinalLaws.{at_most_final}
 use Rattle.assembler.proofs.RuleLaws.{one-rule}
+use Rattle.diagnostics.specs.declared.Pass.{Pass}
+use Rattle.diagnostics.specs.declared.Pass.TheVariants.{Rules}
 use Rattle.diagnostics.specs.declared.Search.{Search}
 use Rattle.diagnostics.specs.declared.Step.{Step}
 use Rattle.diagnostics.specs.Cursor.{moved, tallied, tally_of, next_line, ruled, stepped, taken}
@@ -38,7 +40,7 @@ module _ (r : Step) (q : Search) (g : List ℕ) (n : ℕ) (made : r ≡ stepped 
   took_name ts first x e = took (name_error ts first x) e (one_name ts first x)
 
   -- where the search goes on
-  module _ (s : Search) (p j : ℕ) (to : q ≡ moved s p j) where
+  module _ (s : Search) (p : Pass) (j : ℕ) (to : q ≡ moved s p j) where
     pub search_at : r.search ≡ moved s p j
     search_at = ap (λ (r : Step). r.search) made ∙ to
 
@@ -63,8 +65,8 @@ module _ (r : Step) (q : Search) (g : List ℕ) (n : ℕ) (made : r ≡ stepped 
         ∙ ap (λ (v : Verdict). rule_error v s.cut (place_of (peek ts s.at))) ev
 
 pub search_rule : (x q : Search) → x ≡ q → (ts : List Token) (s : Search) (t : Token) (v : Verdict) → t ≡ peek ts s.at → v ≡ verdict s.tally (entry_at ts s.at)
-    → (c : Tally) (j : ℕ) (o : Search) → c ≡ after (tally_of s) v → j ≡ s.at + 1 + behind s.at t → o ≡ moved s 3 j → q ≡ tallied o c.rules c.cut → x ≡ ruled ts s
+    → (c : Tally) (j : ℕ) (o : Search) → c ≡ after (tally_of s) v → j ≡ s.at + 1 + behind s.at t → o ≡ moved s Rules j → q ≡ tallied o c.rules c.cut → x ≡ ruled ts s
 search_rule x q made ts s t v et ev c j o ec ej eo eq =
     made ∙ eq ∙ ap (λ (o : Search). tallied o c.rules c.cut) eo
-    ∙ ap (λ (j : ℕ). tallied (moved s 3 j) c.rules c.cut) (ej ∙ ap (λ (t : Token). s.at + 1 + behind s.at t) et)
-    ∙ ap (λ (c : Tally). tallied (moved s 3 (next_line ts s.at)) c.rules c.cut) (ec ∙ ap (after (tally_of s)) ev)
+    ∙ ap (λ (j : ℕ). tallied (moved s Rules j) c.rules c.cut) (ej ∙ ap (λ (t : Token). s.at + 1 + behind s.at t) et)
+    ∙ ap (λ (c : Tally). tallied (moved s Rules (next_line ts s.at)) c.rules c.cut) (ec ∙ ap (after (tally_of s)) ev)

@@ -19,16 +19,18 @@ use Rattle.assembler.specs.Finals.{finals_errors}
 use Rattle.assembler.specs.Rules.{verdict, after, rule_error, rule_errors}
 use Rattle.assembler.proofs.Rows.{length-rows, entries-step, entries-end}
 use Rattle.assembler.proofs.RuleLaws.{verdict-within, after-within}
+use Rattle.diagnostics.specs.declared.Pass.{Pass}
+use Rattle.diagnostics.specs.declared.Pass.TheVariants.{Failures, Names, Finals, Rules}
 use Rattle.diagnostics.specs.declared.Search.{Search}
 use Rattle.diagnostics.specs.declared.Step.{Step}
 use Rattle.diagnostics.specs.Cursor.{moved, tallied, tally_of, next_line, ruled, onward, taken}
 use Rattle.diagnostics.specs.Repeats.{name_error, name_errors}
-use Rattle.diagnostics.specs.Pending.{lines_at, pending_in, pending, left}
+use Rattle.diagnostics.specs.Pending.{lines_at, pending_in, pending, passes_left, left}
 use Rattle.diagnostics.specs.Stands.{Stands, Stepped}
 
 -- ---- a search in a pass, by its number
-pub here : (s : Search) (p : ℕ) → s.pass ≡ p → moved s p s.at ≡ s
-here s p e = ap (λ (p : ℕ). moved s p s.at) (sym e)
+pub here : (s : Search) (p : Pass) → s.pass ≡ p → moved s p s.at ≡ s
+here s p e = ap (λ (p : Pass). moved s p s.at) (sym e)
 
 -- ---- a step by what it took and where it leads
 pub stepped_by : (text w₀ w : List ℕ) (s : Search) (r : Step) (q : Search) (ds : List Diagnostic) → taken r ≡ ds → r.search ≡ q → Stands text w q → pending text w₀ s ≡ ds ++ pending text w q
@@ -41,18 +43,17 @@ stepped_by text w₀ w s r q ds took to st found less size = record {
 }
 
 -- on to another pass
-pub stepped-on : (text w₀ w : List ℕ) (s : Search) (r : Step) (p i : ℕ) → r ≡ onward s p i → Stands text w (moved s p i) → pending text w₀ s ≡ pending text w (moved s p i)
+pub stepped-on : (text w₀ w : List ℕ) (s : Search) (r : Step) (p : Pass) (i : ℕ) → r ≡ onward s p i → Stands text w (moved s p i) → pending text w₀ s ≡ pending text w (moved s p i)
     → left (moved s p i) < left s → length w ≡ length w₀ → Stepped text w₀ w s r
 unfolding taken
 stepped-on text w₀ w s r p i e st found less size =
     stepped_by text w₀ w s r (moved s p i) [] (ap taken e) (ap (λ (r : Step). r.search) e) st found less size
 
 -- what stands in another pass than that over F
-pub stands_moved : (text w : List ℕ) (s : Search) (p i : ℕ) → Stands text w s → p ≤ 3 → (p ≡ 2 → ⊥) → Stands text w (moved s p i)
-stands_moved text w s p i st h g = record {
+pub stands_moved : (text w : List ℕ) (s : Search) (p : Pass) (i : ℕ) → Stands text w s → (p ≡ Finals → ⊥) → Stands text w (moved s p i)
+stands_moved text w s p i st g = record {
   laid = st.laid;
   names = st.names;
-  pass = h;
   tally = st.tally;
   behind = λ e. absurd (g e);
   marks = λ e. absurd (g e);
@@ -82,59 +83,59 @@ module _ (text w : List ℕ) (s : Search) (st : Stands text w s) where
   lines_end : s.count ≤ s.at → lines_at ts s.at ≡ []
   lines_end h = entries-end ts s.at (omega (arith, stands_size))
 
-  pub less-on : (p j : ℕ) → s.pass ≡ p → s.at < s.count → s.at < j → left (moved s p j) < left s
+  pub less-on : (p : Pass) (j : ℕ) → s.pass ≡ p → s.at < s.count → s.at < j → left (moved s p j) < left s
   unfolding left
   less-on p j e h g = ap_less (λ (m : ℕ). m * (s.count + 1)) e
     where
-      ap_less : (f : ℕ → ℕ) → s.pass ≡ p → f (3 - p) + (s.count - j) < f (3 - s.pass) + (s.count - s.at)
-      ap_less f e = let z : f (3 - p) ≡ f (3 - s.pass) = ap (λ (p : ℕ). f (3 - p)) (sym e) in omega arith
+      ap_less : (f : ℕ → ℕ) → s.pass ≡ p → f (passes_left p) + (s.count - j) < f (passes_left s.pass) + (s.count - s.at)
+      ap_less f e = let z : f (passes_left p) ≡ f (passes_left s.pass) = ap (λ (p : Pass). f (passes_left p)) (sym e) in omega arith
 
   -- ---- the pass over failed lines
-  module _ (zero-pass : s.pass ≡ 0) where
-    pub failure-stepped : (r : Step) → s.at < s.count → taken r ≡ line_error (peek (rows s.count w) s.at) → r.search ≡ moved s 0 (next_line (rows s.count w) s.at) → Stepped text w w s r
+  module _ (zero-pass : s.pass ≡ Failures) where
+    pub failure-stepped : (r : Step) → s.at < s.count → taken r ≡ line_error (peek (rows s.count w) s.at) → r.search ≡ moved s Failures (next_line (rows s.count w) s.at) → Stepped text w w s r
     unfolding pending_in line_errors
     failure-stepped r h took to =
-        let q : Search = moved s 0 (next_line ts s.at) in
+        let q : Search = moved s Failures (next_line ts s.at) in
         let x : List Diagnostic = line_error (peek ts s.at) in
         let rest : List Diagnostic = name_errors ts s.first (entries ts) ++ (finals_errors text ts s.first ++ rule_errors (tally_of s) (entries ts)) in
         let found : pending text w s ≡ x ++ pending text w q =
-        ap (pending text w) (sym (here s 0 zero-pass)) ∙ ap (λ (es : List Entry). line_errors es ++ rest) (lines-on h)
+        ap (pending text w) (sym (here s Failures zero-pass)) ∙ ap (λ (es : List Entry). line_errors es ++ rest) (lines-on h)
         ∙ append_assoc x (line_errors (lines_at ts (next_line ts s.at))) rest in
-        stepped_by text w w s r q x took to (stands_moved text w s 0 (next_line ts s.at) st (omega arith) (λ e. absurd (omega arith))) found
-        (less-on 0 (next_line ts s.at) zero-pass h (next_high s.at)) refl
+        stepped_by text w w s r q x took to (stands_moved text w s Failures (next_line ts s.at) st (λ e. absurd (let z : 3 ≡ 1 = ap passes_left e in omega arith))) found
+        (less-on Failures (next_line ts s.at) zero-pass h (next_high s.at)) refl
 
-    pub failures_stepped : (r : Step) → s.count ≤ s.at → r ≡ onward s 1 0 → Stepped text w w s r
+    pub failures_stepped : (r : Step) → s.count ≤ s.at → r ≡ onward s Names 0 → Stepped text w w s r
     unfolding pending_in line_errors left entries
     failures_stepped r h e =
         let rest : List Diagnostic = name_errors ts s.first (entries ts) ++ (finals_errors text ts s.first ++ rule_errors (tally_of s) (entries ts)) in
-        let found : pending text w s ≡ pending text w (moved s 1 0) =
-        ap (pending text w) (sym (here s 0 zero-pass)) ∙ ap (λ (es : List Entry). line_errors es ++ rest) (lines_end h) in
-        stepped-on text w w s r 1 0 e (stands_moved text w s 1 0 st (omega arith) (λ e. absurd (omega arith))) found
-        (subst (λ (p : ℕ). (3 - 1) * (s.count + 1) + (s.count - 0) < (3 - p) * (s.count + 1) + (s.count - s.at)) (sym zero-pass) (omega arith)) refl
+        let found : pending text w s ≡ pending text w (moved s Names 0) =
+        ap (pending text w) (sym (here s Failures zero-pass)) ∙ ap (λ (es : List Entry). line_errors es ++ rest) (lines_end h) in
+        stepped-on text w w s r Names 0 e (stands_moved text w s Names 0 st (λ e. absurd (let z : 2 ≡ 1 = ap passes_left e in omega arith))) found
+        (subst (λ (p : Pass). 2 * (s.count + 1) + (s.count - 0) < passes_left p * (s.count + 1) + (s.count - s.at)) (sym zero-pass) (omega arith)) refl
 
   -- ---- the pass over declarations
-  module _ (one-pass : s.pass ≡ 1) where
+  module _ (one-pass : s.pass ≡ Names) where
     pub name-stepped : (r : Step) → s.at < s.count → taken r ≡ name_error (rows s.count w) s.first (entry_at (rows s.count w) s.at)
-        → r.search ≡ moved s 1 (next_line (rows s.count w) s.at) → Stepped text w w s r
+        → r.search ≡ moved s Names (next_line (rows s.count w) s.at) → Stepped text w w s r
     unfolding pending_in name_errors
     name-stepped r h took to =
-        let q : Search = moved s 1 (next_line ts s.at) in
+        let q : Search = moved s Names (next_line ts s.at) in
         let x : List Diagnostic = name_error ts s.first (entry_at ts s.at) in
         let rest : List Diagnostic = finals_errors text ts s.first ++ rule_errors (tally_of s) (entries ts) in
         let found : pending text w s ≡ x ++ pending text w q =
-        ap (pending text w) (sym (here s 1 one-pass)) ∙ ap (λ (es : List Entry). name_errors ts s.first es ++ rest) (lines-on h)
+        ap (pending text w) (sym (here s Names one-pass)) ∙ ap (λ (es : List Entry). name_errors ts s.first es ++ rest) (lines-on h)
         ∙ append_assoc x (name_errors ts s.first (lines_at ts (next_line ts s.at))) rest in
-        stepped_by text w w s r q x took to (stands_moved text w s 1 (next_line ts s.at) st (omega arith) (λ e. absurd (omega arith))) found
-        (less-on 1 (next_line ts s.at) one-pass h (next_high s.at)) refl
+        stepped_by text w w s r q x took to (stands_moved text w s Names (next_line ts s.at) st (λ e. absurd (let z : 2 ≡ 1 = ap passes_left e in omega arith))) found
+        (less-on Names (next_line ts s.at) one-pass h (next_high s.at)) refl
 
     pub names_done : s.count ≤ s.at → pending text w s ≡ finals_errors text (rows s.count w) s.first ++ rule_errors (tally_of s) (entries (rows s.count w))
     unfolding pending_in name_errors
     names_done h =
-        ap (pending text w) (sym (here s 1 one-pass))
+        ap (pending text w) (sym (here s Names one-pass))
         ∙ ap (λ (es : List Entry). name_errors ts s.first es ++ (finals_errors text ts s.first ++ rule_errors (tally_of s) (entries ts))) (lines_end h)
 
   -- ---- the pass over rules
-  module _ (three : s.pass ≡ 3) where
+  module _ (three : s.pass ≡ Rules) where
     pub rules-inside : 1 ≤ length (pending text w s) → s.at < s.count
     unfolding pending_in rule_errors
     rules-inside h = go (ltb s.at s.count) refl
@@ -142,7 +143,7 @@ module _ (text w : List ℕ) (s : Search) (st : Stands text w s) where
         go : (b : Bool) → ltb s.at s.count ≡ b → s.at < s.count
         go true e = ltb-true s.at s.count e
         go false e =
-            let none : pending text w s ≡ [] = ap (pending text w) (sym (here s 3 three)) ∙ ap (λ (es : List Entry). rule_errors (tally_of s) es) (lines_end (ltb-false s.at s.count e)) in
+            let none : pending text w s ≡ [] = ap (pending text w) (sym (here s Rules three)) ∙ ap (λ (es : List Entry). rule_errors (tally_of s) es) (lines_end (ltb-false s.at s.count e)) in
             absurd (omega (arith, ap length none))
 
     pub rule-stepped : (r : Step) → s.at < s.count
@@ -154,18 +155,13 @@ module _ (text w : List ℕ) (s : Search) (st : Stands text w s) where
         let v : Verdict = verdict s.tally e in
         let x : List Diagnostic = rule_error v s.cut (place_of (peek ts s.at)) in
         let found : pending text w s ≡ x ++ pending text w (ruled ts s) =
-        ap (pending text w) (sym (here s 3 three)) ∙ ap (λ (es : List Entry). rule_errors (tally_of s) es) (lines-on h) in
-        let m = stands_moved text w s 3 (next_line ts s.at) st (omega arith) (λ e. absurd (omega arith)) in
+        ap (pending text w) (sym (here s Rules three)) ∙ ap (λ (es : List Entry). rule_errors (tally_of s) es) (lines-on h) in
+        let m = stands_moved text w s Rules (next_line ts s.at) st (λ e. absurd (let z : 0 ≡ 1 = ap passes_left e in omega arith)) in
         stepped_by text w w s r (ruled ts s) x took to
         (record {
           laid = m.laid;
           names = m.names;
-          pass = m.pass;
           tally = after-within (tally_of s) v st.tally (λ m h. verdict-within s.tally m e h);
           behind = m.behind;
           marks = m.marks;
-        }) found (less-on 3 (next_line ts s.at) three h (next_high s.at)) refl
-
--- a pass that is none of the first three
-pub last_pass : (p : ℕ) → p ≤ 3 → (p ≡ 0 → ⊥) → (p ≡ 1 → ⊥) → (p ≡ 2 → ⊥) → p ≡ 3
-last_pass p h a b c = omega arith
+        }) found (less-on Rules (next_line ts s.at) three h (next_high s.at)) refl

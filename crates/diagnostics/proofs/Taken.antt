@@ -4,20 +4,21 @@ use mathlib.Core.Bool.{Bool, true, false, cond}
 use mathlib.Core.List.{List, [], ◌∷◌, ◌++◌}
 use Prim.Native.Nat.{ℕ, suc, ◌+◌, ◌*◌, ◌≤◌}
 use native.Mathlib.Omega.{arith}
-use lib.Dec.{eqb}
+use borrow.Author.Tests.{eq-eqb, ne_eqb}
+use Rattle.std.specs.Prelude.{None, Some}
 use lib.ListN.{length, replicate}
 use Rattle.diag.specs.declared.Diagnostic.{Diagnostic}
-use Rattle.diag.specs.Log.{none, error, words, record_from, Log, logged, appended, append_all}
+use Rattle.diag.specs.Log.{record_from, Log, logged, appended, append_all}
 use Rattle.diagnostics.specs.declared.Search.{Search}
 use Rattle.diagnostics.specs.declared.Step.{Step}
-use Rattle.diagnostics.specs.Cursor.{moved, stepped, onward, taken}
+use Rattle.diagnostics.specs.Cursor.{stepped, taken}
 
 -- the parts that functions make
-pub step_of : (s : Search) (log : List ℕ) (n : ℕ) (d : Diagnostic) → d ≡ record_from log (5 * 0) → ◌≡◌ {A = Step} (record { search = s; found = eqb n 1; diagnostic = d }) (stepped s log n)
-step_of s log n d e = ap (λ (d : Diagnostic). record { search = s; found = eqb n 1; diagnostic = d }) e
+pub step_one : (s : Search) (log : List ℕ) (n : ℕ) (d : Diagnostic) → n ≡ 1 → d ≡ record_from log (5 * 0) → ◌≡◌ {A = Step} (record { search = s; found = Some d }) (stepped s log n)
+step_one s log n d h e = rw (eq-eqb n 1 h) (ap (λ (d : Diagnostic). record { search = s; found = Some d }) e)
 
-pub onward_of : (s q : Search) (p i : ℕ) (d : Diagnostic) → q ≡ moved s p i → d ≡ error 0 none → ◌≡◌ {A = Step} (record { search = q; found = false; diagnostic = d }) (onward s p i)
-onward_of s q p i d e f = ap (λ (d : Diagnostic). record { search = q; found = false; diagnostic = d }) f ∙ ap (λ (q : Search). record { search = q; found = false; diagnostic = error 0 none }) e
+pub step_none : (s : Search) (log : List ℕ) (n : ℕ) → (n ≡ 1 → ⊥) → ◌≡◌ {A = Step} (record { search = s; found = None }) (stepped s log n)
+step_none s log n h = rw (ne_eqb n 1 h)
 
 -- a log of one record
 log-none : (g : List ℕ) (n : ℕ) → logged g n ≡ logged (replicate 5 0) 0 → (s : Search) → taken (stepped s g n) ≡ []

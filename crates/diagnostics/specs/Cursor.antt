@@ -1,17 +1,19 @@
 -- A search's cursor, and one step of it.
-use Rattle.std.specs.Prelude.{ℕ, ◌+◌, Bool, false, cond, List, [], ◌∷◌, eqb}
+use Rattle.std.specs.Prelude.{ℕ, ◌+◌, Bool, cond, List, [], ◌∷◌, eqb, Option, None, Some}
 use Rattle.tokens.specs.declared.Token.{Token}
 use Rattle.parser.specs.Row.{peek}
 use Rattle.diag.specs.declared.Diagnostic.{Diagnostic}
-use Rattle.diag.specs.Log.{none, error, record_from}
+use Rattle.diag.specs.Log.{record_from}
 use Rattle.assembler.specs.declared.rules.Tally.{Tally}
 use Rattle.assembler.specs.Entries.{entry_at, behind}
 use Rattle.assembler.specs.Rules.{verdict, after}
+use Rattle.diagnostics.specs.declared.Pass.{Pass}
+use Rattle.diagnostics.specs.declared.Pass.TheVariants.{Rules}
 use Rattle.diagnostics.specs.declared.Search.{Search}
 use Rattle.diagnostics.specs.declared.Step.{Step}
 
 -- the search at a token of a pass
-abbrev pub moved : Search → ℕ → ℕ → Search
+abbrev pub moved : Search → Pass → ℕ → Search
 moved s p i = record { count = s.count; first = s.first; errors = s.errors; rules = s.rules; pass = p; at = i; tally = s.tally; cut = s.cut }
 
 -- the search with the rules so far
@@ -28,16 +30,21 @@ next_line ts i = i + 1 + behind i (peek ts i)
 
 -- the search behind a line, with the rules that it stands for
 abbrev pub ruled : List Token → Search → Search
-ruled ts s = let c = after (tally_of s) (verdict s.tally (entry_at ts s.at)) in tallied (moved s 3 (next_line ts s.at)) c.rules c.cut
+ruled ts s = let c = after (tally_of s) (verdict s.tally (entry_at ts s.at)) in tallied (moved s Rules (next_line ts s.at)) c.rules c.cut
 
 -- a step, with what a log of one record, given n diagnostics, took
 abbrev pub stepped : Search → List ℕ → ℕ → Step
-stepped s log n = record { search = s; found = eqb n 1; diagnostic = record_from log 0 }
+stepped s log n = record { search = s; found = cond (eqb n 1) (Some (record_from log 0)) None }
 
 -- a step that finds nothing, to a token of a pass
-abbrev pub onward : Search → ℕ → ℕ → Step
-onward s p i = record { search = moved s p i; found = false; diagnostic = error 0 none }
+abbrev pub onward : Search → Pass → ℕ → Step
+onward s p i = record { search = moved s p i; found = None }
+
+-- the diagnostic that is there, or none
+abbrev pub option_list : Option Diagnostic → List Diagnostic
+option_list None = []
+option_list (Some d) = d ∷ []
 
 -- what a step found
 unfoldable pub taken : Step → List Diagnostic
-taken r = cond r.found (r.diagnostic ∷ []) []
+taken r = option_list r.found

@@ -7,6 +7,8 @@ use Rattle.assembler.specs.Entries.{Entry, entries_from, entries}
 use Rattle.assembler.specs.Failures.{line_errors}
 use Rattle.assembler.specs.Finals.{name_at, names_from, names_of, final_errors, finals_errors}
 use Rattle.assembler.specs.Rules.{rule_errors}
+use Rattle.diagnostics.specs.declared.Pass.{Pass}
+use Rattle.diagnostics.specs.declared.Pass.TheVariants.{Failures, Names, Finals, Rules}
 use Rattle.diagnostics.specs.declared.Search.{Search}
 use Rattle.diagnostics.specs.Cursor.{tally_of}
 use Rattle.diagnostics.specs.Repeats.{name_errors}
@@ -39,14 +41,24 @@ unfolding entries line_errors name_errors finals_at finals_errors rule_errors
 pending_in text ts s =
     let rules = rule_errors (tally_of s) in
     let finals = finals_errors text ts s.first ++ rules (entries ts) in
-    cond (eqb s.pass 0) (line_errors (lines_at ts s.at) ++ (name_errors ts s.first (entries ts) ++ finals))
-    (cond (eqb s.pass 1) (name_errors ts s.first (lines_at ts s.at) ++ finals)
-    (cond (eqb s.pass 2) (finals_at text ts s.first s.at ++ rules (entries ts)) (rules (lines_at ts s.at))))
+    elim s.pass [
+      | Failures ↦ line_errors (lines_at ts s.at) ++ (name_errors ts s.first (entries ts) ++ finals)
+      | Names ↦ name_errors ts s.first (lines_at ts s.at) ++ finals
+      | Finals ↦ finals_at text ts s.first s.at ++ rules (entries ts)
+      | Rules ↦ rules (lines_at ts s.at)
+    ]
 
 -- with the row in words
 abbrev pub pending : List ℕ → List ℕ → Search → List Diagnostic
 pending text w s = pending_in text (rows s.count w) s
 
+-- how many passes follow one
+abbrev pub passes_left : Pass → ℕ
+passes_left Failures = 3
+passes_left Names = 2
+passes_left Finals = 1
+passes_left Rules = 0
+
 -- how many steps are left, at most
 unfoldable pub left : Search → ℕ
-left s = (3 - s.pass) * (s.count + 1) + (s.count - s.at)
+left s = passes_left s.pass * (s.count + 1) + (s.count - s.at)

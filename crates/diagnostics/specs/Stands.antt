@@ -10,6 +10,7 @@ use Rattle.assembler.specs.Declarations.{undeclared, declarations}
 use Rattle.assembler.specs.Finals.{Laid, Interned, Marks, names_of}
 use Rattle.assembler.specs.Records.{records_of}
 use Rattle.assembler.specs.Assembled.{Entered, Named, words_from, marks_from}
+use Rattle.diagnostics.specs.declared.Pass.TheVariants.{Finals}
 use Rattle.diagnostics.specs.declared.Search.{Search}
 use Rattle.diagnostics.specs.declared.Step.{Step}
 use Rattle.diagnostics.specs.Cursor.{taken}
@@ -20,10 +21,9 @@ use Rattle.diagnostics.specs.Pending.{names_before, pending, left}
 pub record Stands (text w : List ℕ) (s : Search) : Type 0 where
   pub laid : Laid s.count (words_from (length text)) (marks_from (length text)) w
   pub names : get_or s.first 10 0 < s.count → Interned text (rows s.count w) (words_from (length text)) w
-  pub pass : s.pass ≤ 3
   pub tally : s.tally ≤ 262144
-  pub behind : s.pass ≡ 2 → get_or s.first 10 0 < s.at
-  pub marks : s.pass ≡ 2
+  pub behind : s.pass ≡ Finals → get_or s.first 10 0 < s.at
+  pub marks : s.pass ≡ Finals
       → Marks text (rows s.count w) (words_from (length text)) (marks_from (length text)) w (names_of (rows s.count w) (get_or s.first 5 0)) (names_before (rows s.count w) (get_or s.first 10 0) s.at)
 
 -- the beginning: the outcome of assembly without its log, and a search that finds the diagnostics of the text

@@ -13,15 +13,15 @@ pub mod lines;
 pub mod passes;
 
 // The passes, in their order.
-pub const FAILURES: u32 = 0;
+#[derive(Clone, Copy, Debug, PartialEq, Eq)]
+pub enum Pass {
+    Failures,
+    Names,
+    Finals,
+    Rules,
+}
 
-pub const NAMES: u32 = 1;
-
-pub const FINALS: u32 = 2;
-
-pub const RULES: u32 = 3;
-
-// How far a search has come: what assembly found, the number of the pass, the index of the token to look at, the rules so far and whether one was
+// How far a search has come: what assembly found, the pass, the index of the token to look at, the rules so far and whether one was
 // dropped for the limit.
 #[derive(Clone, Copy)]
 pub struct Search {
@@ -29,7 +29,7 @@ pub struct Search {
     pub first: [u32; 11],
     pub errors: usize,
     pub rules: usize,
-    pub pass: u32,
+    pub pass: Pass,
     pub at: usize,
     pub tally: usize,
     pub cut: bool,
@@ -46,13 +46,12 @@ pub struct Found {
 #[derive(Clone, Copy)]
 pub struct Step {
     pub search: Search,
-    pub found: bool,
-    pub diagnostic: Diagnostic,
+    pub found: Option<Diagnostic>,
 }
 
 impl Search {
     // The search at a token of a pass.
-    pub fn moved(mut self, pass: u32, at: usize) -> Self
+    pub fn moved(mut self, pass: Pass, at: usize) -> Self
         ensures { result ≡ moved self pass at }
     {
         self.pass = pass;
@@ -83,7 +82,7 @@ pub fn start(text: &[u8], work: &mut [u32], count: usize) -> Search
         first,
         errors: a.errors,
         rules: a.rules,
-        pass: FAILURES,
+        pass: Pass::Failures,
         at: 0,
         tally: 0,
         cut: false,
@@ -95,16 +94,12 @@ pub fn next(text: &[u8], work: &mut [u32], s: Search) -> Found
     requires { Stands text.now work.old s × (1 ≤ length (pending text.now work.old s)) }
     ensures { (pending text.now work.old s ≡ result.diagnostic ∷ pending text.now work.new result.search) × Stands text.now work.new result.search × (length work.new ≡ length work.old) }
 {
-    let mut q = s;
+    let mut search = s;
     loop {
-        let p = passes::step(text, work, q);
-        q = p.search;
-        if p.found {
-            let diagnostic = p.diagnostic;
-            return Found {
-                search: q,
-                diagnostic,
-            };
+        let step = passes::step(text, work, search);
+        search = step.search;
+        if let Some(diagnostic) = step.found {
+            return Found { search, diagnostic };
         }
     }
 }

@@ -10,7 +10,7 @@ ghost use Rattle.assembler.specs.Rules.{verdict, rule_error};
 ghost use Rattle.diagnostics.specs.Cursor.{moved, ruled, stepped, taken, next_line};
 ghost use Rattle.diagnostics.specs.Repeats.{name_error};
 
-use crate::{FAILURES, FINALS, NAMES, RULES, Search, Step};
+use crate::{Pass, Search, Step};
 use assembler::rules::Tally;
 use assembler::{declarations, entry, failures, finals, rules};
 
@@ -18,23 +18,23 @@ use assembler::{declarations, entry, failures, finals, rules};
 fn stepped(search: Search, log: &[u32; 5], n: usize) -> Step
     ensures { result ≡ stepped search log.now n }
 {
-    let diagnostic = diag::record_at(log, 0);
-    Step {
-        search,
-        found: n == 1,
-        diagnostic,
-    }
+    let found = if n == 1 {
+        Some(diag::record_at(log, 0))
+    } else {
+        None
+    };
+    Step { search, found }
 }
 
 // A line, as one that may have failed.
 pub fn failure(work: &[u32], s: Search) -> Step
     requires { (4 * s.count ≤ length work.now) × (s.at + 2 < 2 ^ 64) }
-    ensures { (taken result ≡ line_error (peek (rows s.count work.now) s.at)) × (result.search ≡ moved s 0 (next_line (rows s.count work.now) s.at)) }
+    ensures { (taken result ≡ line_error (peek (rows s.count work.now) s.at)) × (result.search ≡ moved s Pass.Failures (next_line (rows s.count work.now) s.at)) }
 {
     let mut log = [0u32; 5];
     let t = entry::token_at(work, s.count, s.at);
     let n = failures::line_error(t, &mut log, 0);
-    stepped(s.moved(FAILURES, entry::next_line(t, s.at)), &log, n)
+    stepped(s.moved(Pass::Failures, entry::next_line(t, s.at)), &log, n)
 }
 
 // The diagnostic of a line that declares a name, given the first declarations.
@@ -60,23 +60,23 @@ fn name_error(work: &[u32], count: usize, at: usize, first: &[u32; 11], log: &mu
 // A line, as one that may declare a name.
 pub fn name(work: &[u32], s: Search) -> Step
     requires { (4 * s.count ≤ length work.now) × (s.at < s.count) × (s.at + 2 < 2 ^ 64) }
-    ensures { (taken result ≡ name_error (rows s.count work.now) s.first (entry_at (rows s.count work.now) s.at)) × (result.search ≡ moved s 1 (next_line (rows s.count work.now) s.at)) }
+    ensures { (taken result ≡ name_error (rows s.count work.now) s.first (entry_at (rows s.count work.now) s.at)) × (result.search ≡ moved s Pass.Names (next_line (rows s.count work.now) s.at)) }
 {
     let mut log = [0u32; 5];
     let first = s.first;
     let t = entry::token_at(work, s.count, s.at);
     let n = name_error(work, s.count, s.at, &first, &mut log);
-    stepped(s.moved(NAMES, entry::next_line(t, s.at)), &log, n)
+    stepped(s.moved(Pass::Names, entry::next_line(t, s.at)), &log, n)
 }
 
 // A token of F's line.
 pub fn listed(text: &[u8], work: &mut [u32], a: usize, b: usize, s: Search, declared: bool) -> Step
     requires { Laid s.count a b work.old × Interned text.now (rows s.count work.old) a work.old × (s.at < s.count) }
-    ensures { Kept b work.old work.new × (result.search ≡ moved s 2 (s.at + 1)) × ((qs before : List ℕ) → Marks text.now (rows s.count work.old) a b work.old qs before → (taken result ≡ final_error_at text.now (rows s.count work.old) declared qs before s.at) × Marks text.now (rows s.count work.old) a b work.new qs (before ++ name_at s.at (peek (rows s.count work.old) s.at))) }
+    ensures { Kept b work.old work.new × (result.search ≡ moved s Pass.Finals (s.at + 1)) × ((qs before : List ℕ) → Marks text.now (rows s.count work.old) a b work.old qs before → (taken result ≡ final_error_at text.now (rows s.count work.old) declared qs before s.at) × Marks text.now (rows s.count work.old) a b work.new qs (before ++ name_at s.at (peek (rows s.count work.old) s.at))) }
 {
     let mut log = [0u32; 5];
     let n = finals::final_at(text, work, s.count, a, b, s.at, declared, &mut log, 0);
-    stepped(s.moved(FINALS, s.at + 1), &log, n)
+    stepped(s.moved(Pass::Finals, s.at + 1), &log, n)
 }
 
 // A line, as one that may be a rule.
@@ -95,6 +95,6 @@ pub fn rule(work: &[u32], s: Search) -> Step
         },
         v,
     );
-    let next = s.moved(RULES, entry::next_line(t, s.at));
+    let next = s.moved(Pass::Rules, entry::next_line(t, s.at));
     stepped(next.tallied(c.rules, c.cut), &log, n)
 }

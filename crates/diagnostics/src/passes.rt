@@ -4,36 +4,34 @@ ghost use Rattle.diagnostics.specs.Cursor.{onward};
 ghost use Rattle.diagnostics.specs.Pending.{pending};
 ghost use Rattle.diagnostics.specs.Stands.{Stands, Stepped};
 
-use crate::{FAILURES, FINALS, NAMES, RULES, Search, Step, lines};
+use crate::{Pass, Search, Step, lines};
 use assembler::{entry, finals};
-use diag::{Diagnostic, Span};
 use lexer::kind;
 
 // The step to the beginning of another pass.
-fn onward(s: Search, pass: u32, at: usize) -> Step
+fn onward(s: Search, pass: Pass, at: usize) -> Step
     ensures { result ≡ onward s pass at }
 {
     Step {
         search: s.moved(pass, at),
-        found: false,
-        diagnostic: Diagnostic::error(0, Span::NONE),
+        found: None,
     }
 }
 
 // Of the failed lines.
 fn at_failures(text: &[u8], work: &[u32], s: Search) -> Step
-    requires { Stands text.now work.now s × (s.pass ≡ 0) }
+    requires { Stands text.now work.now s × (s.pass ≡ Pass.Failures) }
     ensures { Stepped text.now work.now work.now s result }
 {
     if s.at < s.count {
         return lines::failure(work, s);
     }
-    onward(s, NAMES, 0)
+    onward(s, Pass::Names, 0)
 }
 
 // Marks Q's names, before F's line is looked at.
 fn enter_finals(text: &[u8], work: &mut [u32], s: Search) -> Step
-    requires { Stands text.now work.old s × (s.pass ≡ 1) × (s.count ≤ s.at) × (get_or s.first 10 0 < s.count) }
+    requires { Stands text.now work.old s × (s.pass ≡ Pass.Names) × (s.count ≤ s.at) × (get_or s.first 10 0 < s.count) }
     ensures { Stepped text.now work.old work.new s result }
 {
     let base = text.len() + 1;
@@ -42,24 +40,24 @@ fn enter_finals(text: &[u8], work: &mut [u32], s: Search) -> Step
     let f = entry::wide(first[10]);
     finals::clear_marks(text, work, s.count, 4 * base, 5 * base);
     finals::mark_states(text, work, s.count, 4 * base, 5 * base, q);
-    onward(s, FINALS, f + 1)
+    onward(s, Pass::Finals, f + 1)
 }
 
 // From the declarations on: to F, or where there is none to the rules.
 fn behind_names(text: &[u8], work: &mut [u32], s: Search) -> Step
-    requires { Stands text.now work.old s × (s.pass ≡ 1) × (s.count ≤ s.at) }
+    requires { Stands text.now work.old s × (s.pass ≡ Pass.Names) × (s.count ≤ s.at) }
     ensures { Stepped text.now work.old work.new s result }
 {
     let first = s.first;
     if s.count <= entry::wide(first[10]) {
-        return onward(s, RULES, 0);
+        return onward(s, Pass::Rules, 0);
     }
     enter_finals(text, work, s)
 }
 
 // Of the declarations.
 fn at_names(text: &[u8], work: &mut [u32], s: Search) -> Step
-    requires { Stands text.now work.old s × (s.pass ≡ 1) }
+    requires { Stands text.now work.old s × (s.pass ≡ Pass.Names) }
     ensures { Stepped text.now work.old work.new s result }
 {
     if s.at < s.count {
@@ -70,7 +68,7 @@ fn at_names(text: &[u8], work: &mut [u32], s: Search) -> Step
 
 // Of F's line, before its end.
 fn at_listed(text: &[u8], work: &mut [u32], s: Search) -> Step
-    requires { Stands text.now work.old s × (s.pass ≡ 2) × (s.at < s.count) }
+    requires { Stands text.now work.old s × (s.pass ≡ Pass.Finals) × (s.at < s.count) }
     ensures { Stepped text.now work.old work.new s result }
 {
     let base = text.len() + 1;
@@ -78,20 +76,20 @@ fn at_listed(text: &[u8], work: &mut [u32], s: Search) -> Step
     let q = entry::wide(first[5]);
     let t = entry::token_at(work, s.count, s.at);
     if t.kind == kind::NEWLINE {
-        return onward(s, RULES, 0);
+        return onward(s, Pass::Rules, 0);
     }
     lines::listed(text, work, 4 * base, 5 * base, s, q < s.count)
 }
 
 // Of F.
 fn at_finals(text: &[u8], work: &mut [u32], s: Search) -> Step
-    requires { Stands text.now work.old s × (s.pass ≡ 2) }
+    requires { Stands text.now work.old s × (s.pass ≡ Pass.Finals) }
     ensures { Stepped text.now work.old work.new s result }
 {
     if s.at < s.count {
         return at_listed(text, work, s);
     }
-    onward(s, RULES, 0)
+    onward(s, Pass::Rules, 0)
 }
 
 // One step of a search that is not at its end.
@@ -99,14 +97,10 @@ pub fn step(text: &[u8], work: &mut [u32], s: Search) -> Step
     requires { Stands text.now work.old s × (1 ≤ length (pending text.now work.old s)) }
     ensures { Stepped text.now work.old work.new s result }
 {
-    if s.pass == FAILURES {
-        return at_failures(text, work, s);
+    match s.pass {
+        Pass::Failures => at_failures(text, work, s),
+        Pass::Names => at_names(text, work, s),
+        Pass::Finals => at_finals(text, work, s),
+        Pass::Rules => lines::rule(work, s),
     }
-    if s.pass == NAMES {
-        return at_names(text, work, s);
-    }
-    if s.pass == FINALS {
-        return at_finals(text, work, s);
-    }
-    lines::rule(work, s)
 }

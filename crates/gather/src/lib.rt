@@ -13,11 +13,10 @@ pub fn gather(text: &[u8], work: &mut [u32], search: Search, log: &mut [Diagnost
     requires { Stands text.now work.old search × (errors ≡ length (pending text.now work.old search)) × (errors ≤ length log.old) }
     ensures { log.new ≡ pending text.now work.old search ++ drop errors log.old }
 {
-    let mut s = search;
-    let mut i = 0;
-    while i < errors {
-        let f = diagnostics::next(text, work, s);
-        i = records::append(log, i, f.diagnostic);
-        s = f.search;
+    let mut search = search;
+    for i in 0..errors {
+        let found = diagnostics::next(text, work, search);
+        log[i] = found.diagnostic;
+        search = found.search;
     }
 }

@@ -7,4 +7,4 @@ use Rattle.gather.proofs.gather.Goals as goal
 pub returns : goal.returns
 returns c =
     at_last_all c.args.text.now c.args.work.now (pending c.args.text.now c.args.work.now c.args.search) c.args.log.now c.args.errors
-    (record { i = c.loop-i.i; words = c.loop-i.work; search = c.loop-i.s; log = c.loop-i.log }) c.loop-i.invariant (omega arith) (omega arith) (omega arith)
+    (record { i = c.loop-i.i; words = c.loop-i.work; search = c.loop-i.search; log = c.loop-i.log }) c.loop-i.invariant (omega arith) (omega arith) (omega arith)
