@@ -9,44 +9,13 @@ ghost use Rattle.admission.specs.Admission.{refused_by};
 ghost use Rattle.opening.specs.Opens.{Opens};
 
 use answer::{Answer, Refusal};
-use diagnostics::{Pass, Search};
+use diagnostics::Search;
 
 // What an admitted text is answered, and the search for the diagnostics that the log takes, at its beginning; none where there are none, or too many.
 #[derive(Clone, Copy)]
 pub struct Opened {
-<<<<<<< HEAD
     pub answer: Result<Answer, Refusal>,
     pub found: Option<Search>,
-=======
-    pub admitted: bool,
-    pub errors: usize,
-    pub search: Search,
-    pub answer: Answer,
-}
-
-// A text that is refused: there is nothing to search.
-fn refused(r: Refusal) -> Opened
-    ensures { result ≡ refused_by r }
-{
-    let first = [0; 11];
-    let search = Search {
-        count: 0,
-        first,
-        errors: 0,
-        rules: 0,
-        pass: Pass::Failures,
-        at: 0,
-        tally: 0,
-        cut: false,
-    };
-    let answer = Answer::Refused(r);
-    Opened {
-        admitted: false,
-        errors: 0,
-        search,
-        answer,
-    }
->>>>>>> 07deae91361ddf70dcbaee8966e57cece3b63eac
 }
 
 // Opens a text that is not refused.
