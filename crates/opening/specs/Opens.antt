@@ -3,7 +3,6 @@ use Rattle.std.specs.Prelude.{ℕ, ◌-◌, ◌*◌, ◌≤◌, ◌≡◌, false
 use Rattle.diag.specs.declared.Diagnostic.{Diagnostic}
 use Rattle.diag.specs.Log.{sort}
 use Rattle.records.specs.Unused.{unused}
-use Rattle.diagnostics.specs.declared.Pass.TheVariants.{Failures}
 use Rattle.diagnostics.specs.declared.Search.{Search}
 use Rattle.diagnostics.specs.Pending.{pending}
 use Rattle.diagnostics.specs.Stands.{Stands}
@@ -11,16 +10,10 @@ use Rattle.answer.specs.Answer.{leaves_work}
 use Rattle.opening.specs.declared.Opened.{Opened}
 use Rattle.enter.specs.Records.{read_in, read_records}
 
-<<<<<<< HEAD
 -- the diagnostics of a search, sorted, at the front of n records; or unused records alone
 abbrev pub reported : List ℕ → List ℕ → Option Search → ℕ → List Diagnostic
 reported t w None n = replicate n unused
 reported t w (Some s) n = sort (take s.errors (pending t w s)) ++ replicate (n - s.errors) unused
-=======
--- a text that is refused
-abbrev pub refused_by : Refusal → Opened
-refused_by r = record { admitted = false; errors = 0; search = record { count = 0; first = replicate 11 0; errors = 0; rules = 0; pass = Failures; at = 0; tally = 0; cut = false }; answer = Refused r }
->>>>>>> 07deae91361ddf70dcbaee8966e57cece3b63eac
 
 -- all diagnostics that are pending can be reported in n records
 pub record Reports (t w : List ℕ) (n : ℕ) (s : Search) : Type 0 where
