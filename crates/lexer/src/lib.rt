@@ -84,12 +84,16 @@ pub struct Cursor {
     pub n: usize,
 }
 
-// Token number n, as four words of work.
+// Token number n, as four words of work. Each word is written by itself: `copy_from_slice` of the four takes twelve instructions more for a token.
 fn push(work: &mut [u32], n: usize, kind: u32, start: u32, end: u32, value: u32)
     requires { 4 * n + 4 ≤ length work.old }
     ensures { work.new ≡ sets work.old (4 * n) (kind ∷ start ∷ end ∷ value ∷ []) }
 {
-    work[4 * n..4 * n + 4].copy_from_slice(&[kind, start, end, value]);
+    let o = 4 * n;
+    work[o] = kind;
+    work[o + 1] = start;
+    work[o + 2] = end;
+    work[o + 3] = value;
 }
 
 // The comma at a place, if one stands there, as token number n; answers how many tokens that is.
