@@ -146,7 +146,9 @@ pub fn char_at(text: &[u8], at: usize) -> Option<(u32, usize)>
     if a < 0x80 {
         return Some((u32::from(a), at + 1));
     }
-    long_at(text, at)
+    // Taken apart and put together again: the answer of ASCII then stays in registers.
+    let (c, next) = long_at(text, at)?;
+    Some((c, next))
 }
 
 // The same where characters above ASCII are as likely: those of two bytes and those that begin with E2 are decided here too.
