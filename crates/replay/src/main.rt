@@ -102,13 +102,10 @@ fn work_left(number: u32, before: &[u32], case: &[u8], work: &[u32]) -> bool
     requires { length work.now ≤ length before.now }
     ensures { result ≡ work_left number before.now case.now work.now }
 {
-    if number == 1 {
-        return left(before, case, 0, UNTOUCHED, work);
+    match number {
+        1 | 2 => left(before, case, 0, UNTOUCHED, work),
+        _ => true,
     }
-    if number == 2 {
-        return left(before, case, 0, UNTOUCHED, work);
-    }
-    true
 }
 
 // Whether log and sheet are left as stored.
@@ -118,11 +115,7 @@ fn rows_left(before: &[u32], case: &[u8], log: &[u32], sheet: &[u32]) -> bool
 {
     let m = word_at(case, 6);
     let from = 48 + marked(m);
-    if left(before, case, 48, m, log) {
-        left(before, case, from, word_at(case, 7), sheet)
-    } else {
-        false
-    }
+    left(before, case, 48, m, log) && left(before, case, from, word_at(case, 7), sheet)
 }
 
 // The byte that is to stand at i of an output of which n bytes are stored from `from` on; what was there before behind them.
@@ -157,11 +150,7 @@ fn output_at(case: &[u8], end: usize, output: &[u8]) -> bool
     ensures { result ≡ output_at case.now end output.now }
 {
     let n = marked(word_at(case, 8));
-    if end < n {
-        false
-    } else {
-        output_left(case, end - n, n, output)
-    }
+    n <= end && output_left(case, end - n, n, output)
 }
 
 // Fills a row with the front of another.
@@ -169,18 +158,14 @@ fn soil(before: &[u32], row: &mut [u32])
     requires { length row.old ≤ length before.now }
     ensures { row.new ≡ take (length row.old) before.now }
 {
-    diag::copy(before, row, row.len());
+    row.copy_from_slice(&before[..row.len()]);
 }
 
 // Fills an output.
 fn soil_output(output: &mut [u8])
     ensures { output.new ≡ replicate (length output.old) 165 }
 {
-    let mut i = 0;
-    while i < output.len() {
-        output[i] = DIRT;
-        i += 1;
-    }
+    output.fill(DIRT);
 }
 
 // Whether a reading call of a text, with dirty buffers, agrees with what is stored.
@@ -360,12 +345,10 @@ fn writing_agrees(
 
 // Words that no answer is likely to hold, all different.
 fn scatter(row: &mut [u32]) {
-    let mut dirt = 0xa5a5_a5a5;
-    let mut i = 0;
-    while i < row.len() {
-        row[i] = dirt;
-        dirt = std::num::wrapping_add_u32(dirt, 0x9e37_79b9);
-        i += 1;
+    let mut dirt = 0xa5a5_a5a5u32;
+    for word in row {
+        *word = dirt;
+        dirt = dirt.wrapping_add(0x9e37_79b9);
     }
 }
 
@@ -402,13 +385,10 @@ fn say(rt: &impl Print, what: &str, n: u32) -> io::Result<()> {
 
 // Writes how many cases of a kind agreed.
 fn say_kind(rt: &impl Print, k: usize, n: u32) -> io::Result<()> {
-    if k == 0 {
-        say(rt, "machine: ", n)
-    } else if k == 8 {
-        say(rt, "diagnostics: ", n)
-    } else {
-        print!(rt; "refused {k}")?;
-        say(rt, ": ", n)
+    match k {
+        0 => println!(rt; "machine: {n}"),
+        8 => println!(rt; "diagnostics: {n}"),
+        _ => println!(rt; "refused {k}: {n}"),
     }
 }
 
@@ -424,7 +404,7 @@ fn count(
     requires { k < 18 }
 {
     if agrees {
-        tally[k] = std::num::wrapping_add_u32(tally[k], 1);
+        tally[k] = tally[k].wrapping_add(1);
         Ok(())
     } else {
         say(rt, what, i)
@@ -468,11 +448,9 @@ fn replay(
 ) -> io::Result<()>
     requires { (32768 ≤ length case.old) × Rooms before.now work.old log.old sheet.old × (65536 ≤ length output.old) }
 {
-    let mut i = 0;
-    while i < n {
+    for i in 0..n {
         let e = load(input, case)?;
         replay_case(rt, i, before, &case[..e], work, log, sheet, output, tally)?;
-        i += 1;
     }
     Ok(())
 }
@@ -481,10 +459,8 @@ fn replay(
 fn say_kinds(rt: &impl Print, tally: &[u32; 18], from: usize) -> io::Result<()>
     requires { from ≤ 9 }
 {
-    let mut k = 0;
-    while k < 9 {
+    for k in 0..9 {
         say_kind(rt, k, tally[from + k])?;
-        k += 1;
     }
     Ok(())
 }
