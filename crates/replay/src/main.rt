@@ -24,27 +24,13 @@ const OUTPUT: usize = 65_536;
 // What a byte of output holds before a call.
 const DIRT: u8 = 165;
 
-// A byte as a word.
-fn wide(x: u8) -> u32
-    ensures { (result ≡ x) × (result < 256) }
-{
-    x as u32
-}
-
-// A word as a length.
-fn size(x: u32) -> usize
-    ensures { (result ≡ x) × (result < 4294967296) }
-{
-    x as usize
-}
-
 // The little-endian word at an index of stored bytes, 0 behind the last.
 fn word_at(case: &[u8], i: usize) -> u32
     ensures { result ≡ word_at case.now i }
 {
     if i < case.len() / 4 {
-        let low = wide(case[4 * i]) + 256 * wide(case[4 * i + 1]);
-        let high = wide(case[4 * i + 2]) + 256 * wide(case[4 * i + 3]);
+        let low = u32::from(case[4 * i]) + 256 * u32::from(case[4 * i + 1]);
+        let high = u32::from(case[4 * i + 2]) + 256 * u32::from(case[4 * i + 3]);
         low + 65_536 * high
     } else {
         0
@@ -55,14 +41,14 @@ fn word_at(case: &[u8], i: usize) -> u32
 fn size_at(case: &[u8], i: usize) -> usize
     ensures { (result ≡ word_at case.now i) × (result < 4294967296) }
 {
-    size(word_at(case, i))
+    word_at(case, i) as usize
 }
 
 // How many words or bytes a mark says are stored.
 fn marked(mark: u32) -> usize
     ensures { (result ≡ marked mark) × (result < 4294967296) }
 {
-    if mark == UNTOUCHED { 0 } else { size(mark) }
+    if mark == UNTOUCHED { 0 } else { mark as usize }
 }
 
 // The word that is to stand at i.
@@ -72,7 +58,7 @@ fn wanted(before: &[u32], case: &[u8], from: usize, mark: u32, i: usize) -> u32
 {
     if mark == UNTOUCHED {
         before[i]
-    } else if i < size(mark) {
+    } else if i < mark as usize {
         word_at(case, from + i)
     } else {
         0
@@ -181,15 +167,9 @@ fn answer_agrees(
     ensures { result ≡ agrees before.now case.now (read_outcome text.now (length work.old) log.old sheet.old) }
 {
     let answer = answer::words::answer_words(reader::read(text, work, log, sheet));
-    if left(before, case, 9, 36, &answer) {
-        if rows_left(before, case, log, sheet) {
-            work_left(answer[0], before, case, work)
-        } else {
-            false
-        }
-    } else {
-        false
-    }
+    left(before, case, 9, 36, &answer)
+        && rows_left(before, case, log, sheet)
+        && work_left(answer[0], before, case, work)
 }
 
 // The same with any buffers, which are filled with the front of `before` first.
@@ -226,19 +206,10 @@ fn form_agrees(
 {
     let mut answer = [7u32; 36];
     let number = writer::pevzoncs_write(text, work, log, sheet, output, &mut answer);
-    if left(before, case, 45, 3, &answer) {
-        if rows_left(before, case, log, sheet) {
-            if output_at(case, end, output) {
-                work_left(number, before, case, work)
-            } else {
-                false
-            }
-        } else {
-            false
-        }
-    } else {
-        false
-    }
+    left(before, case, 45, 3, &answer)
+        && rows_left(before, case, log, sheet)
+        && output_at(case, end, output)
+        && work_left(number, before, case, work)
 }
 
 // The same with any buffers, which are filled first.
@@ -356,7 +327,7 @@ fn scatter(row: &mut [u32]) {
 fn kind(number: u32) -> usize
     ensures { result < 9 }
 {
-    if number < 8 { size(number) } else { 8 }
+    (number as usize).min(8)
 }
 
 // Reads the next case and answers its length, or 0 where it is not whole.
