@@ -5,6 +5,31 @@
 use std::rt::Files;
 use std::{fs, io};
 
+// Paper 01, P1 to P11; two tapes, final states, refusals, and the limits.
+const CASES: [&str; 21] = [
+    "p01-two-rules.tm",
+    "p01-fault.tm",
+    "p02-empty-set.tm",
+    "p03-tapes-255.tm",
+    "p03-tapes-0.tm",
+    "p03-tapes-256.tm",
+    "p04-tapes-65-bits.tm",
+    "p05-quoted-quote.tm",
+    "p06-lone-quote.tm",
+    "p07-open-string.tm",
+    "p08-direction.tm",
+    "p09-arity.tm",
+    "p10-twice.tm",
+    "p11-empty.tm",
+    "two-tapes.tm",
+    "final-states.tm",
+    "refused-3.tm",
+    "refused-4.tm",
+    "refused-6.tm",
+    "bytes-2048.tm",
+    "bytes-2049.tm",
+];
+
 // The name of a case and its listing.
 fn show(rt: &(impl Files + Print), name: &str) -> io::Result<()> {
     println!(rt; "{name}")?;
@@ -13,36 +38,9 @@ fn show(rt: &(impl Files + Print), name: &str) -> io::Result<()> {
     listing::print(rt, &text[..n])
 }
 
-// Paper 01, P1 to P11.
-fn samples(rt: &(impl Files + Print)) -> io::Result<()> {
-    show(rt, "p01-two-rules.tm")?;
-    show(rt, "p01-fault.tm")?;
-    show(rt, "p02-empty-set.tm")?;
-    show(rt, "p03-tapes-255.tm")?;
-    show(rt, "p03-tapes-0.tm")?;
-    show(rt, "p03-tapes-256.tm")?;
-    show(rt, "p04-tapes-65-bits.tm")?;
-    show(rt, "p05-quoted-quote.tm")?;
-    show(rt, "p06-lone-quote.tm")?;
-    show(rt, "p07-open-string.tm")?;
-    show(rt, "p08-direction.tm")?;
-    show(rt, "p09-arity.tm")?;
-    show(rt, "p10-twice.tm")?;
-    show(rt, "p11-empty.tm")
-}
-
-// Two tapes, final states, refusals, and the limits.
-fn others(rt: &(impl Files + Print)) -> io::Result<()> {
-    show(rt, "two-tapes.tm")?;
-    show(rt, "final-states.tm")?;
-    show(rt, "refused-3.tm")?;
-    show(rt, "refused-4.tm")?;
-    show(rt, "refused-6.tm")?;
-    show(rt, "bytes-2048.tm")?;
-    show(rt, "bytes-2049.tm")
-}
-
 fn main(rt: HostRuntime) -> io::Result<()> {
-    samples(&rt)?;
-    others(&rt)
+    for name in CASES {
+        show(&rt, name)?;
+    }
+    Ok(())
 }

@@ -1,8 +1,7 @@
 -- Laws of stored cases.
 use Rattle.std.proofs.Common.{◌≡◌, ℕ, suc, ◌+◌, ◌-◌, ◌*◌, ◌/◌, ◌<◌, ◌≤◌, Bool, true, false, ◌&&◌, eqb, leb, List, [], ◌∷◌, ◌++◌, length, get_or, take, drop, set, replicate, sym, refl, ap, ◌∙◌, append-nil, add-one, arith, length-drop, drop_of_length-le, length-take, take_all, drop-cons, get_or-take, le-ltb, lt-ltb, eq-eqb, ne_eqb, le-leb, leb-true}
 use mathlib.Core.Bool.{false≢true}
-use borrow.Author.Fill.{fill_more}
-use borrow.Author.Tests.{lt-leb}
+use borrow.Author.Tests.{lt-leb, eqb-false}
 use Rattle.language.specs.Outcome.{ReadOutcome, read_outcome, reply_words, reply_number, WriteOutcome, WriteReply, write_outcome, write_words}
 use Rattle.lexer.proofs.Scans.{by_test}
 use Rattle.answer.specs.declared.Refusal.TheVariants.{TextTooLong, WorkTooShort, InvalidUtf8, OutsideSet, LogTooShort, SheetTooShort}
@@ -123,36 +122,21 @@ module _ (before c log sheet : List ℕ) (m : ℕ) (e : m ≡ word_at c 6) where
 
 -- ---- work
 module _ (n : ℕ) (before c work : List ℕ) where
-  pub work-first : (v : Bool) → n ≡ 1 → v ≡ left before c 0 4294967295 work → v ≡ work_left n before c work
+  pub work_kept : (v : Bool) → 1 ≤ n → n ≤ 2 → v ≡ left before c 0 4294967295 work → v ≡ work_left n before c work
   unfolding work_left
-  work-first v e q = rw (eq-eqb n 1 e) q
-
-  pub work_second : (v : Bool) → (n ≡ 1 → ⊥) → n ≡ 2 → v ≡ left before c 0 4294967295 work → v ≡ work_left n before c work
-  unfolding work_left
-  work_second v f e q = rw (ne_eqb n 1 f, eq-eqb n 2 e) q
+  work_kept v h g q =
+      by_test (eqb n 1)
+      (λ e. rw e q)
+      (λ e.
+      let f : n ≡ 1 → ⊥ = eqb-false n 1 e in
+      let z : n ≡ 2 = omega arith in
+      rw (e, eq-eqb n 2 z) q)
 
   pub work_free : (n ≡ 1 → ⊥) → (n ≡ 2 → ⊥) → true ≡ work_left n before c work
   unfolding work_left
   work_free f g = rw (ne_eqb n 1 f, ne_eqb n 2 g)
 
--- ---- an output filled with dirt
-module _ (d l : List ℕ) (i : ℕ) (e : l ≡ replicate i 165 ++ drop i d) where
-  pub filled_more : i < length l → length l ≡ length d → set l i 165 ≡ replicate (i + 1) 165 ++ drop (i + 1) d
-  filled_more g q =
-      let h : i < length d = omega arith in
-      ap (λ (l : List ℕ). set l i 165) e ∙ fill_more i 165 d h
-
-  pub filled-all : i ≤ length d → length l ≤ i → length l ≡ length d → l ≡ replicate (length d) 165
-  filled-all h g q =
-      let z : i ≡ length d = omega arith in
-      e ∙ ap (λ (r : List ℕ). replicate i 165 ++ r) (drop_of_length-le d {i = i} (omega arith)) ∙ append-nil (replicate i 165) ∙ ap (λ (k : ℕ). replicate k 165) z
-
 -- ---- a row filled with the front of another
-pub copied : (before row row' : List ℕ) → row' ≡ take (length row) before ++ drop (length row) row → row' ≡ take (length row) before
-copied before row row' e =
-    let n : length row ≤ length row = omega arith in
-    e ∙ rw (drop_of_length-le row n, append-nil)
-
 pub fronted : (before w : List ℕ) (n : ℕ) → n ≤ length before → w ≡ take n before → w ≡ take (length w) before
 fronted before w n h e =
     let k : length w ≡ n = ap length e ∙ simp length-take (omega arith) in

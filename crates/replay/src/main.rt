@@ -24,27 +24,13 @@ const OUTPUT: usize = 65_536;
 // What a byte of output holds before a call.
 const DIRT: u8 = 165;
 
-// A byte as a word.
-fn wide(x: u8) -> u32
-    ensures { (result ≡ x) × (result < 256) }
-{
-    x as u32
-}
-
-// A word as a length.
-fn size(x: u32) -> usize
-    ensures { (result ≡ x) × (result < 4294967296) }
-{
-    x as usize
-}
-
 // The little-endian word at an index of stored bytes, 0 behind the last.
 fn word_at(case: &[u8], i: usize) -> u32
     ensures { result ≡ word_at case.now i }
 {
     if i < case.len() / 4 {
-        let low = wide(case[4 * i]) + 256 * wide(case[4 * i + 1]);
-        let high = wide(case[4 * i + 2]) + 256 * wide(case[4 * i + 3]);
+        let low = u32::from(case[4 * i]) + 256 * u32::from(case[4 * i + 1]);
+        let high = u32::from(case[4 * i + 2]) + 256 * u32::from(case[4 * i + 3]);
         low + 65_536 * high
     } else {
         0
@@ -55,14 +41,14 @@ fn word_at(case: &[u8], i: usize) -> u32
 fn size_at(case: &[u8], i: usize) -> usize
     ensures { (result ≡ word_at case.now i) × (result < 4294967296) }
 {
-    size(word_at(case, i))
+    word_at(case, i) as usize
 }
 
 // How many words or bytes a mark says are stored.
 fn marked(mark: u32) -> usize
     ensures { (result ≡ marked mark) × (result < 4294967296) }
 {
-    if mark == UNTOUCHED { 0 } else { size(mark) }
+    if mark == UNTOUCHED { 0 } else { mark as usize }
 }
 
 // The word that is to stand at i.
@@ -72,7 +58,7 @@ fn wanted(before: &[u32], case: &[u8], from: usize, mark: u32, i: usize) -> u32
 {
     if mark == UNTOUCHED {
         before[i]
-    } else if i < size(mark) {
+    } else if i < mark as usize {
         word_at(case, from + i)
     } else {
         0
@@ -102,13 +88,10 @@ fn work_left(number: u32, before: &[u32], case: &[u8], work: &[u32]) -> bool
     requires { length work.now ≤ length before.now }
     ensures { result ≡ work_left number before.now case.now work.now }
 {
-    if number == 1 {
-        return left(before, case, 0, UNTOUCHED, work);
+    match number {
+        1 | 2 => left(before, case, 0, UNTOUCHED, work),
+        _ => true,
     }
-    if number == 2 {
-        return left(before, case, 0, UNTOUCHED, work);
-    }
-    true
 }
 
 // Whether log and sheet are left as stored.
@@ -118,11 +101,7 @@ fn rows_left(before: &[u32], case: &[u8], log: &[u32], sheet: &[u32]) -> bool
 {
     let m = word_at(case, 6);
     let from = 48 + marked(m);
-    if left(before, case, 48, m, log) {
-        left(before, case, from, word_at(case, 7), sheet)
-    } else {
-        false
-    }
+    left(before, case, 48, m, log) && left(before, case, from, word_at(case, 7), sheet)
 }
 
 // The byte that is to stand at i of an output of which n bytes are stored from `from` on; what was there before behind them.
@@ -157,11 +136,7 @@ fn output_at(case: &[u8], end: usize, output: &[u8]) -> bool
     ensures { result ≡ output_at case.now end output.now }
 {
     let n = marked(word_at(case, 8));
-    if end < n {
-        false
-    } else {
-        output_left(case, end - n, n, output)
-    }
+    n <= end && output_left(case, end - n, n, output)
 }
 
 // Fills a row with the front of another.
@@ -169,18 +144,14 @@ fn soil(before: &[u32], row: &mut [u32])
     requires { length row.old ≤ length before.now }
     ensures { row.new ≡ take (length row.old) before.now }
 {
-    diag::copy(before, row, row.len());
+    row.copy_from_slice(&before[..row.len()]);
 }
 
 // Fills an output.
 fn soil_output(output: &mut [u8])
     ensures { output.new ≡ replicate (length output.old) 165 }
 {
-    let mut i = 0;
-    while i < output.len() {
-        output[i] = DIRT;
-        i += 1;
-    }
+    output.fill(DIRT);
 }
 
 // Whether a reading call of a text, with dirty buffers, agrees with what is stored.
@@ -196,15 +167,9 @@ fn answer_agrees(
     ensures { result ≡ agrees before.now case.now (read_outcome text.now (length work.old) log.old sheet.old) }
 {
     let answer = answer::words::answer_words(reader::read(text, work, log, sheet));
-    if left(before, case, 9, 36, &answer) {
-        if rows_left(before, case, log, sheet) {
-            work_left(answer[0], before, case, work)
-        } else {
-            false
-        }
-    } else {
-        false
-    }
+    left(before, case, 9, 36, &answer)
+        && rows_left(before, case, log, sheet)
+        && work_left(answer[0], before, case, work)
 }
 
 // The same with any buffers, which are filled with the front of `before` first.
@@ -241,19 +206,10 @@ fn form_agrees(
 {
     let mut answer = [7u32; 36];
     let number = writer::pevzoncs_write(text, work, log, sheet, output, &mut answer);
-    if left(before, case, 45, 3, &answer) {
-        if rows_left(before, case, log, sheet) {
-            if output_at(case, end, output) {
-                work_left(number, before, case, work)
-            } else {
-                false
-            }
-        } else {
-            false
-        }
-    } else {
-        false
-    }
+    left(before, case, 45, 3, &answer)
+        && rows_left(before, case, log, sheet)
+        && output_at(case, end, output)
+        && work_left(number, before, case, work)
 }
 
 // The same with any buffers, which are filled first.
@@ -360,12 +316,10 @@ fn writing_agrees(
 
 // Words that no answer is likely to hold, all different.
 fn scatter(row: &mut [u32]) {
-    let mut dirt = 0xa5a5_a5a5;
-    let mut i = 0;
-    while i < row.len() {
-        row[i] = dirt;
-        dirt = std::num::wrapping_add_u32(dirt, 0x9e37_79b9);
-        i += 1;
+    let mut dirt = 0xa5a5_a5a5u32;
+    for word in row {
+        *word = dirt;
+        dirt = dirt.wrapping_add(0x9e37_79b9);
     }
 }
 
@@ -373,7 +327,7 @@ fn scatter(row: &mut [u32]) {
 fn kind(number: u32) -> usize
     ensures { result < 9 }
 {
-    if number < 8 { size(number) } else { 8 }
+    (number as usize).min(8)
 }
 
 // Reads the next case and answers its length, or 0 where it is not whole.
@@ -402,13 +356,10 @@ fn say(rt: &impl Print, what: &str, n: u32) -> io::Result<()> {
 
 // Writes how many cases of a kind agreed.
 fn say_kind(rt: &impl Print, k: usize, n: u32) -> io::Result<()> {
-    if k == 0 {
-        say(rt, "machine: ", n)
-    } else if k == 8 {
-        say(rt, "diagnostics: ", n)
-    } else {
-        print!(rt; "refused {k}")?;
-        say(rt, ": ", n)
+    match k {
+        0 => println!(rt; "machine: {n}"),
+        8 => println!(rt; "diagnostics: {n}"),
+        _ => println!(rt; "refused {k}: {n}"),
     }
 }
 
@@ -424,7 +375,7 @@ fn count(
     requires { k < 18 }
 {
     if agrees {
-        tally[k] = std::num::wrapping_add_u32(tally[k], 1);
+        tally[k] = tally[k].wrapping_add(1);
         Ok(())
     } else {
         say(rt, what, i)
@@ -468,11 +419,9 @@ fn replay(
 ) -> io::Result<()>
     requires { (32768 ≤ length case.old) × Rooms before.now work.old log.old sheet.old × (65536 ≤ length output.old) }
 {
-    let mut i = 0;
-    while i < n {
+    for i in 0..n {
         let e = load(input, case)?;
         replay_case(rt, i, before, &case[..e], work, log, sheet, output, tally)?;
-        i += 1;
     }
     Ok(())
 }
@@ -481,10 +430,8 @@ fn replay(
 fn say_kinds(rt: &impl Print, tally: &[u32; 18], from: usize) -> io::Result<()>
     requires { from ≤ 9 }
 {
-    let mut k = 0;
-    while k < 9 {
+    for k in 0..9 {
         say_kind(rt, k, tally[from + k])?;
-        k += 1;
     }
     Ok(())
 }

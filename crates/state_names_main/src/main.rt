@@ -16,10 +16,9 @@ fn main(rt: HostRuntime) -> io::Result<()> {
     let text = b"start = ab";
     // two states, the second final, and two words that are no third
     let sheet = [8, 10, 0, 0, 5, 1, 7, 8];
-    show(&rt, &sheet, text, 0)?;
-    show(&rt, &sheet, text, 1)?;
-    show(&rt, &sheet, text, 2)?;
-    show(&rt, &sheet, text, 0xffff_ffff_ffff_ffff)?;
+    for i in [0, 1, 2, usize::MAX] {
+        show(&rt, &sheet, text, i)?;
+    }
     // up to the end; of no length, backwards, one beyond the end, none
     let odd = [
         9,
@@ -34,16 +33,14 @@ fn main(rt: HostRuntime) -> io::Result<()> {
         9,
         11,
         0,
-        0xffff_ffff,
-        0xffff_ffff,
+        u32::MAX,
+        u32::MAX,
         0,
     ];
-    show(&rt, &odd, text, 0)?;
-    show(&rt, &odd, text, 1)?;
-    show(&rt, &odd, text, 2)?;
-    show(&rt, &odd, text, 3)?;
-    show(&rt, &odd, text, 4)?;
+    for i in 0..5 {
+        show(&rt, &odd, text, i)?;
+    }
     // an empty text, an empty sheet
     show(&rt, &odd, b"", 0)?;
-    show(&rt, &odd[0..0], text, 0)
+    show(&rt, &[], text, 0)
 }
