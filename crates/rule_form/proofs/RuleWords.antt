@@ -15,7 +15,7 @@ use Rattle.emit.specs.declared.Output.{Output}
 use Rattle.emit.specs.Appends.{Appends}
 use Rattle.pieces.specs.Writes.{Writes}
 use Rattle.rule_form.specs.Rules.{rule_left, rule_right}
-use Rattle.form_parts.specs.Places.{Every, Utf8At, NameIn, column}
+use Rattle.form_parts.specs.Places.{Every, Utf8At, column}
 use Rattle.rule_form.specs.Formed.{RuleFormed}
 use Rattle.pieces.proofs.Chain.{known, same, ◌▹◌, Goes, goes_start, goes_on, goes_end}
 
@@ -83,9 +83,6 @@ module _ (text ws : List ℕ) where
   module _ (n k : ℕ) (tail : List ℕ) (arity : n ≡ get_or ws 9 0) (many : k ≡ get_or ws 10 0) (cut : tail ≡ drop (11 + 7 * n) ws) where
     rest-words : drop (11 + 7 * get_or ws 9 0) ws ≡ tail
     rest-words = ap (λ m. drop (11 + 7 * m) ws) (sym arity) ∙ sym cut
-
-    pub leading_utf8 : Every (NameIn text) (groups 2 (get_or ws 10 0) (drop (11 + 7 * get_or ws 9 0) ws)) → Every (NameIn text) (groups 2 k tail)
-    leading_utf8 h = subst (λ m. Every (NameIn text) (groups 2 m tail)) (sym many) (subst (λ l. Every (NameIn text) (groups 2 (get_or ws 10 0) l)) rest-words h)
 
     pub lines-written : (q : D.Span) (o a b c d r : Output) → q ≡ span_of (place_at ws 7) → Writes (each comment_line (map (text_in text) (groups 2 k tail))) o a
         → Writes (rule_left (rule_in text ws)) a b → Writes (rule_right (rule_in text ws)) b c → Writes (own_comment (comment_at text (span_in q))) c d → Appends (10 ∷ []) d r
