@@ -2,10 +2,9 @@
 use mathlib.Core.Path.{◌≡◌, refl, sym, ap, ap₂, subst, ◌∙◌}
 use Prim.Native.Nat.{ℕ, suc, ◌+◌, ◌-◌, ◌*◌, ◌≤◌, ◌<◌}
 use native.Mathlib.Omega.{arith}
-use mathlib.Core.Bool.{true}
 use mathlib.Core.List.{List, [], ◌∷◌, map, map-map}
 use lib.ListN.{get_or, take, drop}
-use Rattle.chars.specs.Utf8.{scalars, encode}
+use Rattle.chars.specs.Utf8.{encode}
 use Rattle.language.specs.Content.{ActionContent}
 use Rattle.language.specs.Plain.{Piece, say, end, each, commas, verbatim, symbol, direction, comment_line, own_comment, rule, rule_lines}
 use Rattle.language.specs.Agreement.{groups, records, place_at, dir_of, action_in, characters_at, comment_at, text_in, rule_in}
@@ -15,7 +14,7 @@ use Rattle.emit.specs.declared.Output.{Output}
 use Rattle.emit.specs.Appends.{Appends}
 use Rattle.pieces.specs.Writes.{Writes}
 use Rattle.rule_form.specs.Rules.{rule_left, rule_right}
-use Rattle.form_parts.specs.Places.{Every, Utf8At, column}
+use Rattle.form_parts.specs.Places.{Every, column}
 use Rattle.rule_form.specs.Formed.{RuleFormed}
 use Rattle.pieces.proofs.Chain.{known, same, ◌▹◌, Goes, goes_start, goes_on, goes_end}
 
@@ -45,15 +44,7 @@ module _ (n : ℕ) (ws : List ℕ) where
 
 -- ---- one rule
 
--- the symbols of a column are scalar values
-pub coded : (ws : List ℕ) (n : ℕ) (acts : List ℕ) → n ≡ get_or ws 9 0 → acts ≡ drop 11 ws → (i : ℕ) → scalars (column 7 i (get_or ws 9 0) (drop 11 ws)) ≡ true → scalars (column 7 i n acts) ≡ true
-coded ws n acts arity cut i h = ap₂ (λ m l. scalars (column 7 i m l)) arity cut ∙ h
-
 module _ (text ws : List ℕ) where
-  -- the characters at a place that the code read
-  pub placed : (i : ℕ) (q : D.Span) → q ≡ span_of (place_at ws i) → Utf8At text (place_at ws i) → Utf8At text (span_in q)
-  placed i q e h = subst (Utf8At text) (sym (ap span_in e)) h
-
   named : (i : ℕ) (q : D.Span) (o r : Output) → q ≡ span_of (place_at ws i) → Writes (verbatim (characters_at text (span_in q))) o r → Writes (verbatim (characters_at text (place_at ws i))) o r
   named i q o r e w = subst (λ p. Writes (verbatim (characters_at text p)) o r) (ap span_in e) w
 
