@@ -5,13 +5,13 @@ use native.Mathlib.Omega.{arith}
 use native.Mathlib.Nat.{pow-succ', pow-le-pow_right}
 use mathlib.Core.Logic.{⊎_elim}
 use mathlib.Core.List.{List, [], ◌∷◌, ◌++◌, append_assoc}
-use lib.ListN.{length, drop, take, set, length-set, length-drop, drop_of_length-le}
+use lib.ListN.{length, drop, take, set, length-set, length-drop}
 use lib.Seq.{take_all, drop-cons, get_or-set_same, drop-set-lt}
 use borrow.Author.Tests.{lt-ltb, le-ltb}
 use Rattle.chars.proofs.Tests.{lt-or-ge}
 use Rattle.emit.specs.declared.Output.{Output}
 use Rattle.emit.specs.Appends.{Appends}
-use Rattle.emit.specs.Decimal.{digits_from, decimal}
+use Rattle.emit.specs.Decimal.{digits_from}
 
 -- ---- the digits that are stored, and those that are left
 
@@ -48,15 +48,8 @@ module _ (i left : ℕ) (more : 10 ≤ left) (fits : left < 10 ^ i) where
         let f : i - 1 ≡ suc (i - 1 - 1) = omega arith in
         rw (stored row (i - 1) (0x30 + left % 10) (omega arith), e) (rw (f, digits_from, le-ltb left 10 more) at inv)
 
-pub digits-start : (n : ℕ) (row : List ℕ) → length row ≡ 20 → digits_from (20 - 1) n (drop 20 row) ≡ decimal n
-unfolding decimal
-digits-start n row h = ap (digits_from 19 n) (drop_of_length-le row {i = 20} (omega arith))
-
 pub digits_room : (i x : ℕ) (row : List ℕ) → length row ≡ 20 → length (set row i x) ≡ 20
 digits_room i x row h = length-set row i x ∙ h
-
-pub digits_end : (i x : ℕ) (row : List ℕ) → length row ≡ 20 → 20 ≤ length (set row i x)
-digits_end i x row h = omega (arith, length-set row i x)
 
 -- what is left is the first digit
 pub digits_last : (i left : ℕ) (row d : List ℕ) → 1 ≤ i → i ≤ length row → left < 10 → digits_from (i - 1) left (drop i row) ≡ d

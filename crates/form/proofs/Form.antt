@@ -13,10 +13,8 @@ use Rattle.emit.specs.declared.Output.{Output}
 use Rattle.emit.specs.Appends.{held}
 use Rattle.emit.proofs.Appends.{appended-nil}
 use Rattle.pieces.specs.Writes.{Writes}
-use Rattle.form_parts.specs.Places.{Every, NameIn}
 use Rattle.form.specs.Sections.{head_lines, states_line, symbols_line, blank_line, start_line, finals_line, declared_lines}
-use Rattle.rule_form.specs.Formed.{RuleFormed}
-use Rattle.form.specs.WellFormed.{DeclaredFormed, sigma_from, gamma_from, header_from, trailing_from, rules_from, WellFormed}
+use Rattle.form.specs.WellFormed.{sigma_from, gamma_from, header_from, trailing_from, rules_from}
 use Rattle.pieces.proofs.Chain.{same, ◌▹◌}
 
 -- the letters Σ and Γ
@@ -64,18 +62,6 @@ module _ (a : Answer) where
 
     rows_is : rows ≡ rules_from a
     rows_is = e₅ ∙ ap (drop (2 * n.trailing)) trailing_is
-
-    pub header-formed : WellFormed a → Every (NameIn a.text) (groups 2 n.header header)
-    header-formed w = subst (λ l. Every (NameIn a.text) (groups 2 n.header l)) (sym header_is) w.body_part.header_texts
-
-    pub trailing-formed : WellFormed a → Every (NameIn a.text) (groups 2 n.trailing trailing)
-    trailing-formed w = subst (λ l. Every (NameIn a.text) (groups 2 n.trailing l)) (sym trailing_is) w.body_part.trailing_texts
-
-    pub rules-formed : WellFormed a → Every (RuleFormed a.text) (records n.rules rows)
-    rules-formed w = subst (λ l. Every (RuleFormed a.text) (records n.rules l)) (sym rows_is) w.body_part.rule_records
-
-    pub declared-formed : WellFormed a → DeclaredFormed a.text a.head a.sheet sigma gamma
-    declared-formed w = subst (λ s. DeclaredFormed a.text a.head a.sheet s gamma) (sym e₁) (subst (DeclaredFormed a.text a.head a.sheet (sigma_from a)) (sym gamma_is) w.declared_part)
 
     -- the sections make the form
     abbrev sections : Piece

@@ -1,12 +1,12 @@
 -- The lines before the rules: each is its pieces one after the other, or nothing if its part is not declared.
-use mathlib.Core.Path.{◌≡◌, refl, sym, ap, subst, ◌∙◌}
+use mathlib.Core.Path.{◌≡◌, refl, sym, ap, ◌∙◌}
 use Prim.Native.Nat.{ℕ, zero, suc, ◌+◌, ◌/◌, ◌%◌, ◌<◌}
 use native.Mathlib.Omega.{arith}
 use mathlib.Core.Logic.{⊎_elim}
 use mathlib.Core.Bool.{Bool, true, false}
 use mathlib.Core.List.{List, [], ◌∷◌, ◌++◌, map}
 use borrow.Author.Tests.{lt-ltb, le-ltb}
-use Rattle.chars.specs.Utf8.{scalar, encode_one, encode}
+use Rattle.chars.specs.Utf8.{encode_one, encode}
 use Rattle.chars.proofs.Tests.{lt-or-ge}
 use Rattle.language.specs.Layout.{Head}
 use Rattle.language.specs.Plain.{say, commas, verbatim, symbol, string, decimal_from, decimal, kind_name, decoder, name_set, symbol_set, final_names}
@@ -26,7 +26,6 @@ use Rattle.pieces.specs.Writes.{Writes}
 use Rattle.machine.specs.Head.{span_in, kind_in, decoder_in}
 use Rattle.form.specs.Sections.{head_lines, states_line, symbols_line, blank_line, start_line, finals_line}
 use Rattle.form_parts.specs.Places.{column}
-use Rattle.form.specs.WellFormed.{DecoderFormed}
 use Rattle.pieces.proofs.Chain.{known, spoken, none, ◌▹◌}
 
 -- ---- the number of tapes
@@ -67,9 +66,6 @@ module _ (k : Kind) (o r : Output) where
   pub kind_beaver : k ≡ Beaver → Appends (say "beaver" []) o r → Writes (say (kind_name (kind_in k))) o r
   unfolding encode
   kind_beaver e a = rw e (spoken "beaver" (λ rest. refl) a)
-
-pub decoder-scalar : (d : Decoder) (c : ℕ) → d ≡ Unary c → DecoderFormed (decoder_in d) → scalar c ≡ true
-decoder-scalar d c e h = subst (λ x. DecoderFormed (decoder_in x)) e h
 
 module _ (d : Decoder) (o r : Output) where
   pub decoder-word : d ≡ Word → Appends (say "word" []) o r → Writes (decoder (decoder_in d)) o r

@@ -53,6 +53,7 @@ fn in_string(out: &mut Output, c: u32)
 }
 
 // Whether a character makes an escape with a backslash before it.
+#[tactic(auto, unfolding(crate::specs::Strings::is_escape))]
 fn is_escape(c: u32) -> bool
     ensures { result ≡ is_escape c }
 {

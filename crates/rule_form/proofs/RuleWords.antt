@@ -2,10 +2,9 @@
 use mathlib.Core.Path.{◌≡◌, refl, sym, ap, ap₂, subst, ◌∙◌}
 use Prim.Native.Nat.{ℕ, suc, ◌+◌, ◌-◌, ◌*◌, ◌≤◌, ◌<◌}
 use native.Mathlib.Omega.{arith}
-use mathlib.Core.Bool.{true}
 use mathlib.Core.List.{List, [], ◌∷◌, map, map-map}
 use lib.ListN.{get_or, take, drop}
-use Rattle.chars.specs.Utf8.{scalars, encode}
+use Rattle.chars.specs.Utf8.{encode}
 use Rattle.language.specs.Content.{ActionContent}
 use Rattle.language.specs.Plain.{Piece, say, end, each, commas, verbatim, symbol, direction, comment_line, own_comment, rule, rule_lines}
 use Rattle.language.specs.Agreement.{groups, records, place_at, dir_of, action_in, characters_at, comment_at, text_in, rule_in}
@@ -15,7 +14,7 @@ use Rattle.emit.specs.declared.Output.{Output}
 use Rattle.emit.specs.Appends.{Appends}
 use Rattle.pieces.specs.Writes.{Writes}
 use Rattle.rule_form.specs.Rules.{rule_left, rule_right}
-use Rattle.form_parts.specs.Places.{Every, Utf8At, NameIn, column}
+use Rattle.form_parts.specs.Places.{Every, column}
 use Rattle.rule_form.specs.Formed.{RuleFormed}
 use Rattle.pieces.proofs.Chain.{known, same, ◌▹◌, Goes, goes_start, goes_on, goes_end}
 
@@ -45,15 +44,7 @@ module _ (n : ℕ) (ws : List ℕ) where
 
 -- ---- one rule
 
--- the symbols of a column are scalar values
-pub coded : (ws : List ℕ) (n : ℕ) (acts : List ℕ) → n ≡ get_or ws 9 0 → acts ≡ drop 11 ws → (i : ℕ) → scalars (column 7 i (get_or ws 9 0) (drop 11 ws)) ≡ true → scalars (column 7 i n acts) ≡ true
-coded ws n acts arity cut i h = ap₂ (λ m l. scalars (column 7 i m l)) arity cut ∙ h
-
 module _ (text ws : List ℕ) where
-  -- the characters at a place that the code read
-  pub placed : (i : ℕ) (q : D.Span) → q ≡ span_of (place_at ws i) → Utf8At text (place_at ws i) → Utf8At text (span_in q)
-  placed i q e h = subst (Utf8At text) (sym (ap span_in e)) h
-
   named : (i : ℕ) (q : D.Span) (o r : Output) → q ≡ span_of (place_at ws i) → Writes (verbatim (characters_at text (span_in q))) o r → Writes (verbatim (characters_at text (place_at ws i))) o r
   named i q o r e w = subst (λ p. Writes (verbatim (characters_at text p)) o r) (ap span_in e) w
 
@@ -83,9 +74,6 @@ module _ (text ws : List ℕ) where
   module _ (n k : ℕ) (tail : List ℕ) (arity : n ≡ get_or ws 9 0) (many : k ≡ get_or ws 10 0) (cut : tail ≡ drop (11 + 7 * n) ws) where
     rest-words : drop (11 + 7 * get_or ws 9 0) ws ≡ tail
     rest-words = ap (λ m. drop (11 + 7 * m) ws) (sym arity) ∙ sym cut
-
-    pub leading_utf8 : Every (NameIn text) (groups 2 (get_or ws 10 0) (drop (11 + 7 * get_or ws 9 0) ws)) → Every (NameIn text) (groups 2 k tail)
-    leading_utf8 h = subst (λ m. Every (NameIn text) (groups 2 m tail)) (sym many) (subst (λ l. Every (NameIn text) (groups 2 (get_or ws 10 0) l)) rest-words h)
 
     pub lines-written : (q : D.Span) (o a b c d r : Output) → q ≡ span_of (place_at ws 7) → Writes (each comment_line (map (text_in text) (groups 2 k tail))) o a
         → Writes (rule_left (rule_in text ws)) a b → Writes (rule_right (rule_in text ws)) b c → Writes (own_comment (comment_at text (span_in q))) c d → Appends (10 ∷ []) d r

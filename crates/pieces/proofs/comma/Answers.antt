@@ -7,6 +7,3 @@ ruleset laws = (rules, comma-written, comma-none)
 
 pub returns-then-i-gt0 : goal.returns-then-i-gt0
 returns-then-i-gt0 c = search laws
-
-pub returns-else-i-gt0 : goal.returns-else-i-gt0
-returns-else-i-gt0 c = search laws

@@ -10,6 +10,3 @@ returns-then-c-ne92 c = search laws
 
 pub returns-else-c-ne92 : goal.returns-else-c-ne92
 returns-else-c-ne92 c = search laws
-
-pub returns-then-slash : goal.returns-then-slash
-returns-then-slash c = search laws
