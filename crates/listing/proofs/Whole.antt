@@ -11,10 +11,11 @@ use Rattle.language.specs.Plain.{Piece, ◌⨾◌}
 use Rattle.machine.specs.declared.Head.{Head}
 use Rattle.machine.specs.Head.{span_in, counts_in}
 use Rattle.machine.specs.Meaning.{head_in}
+use Rattle.std.specs.Prelude.{Result, Ok, Err}
 use Rattle.answer.specs.declared.Refusal.{Refusal}
 use Rattle.answer.specs.declared.Answer.{Answer}
-use Rattle.answer.specs.declared.Answer.TheVariants.{Machine, Diagnostics, Refused}
-use Rattle.answer.specs.Answer.{reply_in, read_in}
+use Rattle.answer.specs.declared.Answer.TheVariants.{Machine, Diagnostics}
+use Rattle.answer.specs.Answer.{refusal_number, refusal_value, read_in}
 use Rattle.emit.specs.Output.{Output, appended}
 use Rattle.emit.proofs.Appends.{appended-nil}
 use Rattle.list_lines.specs.Puts.{Puts}
@@ -25,23 +26,20 @@ whole : (p : Piece) (o r : Output) → r.at < 18446744073709551616 → Puts p o 
 whole p o r h w = sym (appended-nil r h) ∙ w.put []
 
 -- by the answer's case
-module _ (a : Answer) (text log sheet : List ℕ) (o r : Output) (fits : r.at < 18446744073709551616) where
-  pub machine-listed : (h : Head) → a ≡ Machine h → Puts (bytes_line text ⨾ machine_lines text (counts_in h.counts) (span_in h.start) sheet) o r
+module _ (a : Result Answer Refusal) (text log sheet : List ℕ) (o r : Output) (fits : r.at < 18446744073709551616) where
+  pub machine-listed : (h : Head) → a ≡ Ok (Machine h) → Puts (bytes_line text ⨾ machine_lines text (counts_in h.counts) (span_in h.start) sheet) o r
       → r ≡ appended o (listing text (read_in a log sheet))
   unfolding listing lines head_in
   machine-listed h e w = rw e (whole (bytes_line text ⨾ machine_lines text (counts_in h.counts) (span_in h.start) sheet) o r fits w)
 
-  pub diagnostics-listed : (n : ℕ) → a ≡ Diagnostics n → Puts (bytes_line text ⨾ diagnostic_lines text n log) o r → r ≡ appended o (listing text (read_in a log sheet))
+  pub diagnostics-listed : (n : ℕ) → a ≡ Ok (Diagnostics n) → Puts (bytes_line text ⨾ diagnostic_lines text n log) o r → r ≡ appended o (listing text (read_in a log sheet))
   unfolding listing lines
   diagnostics-listed n e w = rw e (whole (bytes_line text ⨾ diagnostic_lines text n log) o r fits w)
 
-  pub refused-listed : (x : Refusal) → a ≡ Refused x → (n v : ℕ) → n ≡ reply_number (reply_in a) → v ≡ reply_value (reply_in a) → Puts (refused_line n v) o r
+  pub refused-listed : (x : Refusal) → a ≡ Err x → (n v : ℕ) → n ≡ refusal_number x → v ≡ refusal_value x → Puts (refused_line n v) o r
       → r ≡ appended o (listing text (read_in a log sheet))
   unfolding listing lines
-  refused-listed x e n v p q w =
-      let p' : n ≡ reply_number (reply_in (Refused x)) = rw e at p in
-      let q' : v ≡ reply_value (reply_in (Refused x)) = rw e at q in
-      rw (e, ← p', ← q') (whole (refused_line n v) o r fits w)
+  refused-listed x e n v p q w = rw (e, ← p, ← q) (whole (refused_line n v) o r fits w)
 
 -- what the log held at entry is not printed
 same-listing : (text : List ℕ) (work : ℕ) (log log' sheet : List ℕ) → length log ≡ length log' → listing text (read_outcome text work log sheet) ≡ listing text (read_outcome text work log' sheet)

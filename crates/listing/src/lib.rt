@@ -13,7 +13,13 @@ use std::io;
 pub const MAX_INPUT: usize = 2048;
 
 // Lists an answer with its log and sheet at the front of `out`, as far as there is room; the listing's length.
-fn list(a: Result<Answer, Refusal>, text: &[u8], log: &[u32], sheet: &[u32], out: &mut [u8]) -> usize
+fn list(
+    a: Result<Answer, Refusal>,
+    text: &[u8],
+    log: &[u32],
+    sheet: &[u32],
+    out: &mut [u8],
+) -> usize
     ensures { output out.new result ≡ appended (output out.old 0) (listing text.now (read_in a log.now sheet.now)) }
 {
     match a {

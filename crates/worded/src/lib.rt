@@ -26,7 +26,12 @@ fn log() -> [Diagnostic; 1024]
 }
 
 // Reads a text as `reader::read` does with a log of 5,120 zeros: the log's records are copied to `words`.
-pub fn read(text: &[u8], work: &mut [u32], words: &mut [u32], sheet: &mut [u32]) -> Result<Answer, Refusal>
+pub fn read(
+    text: &[u8],
+    work: &mut [u32],
+    words: &mut [u32],
+    sheet: &mut [u32],
+) -> Result<Answer, Refusal>
     requires { length words.old ≡ 5120 }
     ensures { read_in result words.new sheet.new ≡ read_outcome text.now (length work.old) (replicate 5120 0) sheet.old }
 {
