@@ -6,16 +6,17 @@ use mathlib.Core.List.{List, []}
 use lib.ListN.{length, replicate, length-replicate}
 use borrow.Author.Tests.{lt-ltb, le-ltb}
 use Rattle.language.specs.Outcome as L
-use Rattle.language.specs.Outcome.{ReadOutcome, read_outcome, refusal_of, reply_number, reply_value}
+use Rattle.language.specs.Outcome.{ReadOutcome, read_outcome, refusal_of}
 use Rattle.language.specs.Plain.{◌⨾◌}
 use Rattle.machine.specs.declared.Head.{Head}
 use Rattle.machine.specs.Head.{span_in, counts_in}
 use Rattle.machine.specs.Meaning.{head_in}
+use Rattle.std.specs.Prelude.{Result, Ok, Err}
 use Rattle.answer.specs.declared.Refusal.{Refusal}
 use Rattle.answer.specs.declared.Refusal.TheVariants.{TextTooLong}
 use Rattle.answer.specs.declared.Answer.{Answer}
-use Rattle.answer.specs.declared.Answer.TheVariants.{Machine, Diagnostics, Refused}
-use Rattle.answer.specs.Answer.{reply_in, read_in}
+use Rattle.answer.specs.declared.Answer.TheVariants.{Machine, Diagnostics}
+use Rattle.answer.specs.Answer.{refusal_number, refusal_value, read_in}
 use Rattle.emit.specs.Output as O
 use Rattle.emit.specs.Output.{appended}
 use Rattle.emit.specs.declared.Output.{Output}
@@ -26,23 +27,19 @@ use Rattle.list_lines.specs.Listing.{lines, listing, listed, bytes_line, machine
 
 -- ---- by the answer's case
 
-module _ (a : Answer) (text log sheet : List ℕ) {o r : Output} where
-  pub machine-listed : (h : Head) → a ≡ Machine h → Puts (bytes_line text ⨾ machine_lines text (counts_in h.counts) (span_in h.start) sheet) o r
+module _ (a : Result Answer Refusal) (text log sheet : List ℕ) {o r : Output} where
+  pub machine-listed : (x : Answer) (h : Head) → a ≡ Ok x → x ≡ Machine h → Puts (bytes_line text ⨾ machine_lines text (counts_in h.counts) (span_in h.start) sheet) o r
       → Puts (lines text (read_in a log sheet)) o r
   unfolding lines head_in
-  machine-listed h e w = rw e w
+  machine-listed x h e f w = rw (e, f) w
 
-  pub diagnostics-listed : (n : ℕ) → a ≡ Diagnostics n → Puts (bytes_line text ⨾ diagnostic_lines text n log) o r → Puts (lines text (read_in a log sheet)) o r
+  pub diagnostics-listed : (x : Answer) (n : ℕ) → a ≡ Ok x → x ≡ Diagnostics n → Puts (bytes_line text ⨾ diagnostic_lines text n log) o r → Puts (lines text (read_in a log sheet)) o r
   unfolding lines
-  diagnostics-listed n e w = rw e w
+  diagnostics-listed x n e f w = rw (e, f) w
 
-  pub refused-listed : (x : Refusal) → a ≡ Refused x → (n v : ℕ) → n ≡ reply_number (reply_in a) → v ≡ reply_value (reply_in a) → Puts (refused_line n v) o r
-      → Puts (lines text (read_in a log sheet)) o r
+  pub refused-listed : (x : Refusal) → a ≡ Err x → (n v : ℕ) → n ≡ refusal_number x → v ≡ refusal_value x → Puts (refused_line n v) o r → Puts (lines text (read_in a log sheet)) o r
   unfolding lines
-  refused-listed x e n v p q w =
-      let p' : n ≡ reply_number (reply_in (Refused x)) = rw e at p in
-      let q' : v ≡ reply_value (reply_in (Refused x)) = rw e at q in
-      rw (e, ← p', ← q') w
+  refused-listed x e n v p q w = rw (e, ← p, ← q) w
 
 -- ---- the whole
 
@@ -67,7 +64,7 @@ same-listing text work log log' sheet e = go (refusal_of text work) refl
 
 -- a text of more bytes than are taken, and any other
 module _ (text : List ℕ) (work : ℕ) (log sheet : List ℕ) where
-  pub too_long : (a : Answer) (log' sheet' : List ℕ) → 2048 < length text → a ≡ Refused TextTooLong → listing text (read_in a log' sheet') ≡ listed text work log sheet
+  pub too_long : (a : Result Answer Refusal) (log' sheet' : List ℕ) → 2048 < length text → a ≡ Err TextTooLong → listing text (read_in a log' sheet') ≡ listed text work log sheet
   unfolding listed listing lines
   too_long a log' sheet' h e = rw (e, listed, lt-ltb 2048 (length text) h)
 
