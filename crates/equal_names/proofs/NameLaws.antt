@@ -1,12 +1,12 @@
 -- Laws of equal names: equal parts of the text, and the first equal word.
-use mathlib.Core.Path.{◌≡◌, refl, sym, ap, subst, ◌∙◌}
+use mathlib.Core.Path.{◌≡◌, refl, sym, ap, ◌∙◌}
 use mathlib.Core.Bool.{Bool, true, false, cond, ◌&&◌}
 use mathlib.Core.List.{List, [], ◌∷◌}
 use Prim.Native.Nat.{ℕ, zero, suc, ◌+◌, ◌*◌, ◌≤◌, ◌<◌}
 use native.Mathlib.Omega.{arith}
 use native.Mathlib.Nat.{le_of_suc-le-suc}
-use borrow.Author.Tests.{eq-eqb, ne_eqb, ltb-true, ltb-false}
-use lib.Dec.{eqb, ltb}
+use borrow.Author.Tests.{eq-eqb, ne_eqb}
+use lib.Dec.{eqb}
 use lib.Pointwise.{pointwise}
 use Rattle.std.specs.Prelude.{nat_eq}
 use lib.ListN.{length, take, length-take, get_or-eq_default}
@@ -20,7 +20,7 @@ use Rattle.tokens.specs.View.{token_in}
 use Rattle.parser.specs.Row.{tokens_in, peek, ended}
 use Rattle.parser.proofs.Laws.{length-tokens, peek-read}
 use Rattle.equal_names.specs.Rows.{rows, Kept}
-use Rattle.equal_names.specs.Names.{same_name, is_word, same_word, has_name, first_equal, NoWords}
+use Rattle.equal_names.specs.Names.{same_name, is_word, same_word, has_name, first_equal}
 
 -- ---- the row
 pub length-rows : (n : ℕ) (w : List ℕ) → 4 * n ≤ length w → length (rows n w) ≡ n
@@ -75,15 +75,6 @@ named_is text name u other r h o e = rw (eq-eqb u.kind 0 h) (e ∙ same_parts ot
 pub named_same : (text : List ℕ) (t u : Token) → has_name text (part text t.start t.end) u ≡ same_word text t u
 unfolding has_name same_word same_name
 named_same text t u = refl
-
--- ---- a word with the characters of another token
-pub word-other : (text : List ℕ) (t u : Token) → (u.kind ≡ 0 → ⊥) → false ≡ same_word text t u
-unfolding same_word
-word-other text t u h = rw (ne_eqb u.kind 0 h)
-
-pub word_same : (text : List ℕ) (t u : Token) (name other : List ℕ) (r : Bool) → u.kind ≡ 0 → name ≡ part text t.start t.end → other ≡ part text u.start u.end → r ≡ same other name → r ≡ same_word text t u
-unfolding same_word same_name
-word_same text t u name other r h n o e = rw (eq-eqb u.kind 0 h) (e ∙ ap (same other) n ∙ ap (λ (l : List ℕ). same l (part text t.start t.end)) o)
 
 -- ---- equal names have equal parts of the text
 abbrev pub part_of : List ℕ → Token → List ℕ
@@ -177,23 +168,3 @@ first-same text t v i (u ∷ us) e =
 -- the first equal word is its own
 pub first_again : (text : List ℕ) (ts : List Token) (x : ℕ) → x < length ts → is_word (peek ts x) ≡ true → first_equal text (peek ts (first_equal text (peek ts x) 0 ts)) 0 ts ≡ first_equal text (peek ts x) 0 ts
 first_again text ts x h w = first-same text (peek ts (first_equal text (peek ts x) 0 ts)) (peek ts x) 0 ts (first_part text ts x h w)
-
--- ---- `next_word`: no word is passed over
-pub none_yet : (ts : List Token) (i : ℕ) → NoWords ts i i
-none_yet ts i = record { order = omega arith; none = λ x h g. absurd (omega arith) }
-
-module _ (ts : List Token) (from i : ℕ) (n : NoWords ts from i) (t : Token) (here : t ≡ peek ts i) (other : t.kind ≡ 0 → ⊥) where
-  pub none-one : NoWords ts from (i + 1)
-  none-one = record {
-    order = omega (arith, n.order);
-    none = λ x h g.
-        by_test_lem (ltb x i) (λ l. n.none x h (ltb-true x i l))
-        (λ l.
-        let same : i ≡ x = omega (arith, ltb-false x i l) in
-        ap (λ (y : ℕ). is_word (peek ts y)) (sym same) ∙ ap is_word (sym here) ∙ ne_eqb t.kind 0 other);
-  }
-
-pub none_two : (ts : List Token) (from i : ℕ) → NoWords ts from i → (t u : Token) → t ≡ peek ts i → (t.kind ≡ 0 → ⊥) → u ≡ peek ts (i + 1) → (u.kind ≡ 0 → ⊥) → NoWords ts from (i + 2)
-none_two ts from i n t u e f g h =
-    let two : i + 1 + 1 ≡ i + 2 = omega arith in
-    subst (NoWords ts from) two (none-one ts from (i + 1) (none-one ts from i n t e f) u g h)

@@ -2,13 +2,12 @@
 use mathlib.Core.Path.{◌≡◌, refl, sym, ap, ◌∙◌}
 use mathlib.Core.Bool.{Bool, true, false, ◌&&◌}
 use mathlib.Core.List.{List, [], ◌∷◌, ◌++◌}
-use Prim.Native.Nat.{ℕ, ◌+◌, ◌-◌, ◌*◌, ◌/◌, ◌%◌, ◌≤◌, ◌<◌, ◌^◌}
+use Prim.Native.Nat.{ℕ, ◌+◌, ◌-◌, ◌*◌, ◌/◌, ◌%◌, ◌≤◌, ◌<◌}
 use native.Mathlib.Omega.{arith}
-use native.Mathlib.Nat.{mul-le-mul_right, mul-le-mul_left}
 use borrow.Author.Tests.{eq-eqb, ne_eqb, lt-ltb, le-ltb, le-leb, leb-true}
 use lib.Dec.{eqb, leb}
-use lib.ListN.{length, get_or, take, drop, set, length-append, length-take, length-drop}
-use lib.Seq.{set-get_or, drop-cons, take_all, take-append_seam, get_or-append-add}
+use lib.ListN.{length, get_or, take, drop, length-append, length-take, length-drop}
+use lib.Seq.{drop-cons, take_all, take-append_seam, get_or-append-add}
 use Rattle.std.specs.Prelude.{Option, None, Some}
 use Rattle.std.specs.Option.{unwrap_or}
 use Rattle.std.proofs.lemmas.Option.{none-some}
@@ -133,20 +132,6 @@ letter_is text a b e h =
     let o : take 1 (drop a text) ≡ get_or text a 0 ∷ [] = ap (take 1) (drop-cons text a 0 (omega arith)) in
     sym (rw (z, n) (ap letter_of o))
 
-pub slot-product : (h room : ℕ) → h < 2 ^ 30 → room < 2 ^ 34 → h * room ≤ 1073741823 * 17179869184
-slot-product h room l s =
-    let x : h * room ≤ 1073741823 * room = mul-le-mul_right {m = h} {n = 1073741823} room (omega arith) in
-    let y : 1073741823 * room ≤ 1073741823 * 17179869184 = mul-le-mul_left {m = room} {n = 17179869184} 1073741823 (omega arith) in
-    omega arith
-
-scaled_low : (h room : ℕ) → h < 2 ^ 30 → h * room / 1073741824 ≤ room
-scaled_low h room l =
-    let x : h * room ≤ 1073741824 * room = mul-le-mul_right {m = h} {n = 1073741824} room (omega arith) in
-    omega arith
-
-pub slot_low : (h letters span c : ℕ) → h < 2 ^ 30 → letters + 32 ≤ span → letters + h * (span - letters - 32) / 1073741824 + c % 32 < span
-slot_low h letters span c l p = omega (arith, scaled_low h (span - letters - 32) l)
-
 pub hashed_none : (letters span : ℕ) (name : List ℕ) → length name ≡ 0 → letters ≡ hashed_slot letters span name
 unfolding hashed_slot hash_from rest_of
 hashed_none letters span [] e = omega arith
@@ -172,12 +157,6 @@ filled_empty v x e = rw (eq-eqb v 0 e)
 pub filled-held : (v x : ℕ) → (v ≡ 0 → ⊥) → filled v x ≡ v
 unfolding filled
 filled-held v x n = rw (ne_eqb v 0 n)
-
-pub stored_new : (slots row : List ℕ) (j x : ℕ) → get_or slots j 0 ≡ 0 → set row x x ≡ set row x (filled (get_or slots j 0) x - 1)
-stored_new slots row j x e = ap (set row x) (omega (arith, filled_empty (get_or slots j 0) x e))
-
-pub stored_again : (slots : List ℕ) (j x : ℕ) → (get_or slots j 0 ≡ 0 → ⊥) → slots ≡ set slots j (filled (get_or slots j 0) x)
-stored_again slots j x n = sym (set-get_or slots j 0) ∙ ap (set slots j) (sym (filled-held (get_or slots j 0) x n))
 
 -- ---- a slot
 module _ (text : List ℕ) (ts : List Token) (name : List ℕ) (v : ℕ) where

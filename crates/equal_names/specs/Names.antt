@@ -1,5 +1,5 @@
 -- Equal names: words with the same characters, which are equal parts of the text.
-use Rattle.std.specs.Prelude.{ℕ, suc, ◌+◌, ◌≤◌, ◌<◌, ◌≡◌, Bool, true, false, cond, List, [], ◌∷◌, eqb, length, get_or}
+use Rattle.std.specs.Prelude.{ℕ, suc, ◌+◌, ◌<◌, ◌≡◌, Bool, true, false, cond, List, [], ◌∷◌, eqb, length, get_or}
 use Rattle.lexer.specs.Text.{same}
 use Rattle.lexer.specs.Places.{part}
 use Rattle.tokens.specs.declared.Token.{Token}
@@ -27,11 +27,6 @@ unfoldable pub first_equal : List ℕ → Token → ℕ → List Token → ℕ
 unfolding same_word
 first_equal text t i [] = i
 first_equal text t i (u ∷ us) = elim (same_word text t u) [ true ↦ i | false ↦ first_equal text t (suc i) us ]
-
--- no word stands at an index from one on and before another
-pub record NoWords (ts : List Token) (from to : ℕ) : Type 0 where
-  pub order : from ≤ to
-  pub none : (x : ℕ) → from ≤ x → x < to → is_word (peek ts x) ≡ false
 
 -- the words w hold, from a on, the row of first equal words
 pub record Interned (text : List ℕ) (ts : List Token) (a : ℕ) (w : List ℕ) : Type 0 where
