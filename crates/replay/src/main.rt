@@ -73,12 +73,10 @@ fn left(before: &[u32], case: &[u8], from: usize, mark: u32, row: &[u32]) -> boo
     if row.len() < marked(mark) {
         return false;
     }
-    let mut i = 0;
-    while i < row.len() {
+    for i in 0..row.len() {
         if row[i] != wanted(before, case, from, mark, i) {
             return false;
         }
-        i += 1;
     }
     true
 }
@@ -120,12 +118,10 @@ fn output_left(case: &[u8], from: usize, n: usize, output: &[u8]) -> bool
     if output.len() < n {
         return false;
     }
-    let mut i = 0;
-    while i < output.len() {
+    for i in 0..output.len() {
         if output[i] != byte_wanted(case, from, n, i) {
             return false;
         }
-        i += 1;
     }
     true
 }

@@ -1,0 +1,7 @@
+-- What is left of the output is as stored exactly where the whole is.
+use Rattle.std.proofs.Common.{◌≡◌, drop}
+use Rattle.replay.specs.Case.{output_from}
+use Rattle.replay.proofs.output_left.Given as goal
+
+abbrev pub invariant-loop-i : goal.invariant-loop-i
+invariant-loop-i l = output_from l.case l.from l.n l.i (drop l.i l.output) ≡ output_from l.case l.from l.n 0 l.output
