@@ -1,11 +1,13 @@
 -- What closes a return of a function of the head: whether a line is declared is whether its index is that of a token.
-use Rattle.std.proofs.Common.{◌≡◌, ℕ, ◌+◌, ◌-◌, ◌*◌, ◌%◌, ◌^◌, ◌<◌, ◌≤◌, true, false, ltb, List, length, get_or, sym, ap, ◌∙◌, arith, le-ltb, lt-ltb, le-leb}
+use Rattle.std.proofs.Common.{◌≡◌, refl, ℕ, ◌+◌, ◌-◌, ◌*◌, ◌%◌, ◌^◌, ◌<◌, ◌≤◌, Bool, true, false, cond, ltb, Option, Some, None, List, length, get_or, sym, ap, ◌∙◌, arith, le-ltb, lt-ltb, le-leb}
 use borrow.Author.Tests.{lt-leb}
 use Rattle.chars.proofs.Tests.{tests}
 use Rattle.tokens.specs.declared.Token.{Token}
 use Rattle.parser.specs.Row.{peek}
 use Rattle.machine.specs.declared.Span.{Span}
 use Rattle.machine.specs.declared.Kind.{Kind}
+use Rattle.machine.specs.declared.Kind.TheVariants.{Transducer}
+use Rattle.machine.specs.declared.Decoder.TheVariants.{Word}
 use Rattle.machine.specs.declared.Decoder.{Decoder}
 use Rattle.machine.specs.declared.Declared.{Declared}
 use Rattle.machine.specs.declared.SourceMap.{SourceMap}
@@ -14,7 +16,7 @@ use Rattle.machine.specs.declared.Head.{Head}
 use Rattle.assembler.specs.Rows.{rows}
 use Rattle.assembler.proofs.Rows.{length-rows}
 use Rattle.sheet.specs.Rules.{resolve}
-use Rattle.head.specs.Heads.{place_at, text_of, text_at, kind_of, kind_at, decoder_of, decoder_at, tapes_at, blank_at, start_at, declared_in, map_in, head_at}
+use Rattle.head.specs.Heads.{said, no_span, place_at, text_of, text_at, kind_of, kind_at, decoder_of, decoder_at, tapes_at, blank_at, start_at, declared_in, map_in, head_at}
 
 pub declared : (n : ℕ) (w : List ℕ) (f : ℕ) → 4 * n ≤ length w → f < n → ltb f (length (rows n w)) ≡ true
 declared n w f h l = lt-ltb f (length (rows n w)) (omega (arith, length-rows n w h))
@@ -28,39 +30,98 @@ pub ruleset heads = (tests, declared, undeclared)
 pub text_of_lem : (t : Token) (a b : ℕ) → a ≡ (t.start + t.value) % 2 ^ 32 → b ≡ t.end - 1 → ◌≡◌ {A = Span} (record { start = a; end = b }) (text_of t)
 text_of_lem t a b p q = rw (p, q)
 
--- ---- a line that is declared: what its tokens say
-module _ (n : ℕ) (w : List ℕ) (f : ℕ) (h : 4 * n ≤ length w) (l : f < n) where
-  pub place-declared : (j : ℕ) (t : Token) → t ≡ peek (rows n w) (f + j) → ◌≡◌ {A = Span} (record { start = t.start; end = t.end }) (place_at (rows n w) f j)
+-- ---- what is said of a line
+module _ (ts : List Token) (f j : ℕ) (o : Option Token) (e : o ≡ said ts f j) where
+  -- a token of a line that is there
+  there : (t : Token) → o ≡ Some t → (ltb f (length ts) ≡ true) × (t ≡ peek ts (f + j))
+  unfolding said
+  there t is = go (ltb f (length ts)) refl
+    where
+      go : (b : Bool) → ltb f (length ts) ≡ b → (ltb f (length ts) ≡ true) × (t ≡ peek ts (f + j))
+      go true y = (y, let z : Some t ≡ Some (peek ts (f + j)) = sym is ∙ e ∙ ap (λ b. cond b (Some (peek ts (f + j))) None) y in cc)
+      go false x = let z : Some t ≡ None = sym is ∙ e ∙ ap (λ b. cond b (Some (peek ts (f + j))) None) x in cc
+
+  -- a line that is not
+  absent : o ≡ None → ltb f (length ts) ≡ false
+  unfolding said
+  absent is = go (ltb f (length ts)) refl
+    where
+      go : (b : Bool) → ltb f (length ts) ≡ b → ltb f (length ts) ≡ false
+      go false x = x
+      go true y = let z : None ≡ Some (peek ts (f + j)) = sym is ∙ e ∙ ap (λ b. cond b (Some (peek ts (f + j))) None) y in cc
+
+  pub place-there : (t : Token) → o ≡ Some t → ◌≡◌ {A = Span} (record { start = t.start; end = t.end }) (place_at ts f j)
   unfolding place_at
-  place-declared j t e = rw (place_at, declared n w f h l, ← e)
+  place-there t is = let p = there t is in rw (place_at, p.0, ← p.1)
 
-  pub text_declared : (t : Token) (r : Span) → t ≡ peek (rows n w) (f + 1) → r ≡ text_of t → r ≡ text_at (rows n w) f
-  unfolding text_at
-  text_declared t r e p = rw (text_at, declared n w f h l, ← e) p
+  pub place-absent : o ≡ None → no_span ≡ place_at ts f j
+  unfolding place_at
+  place-absent is = rw (place_at, absent is)
 
-  pub kind-declared : (t : Token) (r : Kind) → t ≡ peek (rows n w) (f + 1) → r ≡ kind_of t.value → r ≡ kind_at (rows n w) f
-  unfolding kind_at
-  kind-declared t r e p = rw (kind_at, declared n w f h l, ← e) p
+-- each part, by the token that says it
+module _ (ts : List Token) (f : ℕ) (o : Option Token) where
+  module _ (e : o ≡ said ts f 1) where
+    pub text-there : (t : Token) (r : Span) → o ≡ Some t → r ≡ text_of t → r ≡ text_at ts f
+    unfolding text_at
+    text-there t r is p = let q = there ts f 1 o e t is in rw (text_at, q.0, ← q.1) p
 
-  pub decoder-declared : (b : ℕ) (t u : Token) (r : Decoder) → t ≡ peek (rows n w) (f + 1) → u ≡ peek (rows n w) (f + 2) → r ≡ decoder_of b t.value u → r ≡ decoder_at b (rows n w) f
+    pub text-absent : o ≡ None → no_span ≡ text_at ts f
+    unfolding text_at
+    text-absent is = rw (text_at, absent ts f 1 o e is)
+
+    pub kind-there : (t : Token) (r : Kind) → o ≡ Some t → r ≡ kind_of t.value → r ≡ kind_at ts f
+    unfolding kind_at
+    kind-there t r is p = let q = there ts f 1 o e t is in rw (kind_at, q.0, ← q.1) p
+
+    pub kind-absent : o ≡ None → Transducer ≡ kind_at ts f
+    unfolding kind_at
+    kind-absent is = rw (kind_at, absent ts f 1 o e is)
+
+  module _ (e : o ≡ said ts f 2) where
+    pub blank-there : (t : Token) (r : ℕ) → o ≡ Some t → r ≡ resolve 0x2423 t → r ≡ blank_at ts f
+    unfolding blank_at
+    blank-there t r is p = let q = there ts f 2 o e t is in rw (blank_at, q.0, ← q.1) p
+
+    pub blank-absent : o ≡ None → 0x2423 ≡ blank_at ts f
+    unfolding blank_at
+    blank-absent is = rw (blank_at, absent ts f 2 o e is)
+
+    pub tapes-there : (t : Token) → o ≡ Some t → t.value ≤ 255 → t.value ≡ tapes_at ts f
+    unfolding tapes_at
+    tapes-there t is g = let q = there ts f 2 o e t is in rw (tapes_at, q.0, ← q.1, le-leb t.value 255 g)
+
+    pub tapes_many : (t : Token) → o ≡ Some t → 255 < t.value → 1 ≡ tapes_at ts f
+    unfolding tapes_at
+    tapes_many t is g = let q = there ts f 2 o e t is in rw (tapes_at, q.0, ← q.1, lt-leb t.value 255 g)
+
+    pub tapes-absent : o ≡ None → 1 ≡ tapes_at ts f
+    unfolding tapes_at
+    tapes-absent is = rw (tapes_at, absent ts f 2 o e is)
+
+module _ (ts : List Token) (f b : ℕ) (o : Option Token) (e : o ≡ said ts f 1) where
+  pub decoder-there : (t u : Token) (r : Decoder) → o ≡ Some t → u ≡ peek ts (f + 2) → r ≡ decoder_of b t.value u → r ≡ decoder_at b ts f
   unfolding decoder_at
-  decoder-declared b t u r e g p = rw (decoder_at, declared n w f h l, ← e, ← g) p
+  decoder-there t u r is g p = let q = there ts f 1 o e t is in rw (decoder_at, q.0, ← q.1, ← g) p
 
-  pub tapes-declared : (t : Token) → t ≡ peek (rows n w) (f + 2) → t.value ≤ 255 → t.value ≡ tapes_at (rows n w) f
-  unfolding tapes_at
-  tapes-declared t e g = rw (tapes_at, declared n w f h l, ← e, le-leb t.value 255 g)
+  pub decoder-absent : o ≡ None → Word ≡ decoder_at b ts f
+  unfolding decoder_at
+  decoder-absent is = rw (decoder_at, absent ts f 1 o e is)
 
-  pub tapes_too_many : (t : Token) → t ≡ peek (rows n w) (f + 2) → 255 < t.value → 1 ≡ tapes_at (rows n w) f
-  unfolding tapes_at
-  tapes_too_many t e g = rw (tapes_at, declared n w f h l, ← e, lt-leb t.value 255 g)
-
-  pub blank_declared : (t : Token) (r : ℕ) → t ≡ peek (rows n w) (f + 2) → r ≡ resolve 0x2423 t → r ≡ blank_at (rows n w) f
-  unfolding blank_at
-  blank_declared t r e p = rw (blank_at, declared n w f h l, ← e) p
-
-  pub start-declared : (s r : Span) → r ≡ place_at (rows n w) f 2 → r ≡ start_at (rows n w) f s
-  unfolding start_at
-  start-declared s r p = p ∙ rw (start_at, place_at, declared n w f h l)
+pub ruleset parts = (
+  place-there,
+  place-absent,
+  text-there,
+  text-absent,
+  kind-there,
+  kind-absent,
+  blank-there,
+  blank-absent,
+  tapes-there,
+  tapes_many,
+  tapes-absent,
+  decoder-there,
+  decoder-absent,
+)
 
 -- ---- all parts
 pub declared_in_lem : (n : ℕ) (first : List ℕ) (a b c d e : ℕ) → a ≡ get_or first 5 0 → b ≡ get_or first 6 0 → c ≡ get_or first 7 0 → d ≡ get_or first 9 0 → e ≡ get_or first 8 0

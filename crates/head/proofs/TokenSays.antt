@@ -1,5 +1,5 @@
 -- What the words of a token say of the head is what the token means, where the views of a line take it for what is due.
-use Rattle.std.proofs.Common.{◌≡◌, ℕ, ◌+◌, ◌-◌, ◌%◌, ◌^◌, ◌<◌, ◌≤◌, min, Bool, true, false, cond, not, eqb, leb, List, [], ◌∷◌, length, sym, refl, ap, ◌∙◌, mod-eq_of_lt, arith, eqb-true, leb-false, leb-true}
+use Rattle.std.proofs.Common.{◌≡◌, ℕ, ◌+◌, ◌-◌, ◌%◌, ◌^◌, ◌<◌, ◌≤◌, min, Bool, true, false, cond, eqb, leb, List, [], ◌∷◌, length, sym, refl, ap, ◌∙◌, mod-eq_of_lt, arith, eqb-true, leb-false, leb-true}
 use mathlib.Core.Option.{none, some}
 use native.Mathlib.Nat.{min-eq_left, min-eq_right}
 use Rattle.diag.proofs.Cases.{by_test_lem}

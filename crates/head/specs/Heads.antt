@@ -1,6 +1,6 @@
 -- The head from the first declarations, over the tokens of a row with entries. `first` has for each name the index of the line that declares it,
 -- which is no index of a token where none does: machine 0, kind 1, input 2, output 3, tapes 4, Q 5, Σ 6, Γ 7, blank 8, start 9.
-use Rattle.std.specs.Prelude.{ℕ, ◌+◌, ◌-◌, ◌%◌, ◌^◌, cond, List, length, ◌==◌, nat_le, nat_lt, slice_index}
+use Rattle.std.specs.Prelude.{ℕ, ◌+◌, ◌-◌, ◌%◌, ◌^◌, cond, List, length, ◌==◌, nat_le, nat_lt, slice_index, Option, Some, None}
 use Rattle.tokens.specs.declared.Token.{Token}
 use Rattle.parser.specs.Row.{peek}
 use Rattle.sheet.specs.Rules.{resolve}
@@ -19,6 +19,10 @@ use Rattle.machine.specs.declared.Head.{Head}
 -- the place that says that there is none
 abbrev pub no_span : Span
 no_span = record { start = 0xffffffff; end = 0xffffffff }
+
+-- the token j behind the first of the line f, if there is such a line
+unfoldable pub said : List Token → ℕ → ℕ → Option Token
+said ts f j = cond (nat_lt f (length ts)) (Some (peek ts (f + j))) None
 
 -- the place of the token j behind the first of the line f; none where there is no such line
 unfoldable pub place_at : List Token → ℕ → ℕ → Span
