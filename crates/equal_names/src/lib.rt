@@ -35,7 +35,6 @@ fn by_table(
     requires slots { 128 ≤ length slots.old }
     requires most { 288 ≤ most }
     requires narrow { most < 2 ^ 34 }
-    requires longest { 0 < longest }
     ensures { OnOk result (AllFirsts words.now row.new) }
 {
     let layout = Layout::of(slots.len(), most, longest);

@@ -105,9 +105,7 @@ pub(crate) struct Layout {
     pub span: usize,
     pub window: usize,
     ghost begins: { letters + 32 ≤ span },
-    ghost bytes: { letters ≤ 256 },
     ghost narrow: { span < 2 ^ 34 },
-    ghost wide: { 0 < window },
 }
 
 impl Layout {
@@ -118,7 +116,6 @@ impl Layout {
         requires size { 128 ≤ size }
         requires most { 288 ≤ most }
         requires narrow { most < 2 ^ 34 }
-        requires longest { 0 < longest }
         ensures { result.span + result.window ≤ size }
     {
         let window = (size / 8).min(longest);
