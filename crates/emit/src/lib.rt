@@ -3,7 +3,7 @@
 
 ghost use Rattle.std.specs.Prelude.{◌≡◌, [], ◌∷◌, ◌+◌, ◌%◌, ◌<◌};
 ghost use Rattle.chars.specs.Utf8.{encode_one};
-ghost use Rattle.emit.specs.Output.{output, counted, appended};
+ghost use Rattle.emit.specs.Output.{output};
 ghost use Rattle.emit.specs.Decimal.{decimal};
 
 // Where bytes are appended: the row lent for them, and how many were appended so far. With an empty row, `&mut row[..0]`, they are only counted.

@@ -2,12 +2,11 @@
 // Each function appends one piece of the form to a lent output, as crate `emit` does: stored where there is room, counted in any case.
 #![tactic(auto)]
 
-ghost use Rattle.std.specs.Prelude.{true, ◌≡◌, map};
+ghost use Rattle.std.specs.Prelude.{true, ◌≡◌};
 ghost use Rattle.chars.specs.Utf8.{scalar, scalars, encode};
-ghost use Rattle.language.specs.Machine.{as_binary};
 ghost use Rattle.language.specs.Plain.{say, decimal, kind_name, decoder, pieces, plain};
-ghost use Rattle.language.specs.Agreement.{groups, records, rule_in, content_of_answer};
-ghost use Rattle.machine.specs.Head.{span_in, kind_in, order_in, decoder_in, head_in};
+ghost use Rattle.language.specs.Agreement.{groups, records, content_of_answer};
+ghost use Rattle.machine.specs.Head.{span_in, kind_in, decoder_in, head_in};
 ghost use Rattle.emit.specs.Output.{output, appended};
 ghost use Rattle.pieces.specs.Writes.{Writes};
 ghost use Rattle.form_parts.specs.Places.{Every, Utf8At, NameIn, column};

@@ -2,7 +2,7 @@
 // Each is appended to a lent output as crate `emit` does: stored where there is room, counted in any case.
 #![tactic(auto)]
 
-ghost use Rattle.std.specs.Prelude.{true, not, ◌&&◌, ◌≡◌, ◌∷◌, eqb, ltb};
+ghost use Rattle.std.specs.Prelude.{true, ◌&&◌, ◌≡◌, ◌∷◌, ltb};
 ghost use Rattle.chars.specs.Utf8.{scalar, decode};
 ghost use Rattle.lexer.specs.Tokens.{unescape};
 ghost use Rattle.language.specs.Plain.{say, only, symbol, escaped, in_string, escaped_text};
