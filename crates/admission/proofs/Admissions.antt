@@ -2,6 +2,8 @@
 use mathlib.Core.Path.{◌≡◌, sym, ◌∙◌}
 use mathlib.Core.List.{List}
 use mathlib.Core.Option.{Option, none, some}
+use Rattle.std.specs.Prelude.{Some, None}
+use Rattle.std.specs.Prelude as P
 use Prim.Native.Nat.{ℕ, ◌+◌, ◌*◌, ◌<◌, ◌≤◌}
 use native.Mathlib.Omega.{arith}
 use borrow.Author.Tests.{lt-ltb, le-ltb}
@@ -32,12 +34,12 @@ module _ (t : List ℕ) (work : ℕ) where
       unfolding refusal_of
       not_utf8 h = rw (e, refusal_of, le-ltb 4194304 (length t) a, le-ltb work (6 * length t + 6) b, lt-ltb (valid_up_to t) (length t) (rw e at h))
 
-      module _ (h : length t ≤ v) (o : Option ℕ) (f : o ≡ first_outside t) where
-        pub outside : (i : ℕ) → o ≡ some i → some (outside_set i) ≡ refusal_of t work
+      module _ (h : length t ≤ v) (o : P.Option ℕ) (f : o ≡ first_outside t) where
+        pub outside : (i : ℕ) → o ≡ Some i → some (outside_set i) ≡ refusal_of t work
         unfolding refusal_of
         outside i g = rw (refusal_of, le-ltb 4194304 (length t) a, le-ltb work (6 * length t + 6) b, ← e, le-ltb v (length t) h, ← f, g)
 
-        pub all-inside : ◌≡◌ {A = Option ℕ} o none → ◌≡◌ {A = Option Refusal} none (refusal_of t work)
+        pub all-inside : o ≡ None → ◌≡◌ {A = Option Refusal} none (refusal_of t work)
         unfolding refusal_of
         all-inside g = rw (refusal_of, le-ltb 4194304 (length t) a, le-ltb work (6 * length t + 6) b, ← e, le-ltb v (length t) h, ← f, g)
 
