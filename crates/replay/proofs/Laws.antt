@@ -1,5 +1,5 @@
 -- Laws of stored cases.
-use Rattle.std.proofs.Common.{◌≡◌, ℕ, suc, ◌+◌, ◌-◌, ◌*◌, ◌/◌, ◌<◌, ◌≤◌, Bool, true, false, ◌&&◌, eqb, leb, List, [], ◌∷◌, ◌++◌, length, get_or, take, drop, set, replicate, sym, refl, ap, ◌∙◌, append-nil, add-one, arith, length-drop, drop_of_length-le, length-take, take_all, drop-cons, get_or-take, le-ltb, lt-ltb, eq-eqb, ne_eqb, le-leb, leb-true}
+use Rattle.std.proofs.Common.{◌≡◌, ℕ, suc, ◌+◌, ◌-◌, ◌*◌, ◌/◌, ◌<◌, ◌≤◌, Bool, true, false, ◌&&◌, eqb, leb, List, [], ◌∷◌, ◌++◌, length, get_or, take, drop, replicate, sym, refl, ap, ◌∙◌, add-one, arith, length-drop, drop_of_length-le, length-take, take_all, drop-cons, get_or-take, le-ltb, lt-ltb, eq-eqb, ne_eqb, le-leb, leb-true}
 use mathlib.Core.Bool.{false≢true}
 use borrow.Author.Tests.{lt-leb, eqb-false}
 use Rattle.language.specs.Outcome.{ReadOutcome, read_outcome, reply_words, reply_number, WriteOutcome, WriteReply, write_outcome, write_words}

@@ -7,8 +7,8 @@ use Rattle.replay.proofs.answer_agrees.Goals.{then-left, else-left}
 pub returns-then-rows_left : goal.returns-then-rows_left
 returns-then-rows_left c = elim c.if-left.branch [
   | then-left w ↦
-    agrees-work _ _ c.read.result _ _ _ _ c.answer_words-answer.ensures c.read.ensures.0 _ c.left.ensures w.if-left.true _ w.rows_left.ensures (sym w.value-is ∙ c.if-rows_left.true) _ _ _ _
-    c.work_left.ensures refl c.read.ensures.1 c.requires.1
+      agrees-work _ _ c.read.result _ _ _ _ c.answer_words-answer.ensures c.read.ensures.0 _ c.left.ensures w.if-left.true _ w.rows_left.ensures (sym w.value-is ∙ c.if-rows_left.true) _ _ _ _
+      c.work_left.ensures refl c.read.ensures.1 c.requires.1
   | else-left w ↦ let e : ◌≡◌ {A = Bool} true false = sym c.if-rows_left.true ∙ w.value-is ∙ w.if-left.false in cc
 ]
 
@@ -17,6 +17,6 @@ returns-else-rows_left c =
     c.if-rows_left.false
     ∙ elim c.if-left.branch [
       | then-left w ↦
-        agrees-rows _ _ c.read.result _ _ _ _ c.answer_words-answer.ensures c.read.ensures.0 _ c.left.ensures w.if-left.true _ w.rows_left.ensures (sym w.value-is ∙ c.if-rows_left.false)
+          agrees-rows _ _ c.read.result _ _ _ _ c.answer_words-answer.ensures c.read.ensures.0 _ c.left.ensures w.if-left.true _ w.rows_left.ensures (sym w.value-is ∙ c.if-rows_left.false)
       | else-left w ↦ agrees-answer _ _ c.read.result _ _ _ _ c.answer_words-answer.ensures c.read.ensures.0 _ c.left.ensures w.if-left.false
     ]

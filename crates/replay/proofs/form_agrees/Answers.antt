@@ -8,8 +8,8 @@ pub returns-then-output_at : goal.returns-then-output_at
 returns-then-output_at c = elim c.if-rows_left.branch [
   | then-rows_left v ↦ elim c.if-left.branch [
     | then-left w ↦
-      form-work _ _ _ _ _ _ _ _ _ _ c.pevzoncs_write-number.ensures.0 refl _ c.left.ensures w.if-left.true _ w.rows_left.ensures (sym w.value-is ∙ v.if-rows_left.true) _ v.output_at.ensures
-      (sym v.value-is ∙ c.if-output_at.true) _ _ _ c.work_left.ensures c.pevzoncs_write-number.ensures.1 c.requires.1
+        form-work _ _ _ _ _ _ _ _ _ _ c.pevzoncs_write-number.ensures.0 refl _ c.left.ensures w.if-left.true _ w.rows_left.ensures (sym w.value-is ∙ v.if-rows_left.true) _ v.output_at.ensures
+        (sym v.value-is ∙ c.if-output_at.true) _ _ _ c.work_left.ensures c.pevzoncs_write-number.ensures.1 c.requires.1
     | else-left w ↦ let e : ◌≡◌ {A = Bool} true false = sym v.if-rows_left.true ∙ w.value-is ∙ w.if-left.false in cc
   ]
   | else-rows_left v ↦ let e : ◌≡◌ {A = Bool} true false = sym c.if-output_at.true ∙ v.value-is ∙ v.if-rows_left.false in cc
@@ -21,13 +21,13 @@ returns-else-output_at c =
     ∙ elim c.if-rows_left.branch [
       | then-rows_left v ↦ elim c.if-left.branch [
         | then-left w ↦
-          form-output _ _ _ _ _ _ _ _ _ _ c.pevzoncs_write-number.ensures.0 refl _ c.left.ensures w.if-left.true _ w.rows_left.ensures (sym w.value-is ∙ v.if-rows_left.true) _ v.output_at.ensures
-          (sym v.value-is ∙ c.if-output_at.false)
+            form-output _ _ _ _ _ _ _ _ _ _ c.pevzoncs_write-number.ensures.0 refl _ c.left.ensures w.if-left.true _ w.rows_left.ensures (sym w.value-is ∙ v.if-rows_left.true) _ v.output_at.ensures
+            (sym v.value-is ∙ c.if-output_at.false)
         | else-left w ↦ let e : ◌≡◌ {A = Bool} true false = sym v.if-rows_left.true ∙ w.value-is ∙ w.if-left.false in cc
       ]
       | else-rows_left v ↦ elim c.if-left.branch [
         | then-left w ↦
-          form-rows _ _ _ _ _ _ _ _ _ _ c.pevzoncs_write-number.ensures.0 refl _ c.left.ensures w.if-left.true _ w.rows_left.ensures (sym w.value-is ∙ v.if-rows_left.false)
+            form-rows _ _ _ _ _ _ _ _ _ _ c.pevzoncs_write-number.ensures.0 refl _ c.left.ensures w.if-left.true _ w.rows_left.ensures (sym w.value-is ∙ v.if-rows_left.false)
         | else-left w ↦ form-answer _ _ _ _ _ _ _ _ _ _ c.pevzoncs_write-number.ensures.0 refl _ c.left.ensures w.if-left.false
       ]
     ]
