@@ -16,7 +16,7 @@ pub fn gather(text: &[u8], work: &mut [u32], search: Search, log: &mut [Diagnost
     let mut search = search;
     for i in 0..errors {
         let found = diagnostics::next(text, work, search);
-        log[i] = found.diagnostic;
+        records::append(log, i, found.diagnostic);
         search = found.search;
     }
 }
