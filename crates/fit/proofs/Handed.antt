@@ -34,21 +34,21 @@ unfolding write_form
 form_leaves form output x = by_test (ltb (length output) (length form) || ltb max_bytes (length form)) (λ e. rw (e, write_form)) (λ e. rw (e, write_form))
 
 -- an answer a of reading with the sheet s, handed on
-module _ (t : List ℕ) (a : Answer) (s output : List ℕ) where
+module _ (t : List ℕ) (a : Result Answer Refusal) (s output : List ℕ) where
   -- a machine
-  pub machine-written : (h : Head) → a ≡ Machine h → (r : Said) (output' : List ℕ) → Formed (form_of t) r output output' → (l : List ℕ) → write_in r l s output' ≡ write_with (R.read_in (Ok a) l s) (form_of t) output
+  pub machine-written : (h : Head) → a ≡ Ok (Machine h) → (r : Said) (output' : List ℕ) → Formed (form_of t) r output output' → (l : List ℕ) → write_in r l s output' ≡ write_with (R.read_in a l s) (form_of t) output
   unfolding write_with
-  machine-written h e r output' f l = f (R.read_in (Ok (Machine h)) l s) ∙ ap (λ x. write_with (R.read_in (Ok x) l s) (form_of t) output) (sym e)
+  machine-written h e r output' f l = f (R.read_in (Ok (Machine h)) l s) ∙ ap (λ x. write_with (R.read_in x l s) (form_of t) output) (sym e)
 
   -- diagnostics
-  pub diagnostics_handed : (n : ℕ) → a ≡ Diagnostics n → (l : List ℕ) → write_in (Ok (W.Diagnostics n)) l s output ≡ write_with (R.read_in (Ok a) l s) (form_of t) output
+  pub diagnostics_handed : (n : ℕ) → a ≡ Ok (Diagnostics n) → (l : List ℕ) → write_in (Ok (W.Diagnostics n)) l s output ≡ write_with (R.read_in a l s) (form_of t) output
   unfolding write_with
-  diagnostics_handed n e l = ap (λ x. write_with (R.read_in (Ok x) l s) (form_of t) output) (sym e)
+  diagnostics_handed n e l = ap (λ x. write_with (R.read_in x l s) (form_of t) output) (sym e)
 
--- a refusal of reading is one of writing
-pub refusal_handed : (t s output : List ℕ) (r : Refusal) (l : List ℕ) → write_in (Err (Reading r)) l s output ≡ write_with (R.read_in (Err r) l s) (form_of t) output
-unfolding write_with
-refusal_handed t s output r l = refl
+  -- a refusal of reading is one of writing
+  pub refusal_handed : (x : Refusal) → a ≡ Err x → (l : List ℕ) → write_in (Err (Reading x)) l s output ≡ write_with (R.read_in a l s) (form_of t) output
+  unfolding write_with
+  refusal_handed x e l = ap (λ y. write_with (R.read_in y l s) (form_of t) output) (sym e)
 
 -- ---- work
 

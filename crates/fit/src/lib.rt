@@ -1,16 +1,16 @@
 // The form of a machine that was read, at the front of an output where it fits.
 #![tactic(auto)]
 
-ghost use Rattle.std.specs.Prelude.{false, ◌≡◌, List, ℕ, Ok};
+ghost use Rattle.std.specs.Prelude.{true, ◌≡◌, List, ℕ};
 ghost use Rattle.language.specs.Outcome.{ReadOutcome, form_of, write_form, write_with};
 ghost use Rattle.machine.specs.Head.{head_in};
 ghost use Rattle.machine.specs.declared.Head.{Head};
 ghost use Rattle.answer.specs.declared.Answer.TheVariants.{Machine};
-ghost use Rattle.answer.specs.Answer.{read_in};
+ghost use Rattle.answer.specs.Answer.{read_in, leaves_work as read_leaves};
 ghost use Rattle.formed.specs.Read.{ReadAs};
 ghost use Rattle.reply.specs.Answer.{write_reply_in, write_in, leaves_work};
 
-use answer::Answer;
+use answer::{Answer, Refusal};
 use machine::Head;
 use reply::{WriteAnswer, WriteRefusal};
 
@@ -36,18 +36,19 @@ fn write_form(
     Ok(WriteAnswer::Written(m))
 }
 
-// What a reading call answered, handed on, but for a machine: its form is written. The log, which stays as reading left it, plays no part.
+// The answer of a reading call handed on, but for a machine: its form is written. The log, which stays as reading left it, plays no part.
 pub fn write_answer(
-    answer: Answer,
+    answer: Result<Answer, Refusal>,
     text: &[u8],
     sheet: &[u32],
     output: &mut [u8],
 ) -> Result<WriteAnswer, WriteRefusal>
-    requires { (h : Head) → answer ≡ Machine h → ReadAs text.now (head_in h) sheet.now }
-    ensures outcome { (l : List ℕ) → write_in result l sheet.now output.new ≡ write_with (read_in (Ok answer) l sheet.now) (form_of text.now) output.old }
-    ensures touches { leaves_work (write_reply_in result) ≡ false }
+    requires { (h : Head) → answer ≡ Ok (Machine h) → ReadAs text.now (head_in h) sheet.now }
+    ensures outcome { (l : List ℕ) → write_in result l sheet.now output.new ≡ write_with (read_in answer l sheet.now) (form_of text.now) output.old }
+    ensures touches { leaves_work (write_reply_in result) ≡ true → read_leaves answer ≡ true }
 {
-    match answer {
+    let read = answer?;
+    match read {
         Answer::Machine(head) => write_form(head, text, sheet, output),
         Answer::Diagnostics(n) => Ok(WriteAnswer::Diagnostics(n)),
     }

@@ -20,7 +20,7 @@ refusal_number r = O.refusal_number (refusal_in r)
 abbrev pub refusal_value : WriteRefusal → ℕ
 refusal_value r = O.refusal_value (refusal_in r)
 
--- the reply: its number and value are `writeNumber` and `writeValue` of it
+-- the reply: its number and value are `write_number` and `write_value` of it
 abbrev pub write_reply_in : Result WriteAnswer WriteRefusal → O.WriteReply
 write_reply_in (Ok (Written n)) = O.written n
 write_reply_in (Ok (Diagnostics n)) = O.not_written n

@@ -20,8 +20,8 @@ pub fn write(
 ) -> Result<WriteAnswer, WriteRefusal>
     ensures { (write_in result log.new sheet.new output.new ≡ write_records text.now (length work.old) log.old sheet.old output.old) × (leaves_work (write_reply_in result) ≡ true → work.new ≡ work.old) }
 {
-    let read = reading::read(text, work, log, sheet)?;
-    fit::write_answer(read, text, sheet, output)
+    let answer = reading::read(text, work, log, sheet);
+    fit::write_answer(answer, text, sheet, output)
 }
 
 // The same for callers in other languages: the answer in 36 words, and its number.
