@@ -1,18 +1,18 @@
 -- Laws of the blank, Σ and Γ.
 use mathlib.Core.Path.{◌≡◌, refl, sym, ap, subst, ◌∙◌}
-use mathlib.Core.Bool.{Bool, true, false, cond, ◌||◌}
+use mathlib.Core.Bool.{Bool, true, false, cond}
 use mathlib.Core.Logic.{◌⊎◌, inl, inr, ⊎_elim}
 use mathlib.Core.List.{List, [], ◌∷◌, ◌++◌, append-nil, append_assoc}
-use Prim.Native.Nat.{ℕ, zero, suc, ◌+◌, ◌-◌, ◌*◌, ◌≤◌, ◌<◌, ◌^◌, min}
+use Prim.Native.Nat.{ℕ, suc, ◌+◌, ◌-◌, ◌*◌, ◌≤◌, ◌<◌, min}
 use native.Mathlib.Omega.{arith}
+use borrow.Author.Rules.{rules}
 use native.Mathlib.Numerals.{add-one}
 use native.Mathlib.Decide.{dec_lt}
 use borrow.Author.Tests.{eq-eqb, ne_eqb, eqb-true, lt-ltb, le-ltb}
-use lib.Dec.{eqb, ltb}
-use lib.ListN.{length, get_or, take, drop, length-append, drop_of_length-le, length-drop, length-take, get_or-eq_default}
-use lib.Seq.{sets, drop-cons, drop-drop, take-add, take-nil}
+use lib.Dec.{eqb}
+use lib.ListN.{length, get_or, take, drop, length-append, drop_of_length-le, get_or-eq_default, length-drop}
+use lib.Seq.{drop-cons, drop-drop, take-add, take_all, length-take-le}
 use Rattle.diag.specs.declared.Span.{Span}
-use Rattle.language.specs.Infer.{member}
 use Rattle.language.specs.Layout.{flat}
 use Rattle.language.proofs.Counts.{flat_append}
 use Rattle.tokens.specs.declared.Token.{Token}
@@ -21,48 +21,46 @@ use Rattle.parser.specs.Row.{peek, ended}
 use Rattle.parser.specs.Views.{is_symbol}
 use Rattle.assembler.specs.Rows.{rows, place_of}
 use Rattle.assembler.specs.Entries.{entries}
-use Rattle.assembler.proofs.Rows.{length-rows, row_read}
-use Rattle.sheet.specs.Stored.{Stored}
+use Rattle.assembler.proofs.Rows.{row_read}
+use Rattle.language.specs.Infer.{member}
 use Rattle.sheet.specs.Comments.{span_words}
 use Rattle.sheet.specs.Rules.{resolve}
-use Rattle.sheet.proofs.Writes.{stored_none, stored_as, stored_append, Writing, writing_start, writing-on, written}
-use Rattle.alphabet.specs.Codes.{noted, noted_all, held, Hinted, Codes, Room}
-use Rattle.alphabet.specs.Symbols.{range, past_comma, quoted_pair, symbols, symbols_in, is_blank, has_blank, line_range, rules_symbols, codes_of}
-use Rattle.alphabet.specs.Alphabets.{listed_words, inferred_words, other_words, symbol_words, line_codes, candidates, gamma_codes, declared_gamma, gamma_words, inferred_sigma, sigma_words}
+use Rattle.sheet.specs.Puts.{Puts}
+use Rattle.sheet.specs.declared.put.Sheet.{Sheet}
+use Rattle.sheet.proofs.Puts.{puts_none, puts_as, ◌▹◌, Left, left_on, left_end}
+use Rattle.alphabet.specs.Symbols.{range, past_comma, quoted_pair, symbols, symbols_in, is_blank, has_blank, line_range, rules_symbols}
+use Rattle.alphabet.specs.Alphabets.{listed_words, inferred_words, other_words, symbol_words, candidates, gamma_codes, declared_gamma, gamma_words, inferred_sigma, sigma_words}
 use Rattle.alphabet.specs.Input.{input_of}
-use Rattle.alphabet.proofs.CodeLaws.{held-length, held_at, Noting, noting_start, noting_room, noting_on, noting_end, noting_rows}
-use Rattle.infer.specs.Page.{Kept}
-use Rattle.infer.proofs.Pages.{kept_on, kept-rows}
-use Rattle.alphabet.proofs.GlyphLaws.{range_none, range_past, range_in, symbols-on, is_symbol_lem, no_symbol}
+use Rattle.alphabet.specs.Codes.{noted, noted_all, Hinted}
+use Rattle.alphabet.specs.Notes.{listed, Sound, Notes, Uses}
+use Rattle.alphabet.specs.declared.codes.Codes.{Codes}
+use Rattle.alphabet.proofs.Noting.{notes_as, notes_then, uses_as}
+use Rattle.alphabet.proofs.GlyphLaws.{range_none, range_past, range_in, symbols-on, symbols-one, symbols_no}
 
 -- ---- one symbol
--- a character of Γ in Σ
-module _ (blank c : ℕ) (o : List ℕ) (i : ℕ) where
-  pub other_blank : c ≡ blank → Stored (cond (eqb c blank) [] (inferred_words c)) o i o i
-  other_blank e = stored_none (cond (eqb c blank) [] (inferred_words c)) o i (rw (eq-eqb c blank e))
-
-  pub other-put : (o' : List ℕ) (r : ℕ) → (c ≡ blank → ⊥) → Stored (c ∷ 0 ∷ 0 ∷ []) o i o' r → Stored (cond (eqb c blank) [] (inferred_words c)) o i o' r
-  other-put o' r e s = stored_as (cond (eqb c blank) [] (inferred_words c)) (c ∷ 0 ∷ 0 ∷ []) o o' i r (rw (ne_eqb c blank e)) s
-
-module _ (blank : ℕ) (inferred : Bool) (t : Token) (o : List ℕ) (i : ℕ) (b : Bool) (test : b ≡ is_symbol t) where
-  pub symbol-none : b ≡ false → Stored (flat (symbol_words inferred blank) (symbols (t ∷ []))) o i o i
+module _ (inferred : Bool) (blank : ℕ) (t : Token) (s : Sheet) (b : Bool) (test : b ≡ is_symbol t) where
+  pub symbol-none : b ≡ false → Puts (flat (symbol_words inferred blank) (symbols (t ∷ []))) s s
   unfolding flat
-  symbol-none e = stored_none (flat (symbol_words inferred blank) (symbols (t ∷ []))) o i (ap (flat (symbol_words inferred blank)) (no_symbol t b test e))
+  symbol-none e = puts_as (ap (flat (symbol_words inferred blank)) (symbols_no t (sym test ∙ e))) (puts_none s)
 
-  module _ (o' : List ℕ) (r : ℕ) (c : ℕ) (is : b ≡ true) (code : c ≡ resolve blank t) where
-    pub symbol-put : inferred ≡ false → (p : Span) → p ≡ place_of t → Stored (c ∷ span_words p) o i o' r → Stored (flat (symbol_words inferred blank) (symbols (t ∷ []))) o i o' r
+  module _ (is : b ≡ true) (c : ℕ) (code : c ≡ resolve blank t) where
+    alone : flat (symbol_words inferred blank) (symbols (t ∷ [])) ≡ symbol_words inferred blank t
     unfolding flat
-    symbol-put k p ep s =
-        stored_as (flat (symbol_words inferred blank) (symbols (t ∷ []))) (c ∷ span_words p) o o' i r
-        (ap (λ (k : Bool). flat (symbol_words k blank) (symbols (t ∷ []))) k ∙ ap (flat (listed_words blank)) (is_symbol_lem t b test is)
-        ∙ ap (λ (c : ℕ). c ∷ span_words (place_of t)) (sym code) ∙ ap (λ (p : Span). c ∷ span_words p) (sym ep)) s
+    alone = ap (flat (symbol_words inferred blank)) (symbols-one t (sym test ∙ is)) ∙ append-nil (symbol_words inferred blank t)
 
-    pub symbol-other : inferred ≡ true → Stored (cond (eqb c blank) [] (inferred_words c)) o i o' r → Stored (flat (symbol_words inferred blank) (symbols (t ∷ []))) o i o' r
-    unfolding flat other_words
-    symbol-other k s =
-        stored_as (flat (symbol_words inferred blank) (symbols (t ∷ []))) (cond (eqb c blank) [] (inferred_words c)) o o' i r
-        (ap (λ (k : Bool). flat (symbol_words k blank) (symbols (t ∷ []))) k ∙ ap (flat (other_words blank)) (is_symbol_lem t b test is)
-        ∙ append-nil (other_words blank t) ∙ ap (λ (c : ℕ). cond (eqb c blank) [] (inferred_words c)) (sym code)) s
+    pub symbol-put : (r : Sheet) → inferred ≡ false → (p : Span) → p ≡ place_of t → Puts (c ∷ span_words p) s r → Puts (flat (symbol_words inferred blank) (symbols (t ∷ []))) s r
+    symbol-put r k p ep u = puts_as (alone ∙ ap (λ (k : Bool). symbol_words k blank t) k ∙ ap (λ (c : ℕ). c ∷ span_words (place_of t)) (sym code) ∙ ap (λ (p : Span). c ∷ span_words p) (sym ep)) u
+
+    module _ (k : inferred ≡ true) where
+      as-other : flat (symbol_words inferred blank) (symbols (t ∷ [])) ≡ cond (eqb c blank) [] (inferred_words c)
+      unfolding other_words
+      as-other = alone ∙ ap (λ (k : Bool). symbol_words k blank t) k ∙ ap (λ (c : ℕ). cond (eqb c blank) [] (inferred_words c)) (sym code)
+
+      pub symbol-other : (r : Sheet) → (c ≡ blank → ⊥) → Puts (c ∷ 0 ∷ 0 ∷ []) s r → Puts (flat (symbol_words inferred blank) (symbols (t ∷ []))) s r
+      symbol-other r n u = puts_as (as-other ∙ ap (λ (b : Bool). cond b [] (inferred_words c)) (ne_eqb c blank n)) u
+
+      pub symbol-blank : c ≡ blank → Puts (flat (symbol_words inferred blank) (symbols (t ∷ []))) s s
+      symbol-blank e = puts_as (as-other ∙ ap (λ (b : Bool). cond b [] (inferred_words c)) (eq-eqb c blank e)) (puts_none s)
 
 -- at most three words each
 pub listed_width : (blank : ℕ) (t : Token) → length (listed_words blank t) ≤ 3
@@ -75,10 +73,6 @@ other_width blank t = go (eqb (resolve blank t) blank)
     go : (b : Bool) → length (cond b [] (inferred_words (resolve blank t))) ≤ 3
     go true = omega arith
     go false = omega arith
-
-pub symbol_width : (inferred : Bool) (blank : ℕ) (t : Token) → length (symbol_words inferred blank t) ≤ 3
-symbol_width true blank t = other_width blank t
-symbol_width false blank t = listed_width blank t
 
 pub flat_width : (f : Token → List ℕ) → ((t : Token) → length (f t) ≤ 3) → (ts : List Token) → length (flat f (symbols ts)) ≤ 3 * length ts
 unfolding flat symbols
@@ -98,17 +92,8 @@ symbols_past : (ts : List Token) (i to : ℕ) → (peek ts i).kind ≡ 8 → sym
 symbols_past ts i to e = go (dec_lt i to)
   where
     go : Dec (i < to) → symbols (range ts i to) ≡ symbols (range ts (i + 1) to)
-    go (yes h) = symbols-on ts i to h ∙ ap (λ (l : List Token). l ++ symbols (range ts (i + 1) to)) (no_symbol (peek ts i) false (sym (comma_no (peek ts i) e)) refl)
+    go (yes h) = symbols-on ts i to h ∙ ap (λ (l : List Token). l ++ symbols (range ts (i + 1) to)) (symbols_no (peek ts i) (comma_no (peek ts i) e))
     go (no h) = ap symbols (range_none ts i to (omega arith) ∙ sym (range_none ts (i + 1) to (omega arith)))
-
-module _ (ts : List Token) (i : ℕ) (t : Token) (e : t ≡ peek ts i) where
-  pub past_one : t.kind ≡ 8 → i + 1 ≡ past_comma ts i
-  unfolding past_comma
-  past_one q = rw (← e, eq-eqb t.kind 8 q)
-
-  pub past_none : (t.kind ≡ 8 → ⊥) → i ≡ past_comma ts i
-  unfolding past_comma
-  past_none q = rw (← e, ne_eqb t.kind 8 q)
 
 module _ (ts : List Token) (i r : ℕ) (e : r ≡ past_comma ts i) where
   past_cases : (r ≡ i) ⊎ (r ≡ i + 1)
@@ -123,17 +108,7 @@ module _ (ts : List Token) (i r : ℕ) (e : r ≡ past_comma ts i) where
   pub past_falls : (to j k : ℕ) → i ≡ j + 1 → j < to → r ≤ k → to - k < to - j
   past_falls to j k g h l = ⊎_elim (λ (p : r ≡ i). omega arith) (λ (p : r ≡ i + 1). omega arith) past_cases
 
-  past_near : r ≤ i + 1
-  past_near = ⊎_elim (λ (p : r ≡ i). omega arith) (λ (p : r ≡ i + 1). omega arith) past_cases
-
 -- ---- a quoted character and a comma
-module _ (w : List ℕ) (i : ℕ) (t : Token) (at : t ≡ token_in w i) where
-  pub quoted_yes : (u : Token) → t.kind ≡ 2 → u ≡ token_in w (i + 1) → eqb u.kind 8 ≡ quoted_pair w i
-  quoted_yes u q e = let z : eqb (token_in w i).kind 2 ≡ true = ap (λ (t : Token). eqb t.kind 2) (sym at) ∙ eq-eqb t.kind 2 q in rw z (ap (λ (u : Token). eqb u.kind 8) e)
-
-  pub quoted_no : (t.kind ≡ 2 → ⊥) → false ≡ quoted_pair w i
-  quoted_no q = let z : eqb (token_in w i).kind 2 ≡ false = ap (λ (t : Token). eqb t.kind 2) (sym at) ∙ ne_eqb t.kind 2 q in rw z
-
 pair-comma : (count : ℕ) (w : List ℕ) (i : ℕ) → 4 * count ≤ length w → i + 1 < count → quoted_pair w i ≡ true → (peek (rows count w) (i + 1)).kind ≡ 8
 pair-comma count w i h l e =
     ap (λ (t : Token). t.kind) (sym (row_read count w (i + 1) (token_in w (i + 1)) h l refl)) ∙ eqb-true (token_in w (i + 1)).kind 8 (go (eqb (token_in w i).kind 2) (eqb (token_in w (i + 1)).kind 8) e)
@@ -162,31 +137,26 @@ words_split f ts i j k h g =
     ap (λ (l : List Token). flat f (symbols l)) (range_split ts i j k h g) ∙ ap (flat f) (symbols-append (range ts i j) (range ts j k))
     ∙ flat_append f (symbols (range ts i j)) (symbols (range ts j k))
 
-words_near : (f : Token → List ℕ) (ts : List Token) (i j : ℕ) (o : List ℕ) (n : ℕ) (o' : List ℕ) (n' : ℕ) → ((t : Token) → length (f t) ≤ 3) → i ≤ j → Stored (flat f (symbols (range ts i j))) o n o' n' → n' + 3 * i ≤ n + 3 * j
-words_near f ts i j o n o' n' narrow h s = omega (arith, s.behind, flat_width f narrow (range ts i j), length-take (j - i) (drop i ts))
-
 -- ---- a run of symbols, as words f: it has come to the index i
-pub record Running (f : Token → List ℕ) (ts : List Token) (from to : ℕ) (o₀ : List ℕ) (n₀ : ℕ) (o : List ℕ) (n i : ℕ) : Type 0 where
+pub record Running (f : Token → List ℕ) (ts : List Token) (from to : ℕ) (first now : Sheet) (i : ℕ) : Type 0 where
   pub low : from ≤ i
   pub high : i - from ≤ to - from
-  pub stored : Stored (flat f (symbols (range ts from i))) o₀ n₀ o n
-  pub near : n + 3 * from ≤ n₀ + 3 * i
+  pub puts : Puts (flat f (symbols (range ts from i))) first now
 
-pub running_start : (f : Token → List ℕ) (ts : List Token) (from to : ℕ) (o : List ℕ) (n : ℕ) → Running f ts from to o n o n from
+pub running_start : (f : Token → List ℕ) (ts : List Token) (from to : ℕ) (s : Sheet) → Running f ts from to s s from
 unfolding flat symbols
-running_start f ts from to o n = record {
+running_start f ts from to s = record {
   low = omega arith;
   high = omega arith;
-  stored = stored_none (flat f (symbols (range ts from from))) o n (ap (λ (l : List Token). flat f (symbols l)) (range_none ts from from (omega arith)));
-  near = omega arith;
+  puts = puts_as (ap (λ (l : List Token). flat f (symbols l)) (range_none ts from from (omega arith))) (puts_none s);
 }
 
 -- a symbol and a comma
-pub running_on : (f : Token → List ℕ) (count : ℕ) (w : List ℕ) (from to : ℕ) (o₀ : List ℕ) (n₀ : ℕ) (o : List ℕ) (n i : ℕ) → Running f (rows count w) from to o₀ n₀ o n i
-    → ((t : Token) → length (f t) ≤ 3) → 4 * count ≤ length w → (last : ℕ) → last ≡ min count to - 1 → i < last → (b : Bool) → b ≡ quoted_pair w i → b ≡ true
-    → (t : Token) (o' : List ℕ) (n' : ℕ) → t ≡ token_in w i → Stored (flat f (symbols (t ∷ []))) o n o' n' → Running f (rows count w) from to o₀ n₀ o' n' (i + 2)
+pub running_on : (f : Token → List ℕ) (count : ℕ) (w : List ℕ) (from to : ℕ) (first now : Sheet) (i : ℕ) → Running f (rows count w) from to first now i → 4 * count ≤ length w
+    → (last : ℕ) → last ≡ min count to - 1 → i < last → (b : Bool) → b ≡ quoted_pair w i → b ≡ true → (t : Token) → t ≡ token_in w i → (then : Sheet) → Puts (flat f (symbols (t ∷ []))) now then
+    → Running f (rows count w) from to first then (i + 2)
 unfolding symbols
-running_on f count w from to o₀ n₀ o n i r narrow room last ends h b pair is t o' n' e s =
+running_on f count w from to first now i r room last ends h b pair is t e then u =
     let ts : List Token = rows count w in
     let at : t ≡ peek ts i = row_read count w i t room (omega arith) e in
     let comma : (peek ts (i + 1)).kind ≡ 8 = pair-comma count w i room (omega arith) (sym pair ∙ is) in
@@ -194,83 +164,38 @@ running_on f count w from to o₀ n₀ o n i r narrow room last ends h b pair is
     symbols-on ts i (i + 2) (omega arith)
     ∙ ap (λ (l : List Token). symbols (peek ts i ∷ []) ++ l) (symbols_past ts (i + 1) (i + 2) comma ∙ ap symbols (range_none ts (i + 1 + 1) (i + 2) (omega arith)))
     ∙ append-nil (symbols (peek ts i ∷ [])) ∙ ap (λ (t : Token). symbols (t ∷ [])) (sym at) in
-    let both : Stored (flat f (symbols (range ts from (i + 2)))) o₀ n₀ o' n' =
-    stored_as (flat f (symbols (range ts from (i + 2)))) (flat f (symbols (range ts from i)) ++ flat f (symbols (t ∷ []))) o₀ o' n₀ n'
-    (words_split f ts from i (i + 2) r.low (omega (arith, r.low)) ∙ ap (λ (l : List Token). flat f (symbols (range ts from i)) ++ flat f l) two)
-    (stored_append (flat f (symbols (range ts from i))) (flat f (symbols (t ∷ []))) o₀ o o' n₀ n n' r.stored s) in
     record {
       low = omega (arith, r.low);
       high = omega (arith, r.low, r.high);
-      stored = both;
-      near = words_near f ts from (i + 2) o₀ n₀ o' n' narrow (omega (arith, r.low)) both;
+      puts = puts_as (words_split f ts from i (i + 2) r.low (omega (arith, r.low)) ∙ ap (λ (l : List Token). flat f (symbols (range ts from i)) ++ flat f l) two) (r.puts ▹ u);
     }
 
+-- past a comma, if one stands there
+comma-past : (ts : List Token) (i to k : ℕ) → k ≡ past_comma ts i → symbols (range ts i to) ≡ symbols (range ts k to)
+unfolding past_comma
+comma-past ts i to k past = go (eqb (peek ts i).kind 8) refl
+  where
+    go : (b : Bool) → eqb (peek ts i).kind 8 ≡ b → symbols (range ts i to) ≡ symbols (range ts k to)
+    go true q = symbols_past ts i to (eqb-true (peek ts i).kind 8 q) ∙ ap (λ (m : ℕ). symbols (range ts m to)) (sym (past ∙ rw q))
+    go false q = ap (λ (m : ℕ). symbols (range ts m to)) (sym (past ∙ rw q))
+
 -- ---- the words f of the symbols of a range: the walk has come to the index i
-pub record Putting (f : Token → List ℕ) (ts : List Token) (from to : ℕ) (o₀ : List ℕ) (n₀ : ℕ) (o : List ℕ) (n i : ℕ) : Type 0 where
-  pub writing : let ws = flat f (symbols (range ts from to)) in Writing (sets o₀ n₀ ws) (n₀ + length ws) o n (flat f (symbols (range ts i to)))
-  pub near : n + 3 * from ≤ n₀ + 3 * i
-
-pub putting_start : (f : Token → List ℕ) (ts : List Token) (from to : ℕ) (o : List ℕ) (n : ℕ) → Putting f ts from to o n o n from
-putting_start f ts from to o n = record { writing = writing_start o n (flat f (symbols (range ts from to))); near = omega arith }
-
-module _ (f : Token → List ℕ) (ts : List Token) (from to : ℕ) (o₀ : List ℕ) (n₀ : ℕ) (o : List ℕ) (n i : ℕ) (p : Putting f ts from to o₀ n₀ o n i) where
-  putting_on : (t : Token) (o' : List ℕ) (n' : ℕ) → ((t : Token) → length (f t) ≤ 3) → i < to → t ≡ peek ts i → Stored (flat f (symbols (t ∷ []))) o n o' n' → Putting f ts from to o₀ n₀ o' n' (i + 1)
-  putting_on t o' n' narrow h e s =
-      let ws : List ℕ = flat f (symbols (range ts from to)) in
-      let split : flat f (symbols (range ts i to)) ≡ flat f (symbols (t ∷ [])) ++ flat f (symbols (range ts (i + 1) to)) =
-      ap (flat f) (symbols-on ts i to h ∙ ap (λ (t : Token). symbols (t ∷ []) ++ symbols (range ts (i + 1) to)) (sym e)) ∙ flat_append f (symbols (t ∷ [])) (symbols (range ts (i + 1) to)) in
-      record {
-        writing = writing-on (sets o₀ n₀ ws) (n₀ + length ws) o n (flat f (symbols (range ts i to))) p.writing (flat f (symbols (t ∷ []))) (flat f (symbols (range ts (i + 1) to))) o' n' split s;
-        near = omega (arith, p.near, s.behind, flat_width f narrow (t ∷ []));
-      }
-
-  -- a comma is no symbol
-  putting_past : (r : ℕ) → r ≡ past_comma ts i → Putting f ts from to o₀ n₀ o n r
-  unfolding past_comma
-  putting_past r e = go (eqb (peek ts i).kind 8) refl
-    where
-      go : (b : Bool) → eqb (peek ts i).kind 8 ≡ b → Putting f ts from to o₀ n₀ o n r
-      go true q =
-          let g : i + 1 ≡ r = sym (e ∙ rw q) in
-          let ws : List ℕ = flat f (symbols (range ts from to)) in
-          subst (λ (j : ℕ). Putting f ts from to o₀ n₀ o n j) g
-          (record {
-            writing = subst (λ (l : List Token). Writing (sets o₀ n₀ ws) (n₀ + length ws) o n (flat f l)) (symbols_past ts i to (eqb-true (peek ts i).kind 8 q)) p.writing;
-            near = omega (arith, p.near);
-          })
-      go false q = subst (λ (j : ℕ). Putting f ts from to o₀ n₀ o n j) (sym (e ∙ rw q)) p
-
-  pub putting_end : to ≤ i → Stored (flat f (symbols (range ts from to))) o₀ n₀ o n
+module _ (f : Token → List ℕ) (ts : List Token) (from to i : ℕ) (now first : Sheet) (all : List ℕ) (l : Left (flat f (symbols (range ts i to))) now all first) where
+  pub putting_end : to ≤ i → Puts all first now
   unfolding flat symbols
-  putting_end h = written o₀ n₀ (flat f (symbols (range ts from to))) o n (flat f (symbols (range ts i to))) p.writing (ap (λ (l : List Token). flat f (symbols l)) (range_none ts i to h))
+  putting_end h = left_end (ap (λ (l : List Token). flat f (symbols l)) (range_none ts i to h)) l
 
--- one symbol, a comma or none behind it, and a run from there on
-module _ (f : Token → List ℕ) (ts : List Token) (from to : ℕ) (o₀ : List ℕ) (n₀ : ℕ) (o : List ℕ) (n i : ℕ) (p : Putting f ts from to o₀ n₀ o n i) (narrow : (t : Token) → length (f t) ≤ 3)
-    (t : Token) (o₁ : List ℕ) (n₁ : ℕ) (h : i < to) (e : t ≡ peek ts i) (s₁ : Stored (flat f (symbols (t ∷ []))) o n o₁ n₁) (k : ℕ) (past : k ≡ past_comma ts (i + 1)) where
-  at-run : Putting f ts from to o₀ n₀ o₁ n₁ k
-  at-run = putting_past f ts from to o₀ n₀ o₁ n₁ (i + 1) (putting_on f ts from to o₀ n₀ o n i p t o₁ n₁ narrow h e s₁) k past
-
-  pub turn_room : to < 2 ^ 32 → n₀ < 2 ^ 63 → n₁ + 3 * to < 2 ^ 64
-  turn_room few low = omega (arith, at-run.near, past_near ts (i + 1) k past)
-
-  pub turn_on : (j : ℕ) (o₂ : List ℕ) (n₂ : ℕ) → k ≤ j → j - k ≤ to - k → Stored (flat f (symbols (range ts k j))) o₁ n₁ o₂ n₂ → Putting f ts from to o₀ n₀ o₂ n₂ j
-  turn_on j o₂ n₂ low high s₂ =
-      let ws : List ℕ = flat f (symbols (range ts from to)) in
-      record {
-        writing = writing-on (sets o₀ n₀ ws) (n₀ + length ws) o₁ n₁ (flat f (symbols (range ts k to))) at-run.writing (flat f (symbols (range ts k j))) (flat f (symbols (range ts j to))) o₂ n₂ (words_split f ts k j to low high) s₂;
-        near = omega (arith, at-run.near, words_near f ts k j o₁ n₁ o₂ n₂ narrow low s₂);
-      }
+  -- one symbol, a comma or none behind it, and a run from there on
+  pub putting_on : (t : Token) → i < to → t ≡ peek ts i → (p : Sheet) → Puts (flat f (symbols (t ∷ []))) now p → (k : ℕ) → k ≡ past_comma ts (i + 1) → (j : ℕ) → k ≤ j → j - k ≤ to - k → (r : Sheet)
+      → Puts (flat f (symbols (range ts k j))) p r → Left (flat f (symbols (range ts j to))) r all first
+  putting_on t h e p u k past j low high r v =
+      left_on {one = flat f (symbols (range ts k j))} (words_split f ts k j to low high)
+      (left_on {one = flat f (symbols (t ∷ []))} {more = flat f (symbols (range ts k to))}
+      (ap (flat f) (symbols-on ts i to h ∙ ap (λ (t : Token). symbols (t ∷ []) ++ symbols (range ts (i + 1) to)) (sym e) ∙ ap (λ (l : List Token). symbols (t ∷ []) ++ l) (comma-past ts (i + 1) to k past))
+      ∙ flat_append f (symbols (t ∷ [])) (symbols (range ts k to)))
+      l u) v
 
 -- ---- the blank among symbols
-module _ (blank : ℕ) (t : Token) (b : Bool) (test : b ≡ is_symbol t) where
-  pub blank_no : b ≡ false → false ≡ is_blank blank t
-  unfolding is_blank
-  blank_no e = rw (← test, e)
-
-  pub blank_symbol : (c : ℕ) → b ≡ true → c ≡ resolve blank t → eqb c blank ≡ is_blank blank t
-  unfolding is_blank
-  blank_symbol c e f = rw (← test, e, ← f)
-
 module _ (blank : ℕ) (ts : List Token) (from to i : ℕ) (inv : has_blank blank (range ts i to) ≡ has_blank blank (range ts from to)) where
   pub blank_end : to ≤ i → false ≡ has_blank blank (range ts from to)
   unfolding has_blank
@@ -303,194 +228,99 @@ module _ (blank : ℕ) (ts : List Token) (from to i : ℕ) (inv : has_blank blan
         go (yes q) = sym (ap (has_blank blank) (range_in ts i to low q) ∙ rw (is ∙ e, has_blank)) ∙ inv
         go (no q) = ap (has_blank blank) (range_past ts (i + 1) to (omega arith) ∙ sym (range_past ts i to (omega arith))) ∙ inv
 
+pub ruleset blanks = (rules, blank_here, blank_on, blank_end)
+
 -- ---- codes without a place: the walk has come to the code i
-pub record Coding (cs : List ℕ) (o₀ : List ℕ) (n₀ : ℕ) (o : List ℕ) (n i : ℕ) : Type 0 where
-  pub writing : let ws = flat inferred_words cs in Writing (sets o₀ n₀ ws) (n₀ + length ws) o n (flat inferred_words (drop i cs))
-  pub near : n ≡ n₀ + 3 * i
-
-pub coding_start : (cs o : List ℕ) (n : ℕ) → Coding cs o n o n 0
-coding_start cs o n = record { writing = writing_start o n (flat inferred_words cs); near = omega arith }
-
-module _ (b k : ℕ) (w : List ℕ) (o₀ : List ℕ) (n₀ : ℕ) (o : List ℕ) (n i : ℕ) (room : b + k ≤ length w) (p : Coding (held b k w) o₀ n₀ o n i) where
-  pub coding_on : (o' : List ℕ) (n' : ℕ) → i < k → Stored (get_or w (b + i) 0 ∷ 0 ∷ 0 ∷ []) o n o' n' → Coding (held b k w) o₀ n₀ o' n' (i + 1)
+module _ (cs : List ℕ) (i : ℕ) (now first : Sheet) (l : Left (flat inferred_words (drop i cs)) now (flat inferred_words cs) first) where
+  pub coding_on : i < length cs → (c : ℕ) → c ≡ get_or cs i 0 → (then : Sheet) → Puts (c ∷ 0 ∷ 0 ∷ []) now then → Left (flat inferred_words (drop (i + 1) cs)) then (flat inferred_words cs) first
   unfolding flat
-  coding_on o' n' h s =
-      let cs : List ℕ = held b k w in
-      let ws : List ℕ = flat inferred_words cs in
-      let split : flat inferred_words (drop i cs) ≡ inferred_words (get_or w (b + i) 0) ++ flat inferred_words (drop (i + 1) cs) =
-      ap (flat inferred_words) (drop-cons cs i 0 (omega (arith, held-length b k w room)) ∙ ap (λ (x : ℕ). x ∷ drop (suc i) cs) (held_at b k i w h) ∙ ap (λ (j : ℕ). get_or w (b + i) 0 ∷ drop j cs) (sym (add-one i))) in
-      record {
-        writing = writing-on (sets o₀ n₀ ws) (n₀ + length ws) o n (flat inferred_words (drop i cs)) p.writing (inferred_words (get_or w (b + i) 0)) (flat inferred_words (drop (i + 1) cs)) o' n' split s;
-        near = omega (arith, p.near, s.behind);
-      }
+  coding_on h c e then u = left_on {one = c ∷ 0 ∷ 0 ∷ []}
+      (ap (flat inferred_words) (drop-cons cs i 0 h ∙ ap (λ (x : ℕ). x ∷ drop (suc i) cs) (sym e) ∙ ap (λ (j : ℕ). c ∷ drop j cs) (sym (add-one i)))) l u
 
-  pub coding_end : k ≤ i → Stored (flat inferred_words (held b k w)) o₀ n₀ o n
+  pub coding_end : length cs ≤ i → Puts (flat inferred_words cs) first now
   unfolding flat
-  coding_end h = written o₀ n₀ (flat inferred_words (held b k w)) o n (flat inferred_words (drop i (held b k w))) p.writing
-      (ap (flat inferred_words) (drop_of_length-le (held b k w) {i = i} (omega (arith, held-length b k w room))))
+  coding_end h = left_end (ap (flat inferred_words) (drop_of_length-le cs {i = i} h)) l
+
+-- ---- a line
+pub line-put : (f : Token → List ℕ) (ts : List Token) (i : ℕ) (t : Token) {s r : Sheet} → t ≡ peek ts i → Puts (flat f (symbols (range ts (i + 1) t.value))) s r → Puts (flat f (symbols_in ts i)) s r
+unfolding symbols_in
+line-put f ts i t e u = puts_as (ap (λ (t : Token). flat f (symbols (range ts (i + 1) t.value))) (sym e)) u
+
+pub line-noted : {blank : ℕ} (ts : List Token) (i : ℕ) (t : Token) {s r : Codes} → t ≡ peek ts i → Uses blank (symbols (range ts (i + 1) t.value)) s r → Uses blank (symbols_in ts i) s r
+unfolding symbols_in
+line-noted ts i t e u = uses_as (ap (λ (t : Token). symbols (range ts (i + 1) t.value)) (sym e)) u
+
+pub line-has : (blank : ℕ) (ts : List Token) (i : ℕ) (t : Token) → t ≡ peek ts i → (b : Bool) {x : Bool} → b ≡ has_blank blank (range ts (i + 1) t.value) → b ≡ x → has_blank blank (line_range ts i) ≡ x
+line-has blank ts i t e b f g = ap (λ (t : Token). has_blank blank (range ts (i + 1) t.value)) (sym e) ∙ sym f ∙ g
 
 -- ---- Γ's codes where it is not declared
-pub line_room : (b n blank : ℕ) (w : List ℕ) (ts : List Token) (f : ℕ) (t : Token) (to : ℕ) → t ≡ peek ts f → to ≡ t.value → Room b n w (line_codes blank ts f)
-    → Room b n w (codes_of blank (symbols (range ts (f + 1) to)))
-unfolding symbols_in
-line_room b n blank w ts f t to e g h =
-    subst (λ (k : ℕ). Room b n w (codes_of blank (symbols (range ts (f + 1) k)))) (sym (g ∙ ap (λ (t : Token). t.value) e)) h
-
-pub line-noted : (b n blank : ℕ) (w : List ℕ) (ts : List Token) (f : ℕ) (t : Token) (to : ℕ) (w' : List ℕ) (r : ℕ) → t ≡ peek ts f → to ≡ t.value
-    → Codes b w (noted_all (held b n w) (codes_of blank (symbols (range ts (f + 1) to)))) w' r → Codes b w (noted_all (held b n w) (line_codes blank ts f)) w' r
-unfolding symbols_in
-line-noted b n blank w ts f t to w' r e g c =
-    subst (λ (k : ℕ). Codes b w (noted_all (held b n w) (codes_of blank (symbols (range ts (f + 1) k)))) w' r) (g ∙ ap (λ (t : Token). t.value) e) c
-
--- two lists noted, one on top of the other; the second is read from the row again, which is as it was
-module _ (b n count : ℕ) (w : List ℕ) (few : 4 * count ≤ b) (all : List ℕ) (room : Room b n w all) (xs : List ℕ) (ys : List Token → List ℕ) (split : all ≡ xs ++ ys (rows count w)) where
-  whole : Noting b (noted_all (held b n w) all) w w n (xs ++ ys (rows count w))
-  whole = subst (λ (l : List ℕ). Noting b (noted_all (held b n w) all) w w n l) split (noting_start b w n all room)
-
-  pub two_room : Room b n w xs
-  two_room = noting_room b (noted_all (held b n w) all) w w n xs (ys (rows count w)) whole
-
-  module _ (w₁ : List ℕ) (n₁ : ℕ) (one : Codes b w (noted_all (held b n w) xs) w₁ n₁) where
-    then : Noting b (noted_all (held b n w) all) w w₁ n₁ (ys (rows count w))
-    then = noting_on b (noted_all (held b n w) all) w w n xs (ys (rows count w)) w₁ n₁ whole one
-
-    again : ys (rows count w₁) ≡ ys (rows count w)
-    again = ap ys (noting_rows b count (noted_all (held b n w) all) w w₁ n₁ (ys (rows count w)) then few)
-
-    last : Noting b (noted_all (held b n w) all) w w₁ n₁ (ys (rows count w₁) ++ [])
-    last = subst (λ (l : List ℕ). Noting b (noted_all (held b n w) all) w w₁ n₁ l) (sym (append-nil (ys (rows count w₁)) ∙ again)) then
-
-    pub two_room_2 : Room b n₁ w₁ (ys (rows count w₁))
-    two_room_2 = noting_room b (noted_all (held b n w) all) w w₁ n₁ (ys (rows count w₁)) [] last
-
-    pub two_noted : (w₂ : List ℕ) (n₂ : ℕ) → Codes b w₁ (noted_all (held b n₁ w₁) (ys (rows count w₁))) w₂ n₂ → Codes b w (noted_all (held b n w) all) w₂ n₂
-    two_noted w₂ n₂ c = noting_end b (noted_all (held b n w) all) w w₂ n₂ (noting_on b (noted_all (held b n w) all) w w₁ n₁ (ys (rows count w₁)) [] w₂ n₂ last c)
-
-module _ (text : List ℕ) (blank : ℕ) (ts : List Token) (first : List ℕ) (count s : ℕ) (many : length ts ≡ count) (is : s ≡ get_or first 6 0) where
-  test : (b : Bool) → ltb s count ≡ b → ltb (get_or first 6 0) (length ts) ≡ b
-  test b e = ap (λ (k : ℕ). ltb k (length ts)) (sym is) ∙ ap (ltb s) many ∙ e
-
-  pub candidates-declared : s < count → candidates text blank ts first ≡ line_codes blank ts s ++ codes_of blank (rules_symbols ts (entries ts))
+module _ (text : List ℕ) (blank : ℕ) (ts : List Token) (first : List ℕ) (s p r : Codes) where
+  pub candidates-declared : get_or first 6 0 < length ts → Uses blank (symbols_in ts (get_or first 6 0)) s p → Uses blank (rules_symbols ts (entries ts)) p r → Notes (candidates text blank ts first) s r
   unfolding candidates
-  candidates-declared h = rw (test true (lt-ltb s count h), ← is)
+  candidates-declared h u v = notes_as (rw (lt-ltb (get_or first 6 0) (length ts) h)) (notes_then u.notes v.notes)
 
-  pub candidates-not : (d : ℕ) → d ≡ get_or first 2 0 → count ≤ s → candidates text blank ts first ≡ codes_of blank (rules_symbols ts (entries ts)) ++ input_of text ts d
+  pub candidates-not : length ts ≤ get_or first 6 0 → Uses blank (rules_symbols ts (entries ts)) s p → Notes (input_of text ts (get_or first 2 0)) p r → Notes (candidates text blank ts first) s r
   unfolding candidates
-  candidates-not d e h = rw (test false (le-ltb s count h), ← e)
-
--- the hints are cleared
-module _ (text : List ℕ) (b blank count : ℕ) (w first : List ℕ) (few : 4 * count ≤ b) (fits : b + length (gamma_codes text blank (rows count w) first) ≤ length w) where
-  module _ (v : List ℕ) (kept : Kept b w v) (clear : Hinted b 0 v) where
-    same : gamma_codes text blank (rows count v) first ≡ gamma_codes text blank (rows count w) first
-    same = ap (λ (ts : List Token). gamma_codes text blank ts first) (kept-rows count b w v kept few (omega arith))
-
-    pub gamma_space : Room b 0 v (blank ∷ candidates text blank (rows count v) first)
-    unfolding noted_all noted member gamma_codes
-    gamma_space = record { low = omega (arith, kept.size); fits = omega (arith, fits, kept.size, ap length same); hints = clear }
-
-    pub gamma_codes_lem : (u : List ℕ) (n : ℕ) → Codes b v (gamma_codes text blank (rows count v) first) u n → Codes b w (gamma_codes text blank (rows count w) first) u n
-    gamma_codes_lem u n c = record { kept = kept_on b w v u kept c.kept; codes = c.codes ∙ same; count = c.count ∙ ap length same; hints = c.hints }
-
--- the blank first
-module _ (text : List ℕ) (b blank count : ℕ) (w first : List ℕ) (few : 4 * count ≤ b) (room : Room b 0 w (blank ∷ candidates text blank (rows count w) first)) where
-  gamma_target : noted_all (held b 0 w) (blank ∷ candidates text blank (rows count w) first) ≡ gamma_codes text blank (rows count w) first
-  unfolding noted_all noted member gamma_codes
-  gamma_target = refl
-
-  gamma-all : Noting b (gamma_codes text blank (rows count w) first) w w 0 ((blank ∷ []) ++ candidates text blank (rows count w) first)
-  gamma-all = subst (λ (l : List ℕ). Noting b l w w 0 (blank ∷ candidates text blank (rows count w) first)) gamma_target (noting_start b w 0 (blank ∷ candidates text blank (rows count w) first) room)
-
-  pub gamma-head : Room b 0 w (blank ∷ [])
-  gamma-head = noting_room b (gamma_codes text blank (rows count w) first) w w 0 (blank ∷ []) (candidates text blank (rows count w) first) gamma-all
-
-  module _ (w₁ : List ℕ) (n₁ : ℕ) (one : Codes b w (noted (held b 0 w) blank) w₁ n₁) where
-    then_noting : Noting b (gamma_codes text blank (rows count w) first) w w₁ n₁ (candidates text blank (rows count w) first)
-    unfolding noted_all
-    then_noting = noting_on b (gamma_codes text blank (rows count w) first) w w 0 (blank ∷ []) (candidates text blank (rows count w) first) w₁ n₁ gamma-all one
-
-    gamma_last : Noting b (gamma_codes text blank (rows count w) first) w w₁ n₁ (candidates text blank (rows count w₁) first ++ [])
-    gamma_last = subst (λ (l : List ℕ). Noting b (gamma_codes text blank (rows count w) first) w w₁ n₁ l)
-        (sym (append-nil (candidates text blank (rows count w₁) first) ∙ ap (λ (ts : List Token). candidates text blank ts first) (noting_rows b count (gamma_codes text blank (rows count w) first) w w₁ n₁ (candidates text blank (rows count w) first) then_noting few))) then_noting
-
-    pub gamma_room : Room b n₁ w₁ (candidates text blank (rows count w₁) first)
-    gamma_room = noting_room b (gamma_codes text blank (rows count w) first) w w₁ n₁ (candidates text blank (rows count w₁) first) [] gamma_last
-
-    pub gamma-noted : (w₂ : List ℕ) (n₂ : ℕ) → Codes b w₁ (noted_all (held b n₁ w₁) (candidates text blank (rows count w₁) first)) w₂ n₂ → Codes b w (gamma_codes text blank (rows count w) first) w₂ n₂
-    gamma-noted w₂ n₂ c = noting_end b (gamma_codes text blank (rows count w) first) w w₂ n₂ (noting_on b (gamma_codes text blank (rows count w) first) w w₁ n₁ (candidates text blank (rows count w₁) first) [] w₂ n₂ gamma_last c)
+  candidates-not h u v = notes_as (rw (le-ltb (get_or first 6 0) (length ts) h)) (notes_then u.notes v)
 
 -- ---- Γ and Σ in the sheet
-module _ (blank : ℕ) (ts : List Token) (g : ℕ) (t : Token) (end : ℕ) (at : t ≡ peek ts g) (ends : end ≡ t.value) (o : List ℕ) (i : ℕ) where
-  ends_is : end ≡ (peek ts g).value
-  ends_is = ends ∙ ap (λ (t : Token). t.value) at
-
-  -- the symbols of a line, as words f
-  pub line-put : (f : Token → List ℕ) (o' : List ℕ) (r : ℕ) → Stored (flat f (symbols (range ts (g + 1) end))) o i o' r → Stored (flat f (symbols_in ts g)) o i o' r
-  unfolding symbols_in
-  line-put f o' r s = subst (λ (k : ℕ). Stored (flat f (symbols (range ts (g + 1) k))) o i o' r) ends_is s
-
-  module _ (o₁ : List ℕ) (n : ℕ) (one : Stored (flat (listed_words blank) (symbols (range ts (g + 1) end))) o i o₁ n) (b : Bool) (has : b ≡ has_blank blank (range ts (g + 1) end)) where
-    has_is : has_blank blank (line_range ts g) ≡ b
-    has_is = ap (λ (k : ℕ). has_blank blank (range ts (g + 1) k)) (sym ends_is) ∙ sym has
-
-    pub gamma-put_room : i < 2 ^ 62 → end < 2 ^ 32 → n + 3 < 2 ^ 64
-    gamma-put_room h e = omega (arith, one.behind, flat_width (listed_words blank) (λ t. omega arith) (range ts (g + 1) end), length-take (end - (g + 1)) (drop (g + 1) ts))
-
-    pub gamma_has : b ≡ true → Stored (declared_gamma blank ts g) o i o₁ n
-    unfolding declared_gamma
-    gamma_has e = stored_as (declared_gamma blank ts g) (flat (listed_words blank) (symbols_in ts g)) o o₁ i n (rw (has_is, e) (append-nil (flat (listed_words blank) (symbols_in ts g)))) (line-put (listed_words blank) o₁ n one)
-
-    pub gamma_lacks : (o₂ : List ℕ) (r : ℕ) → b ≡ false → Stored (blank ∷ 0 ∷ 0 ∷ []) o₁ n o₂ r → Stored (declared_gamma blank ts g) o i o₂ r
-    unfolding declared_gamma
-    gamma_lacks o₂ r e s = stored_as (declared_gamma blank ts g) (flat (listed_words blank) (symbols_in ts g) ++ (blank ∷ 0 ∷ 0 ∷ [])) o o₂ i r (rw (has_is, e))
-        (stored_append (flat (listed_words blank) (symbols_in ts g)) (blank ∷ 0 ∷ 0 ∷ []) o o₁ o₂ i n r (line-put (listed_words blank) o₁ n one) s)
-
-module _ (blank count : ℕ) (ts : List Token) (first cs : List ℕ) (k x : ℕ) (many : length ts ≡ count) (is : x ≡ get_or first k 0) (o : List ℕ) (i : ℕ) (o' : List ℕ) (r : ℕ) where
-  declared : (b : Bool) → ltb x count ≡ b → ltb (get_or first k 0) (length ts) ≡ b
-  declared b e = ap (λ (j : ℕ). ltb j (length ts)) (sym is) ∙ ap (ltb x) many ∙ e
-
-  pub gamma-declared : k ≡ 7 → x < count → Stored (declared_gamma blank ts x) o i o' r → Stored (gamma_words blank ts first cs) o i o' r
+module _ (blank : ℕ) (ts : List Token) (first cs : List ℕ) (s r : Sheet) where
+  pub gamma-codes : length ts ≤ get_or first 7 0 → Puts (flat inferred_words cs) s r → Puts (gamma_words blank ts first cs) s r
   unfolding gamma_words
-  gamma-declared e h s = stored_as (gamma_words blank ts first cs) (declared_gamma blank ts x) o o' i r
-      (let t : ltb (get_or first 7 0) (length ts) ≡ true = subst (λ (j : ℕ). ltb (get_or first j 0) (length ts) ≡ true) e (declared true (lt-ltb x count h)) in
-      let y : get_or first 7 0 ≡ x = subst (λ (j : ℕ). get_or first j 0 ≡ x) e (sym is) in
-      rw t (ap (declared_gamma blank ts) y)) s
+  gamma-codes h u = puts_as (rw (le-ltb (get_or first 7 0) (length ts) h)) u
 
-  pub gamma-inferred : k ≡ 7 → count ≤ x → Stored (flat inferred_words cs) o i o' r → Stored (gamma_words blank ts first cs) o i o' r
-  unfolding gamma_words
-  gamma-inferred e h s = stored_as (gamma_words blank ts first cs) (flat inferred_words cs) o o' i r
-      (let t : ltb (get_or first 7 0) (length ts) ≡ false = subst (λ (j : ℕ). ltb (get_or first j 0) (length ts) ≡ false) e (declared false (le-ltb x count h)) in rw t) s
+  pub gamma-has : get_or first 7 0 < length ts → has_blank blank (line_range ts (get_or first 7 0)) ≡ true → Puts (flat (listed_words blank) (symbols_in ts (get_or first 7 0))) s r → Puts (gamma_words blank ts first cs) s r
+  unfolding gamma_words declared_gamma
+  gamma-has h b u = puts_as (rw (lt-ltb (get_or first 7 0) (length ts) h, b) (append-nil (flat (listed_words blank) (symbols_in ts (get_or first 7 0))))) u
 
-  pub sigma-declared : k ≡ 6 → x < count → Stored (flat (listed_words blank) (symbols_in ts x)) o i o' r → Stored (sigma_words blank ts first cs) o i o' r
+  pub gamma-lacks : get_or first 7 0 < length ts → has_blank blank (line_range ts (get_or first 7 0)) ≡ false → (p : Sheet) → Puts (flat (listed_words blank) (symbols_in ts (get_or first 7 0))) s p
+      → Puts (blank ∷ 0 ∷ 0 ∷ []) p r → Puts (gamma_words blank ts first cs) s r
+  unfolding gamma_words declared_gamma
+  gamma-lacks h b p u v = puts_as (rw (lt-ltb (get_or first 7 0) (length ts) h, b)) (u ▹ v)
+
+  pub sigma-declared : get_or first 6 0 < length ts → Puts (flat (listed_words blank) (symbols_in ts (get_or first 6 0))) s r → Puts (sigma_words blank ts first cs) s r
   unfolding sigma_words
-  sigma-declared e h s = stored_as (sigma_words blank ts first cs) (flat (listed_words blank) (symbols_in ts x)) o o' i r
-      (let t : ltb (get_or first 6 0) (length ts) ≡ true = subst (λ (j : ℕ). ltb (get_or first j 0) (length ts) ≡ true) e (declared true (lt-ltb x count h)) in
-      let y : get_or first 6 0 ≡ x = subst (λ (j : ℕ). get_or first j 0 ≡ x) e (sym is) in
-      rw t (ap (λ (j : ℕ). flat (listed_words blank) (symbols_in ts j)) y)) s
+  sigma-declared h u = puts_as (rw (lt-ltb (get_or first 6 0) (length ts) h)) u
 
-  pub sigma-inferred : (g : ℕ) → k ≡ 6 → g ≡ get_or first 7 0 → count ≤ x → Stored (inferred_sigma blank ts g cs) o i o' r → Stored (sigma_words blank ts first cs) o i o' r
-  unfolding sigma_words
-  sigma-inferred g e f h s = stored_as (sigma_words blank ts first cs) (inferred_sigma blank ts g cs) o o' i r
-      (let t : ltb (get_or first 6 0) (length ts) ≡ false = subst (λ (j : ℕ). ltb (get_or first j 0) (length ts) ≡ false) e (declared false (le-ltb x count h)) in
-      rw t (ap (λ (j : ℕ). inferred_sigma blank ts j cs) (sym f))) s
+  module _ (no : length ts ≤ get_or first 6 0) where
+    pub sigma-line : get_or first 7 0 < length ts → Puts (flat (other_words blank) (symbols_in ts (get_or first 7 0))) s r → Puts (sigma_words blank ts first cs) s r
+    unfolding sigma_words inferred_sigma
+    sigma-line h u = puts_as (rw (le-ltb (get_or first 6 0) (length ts) no, lt-ltb (get_or first 7 0) (length ts) h)) u
 
-module _ (blank count : ℕ) (ts : List Token) (g : ℕ) (many : length ts ≡ count) (cs o : List ℕ) (i : ℕ) (o' : List ℕ) (r : ℕ) where
-  pub others-line : g < count → Stored (flat (other_words blank) (symbols_in ts g)) o i o' r → Stored (inferred_sigma blank ts g cs) o i o' r
-  unfolding inferred_sigma
-  others-line h s = stored_as (inferred_sigma blank ts g cs) (flat (other_words blank) (symbols_in ts g)) o o' i r (rw (many, lt-ltb g count h)) s
+    pub sigma-codes : length ts ≤ get_or first 7 0 → Puts (flat inferred_words (drop 1 cs)) s r → Puts (sigma_words blank ts first cs) s r
+    unfolding sigma_words inferred_sigma
+    sigma-codes h u = puts_as (rw (le-ltb (get_or first 6 0) (length ts) no, le-ltb (get_or first 7 0) (length ts) h)) u
 
-  pub others-codes : count ≤ g → Stored (flat inferred_words (drop 1 cs)) o i o' r → Stored (inferred_sigma blank ts g cs) o i o' r
-  unfolding inferred_sigma
-  others-codes h s = stored_as (inferred_sigma blank ts g cs) (flat inferred_words (drop 1 cs)) o o' i r (rw (many, le-ltb g count h)) s
+pub sigma-others : (blank : ℕ) (ts : List Token) (first cs : List ℕ) (s r : Sheet) → length ts ≤ get_or first 6 0 → length ts ≤ get_or first 7 0 → Puts (flat inferred_words (take (length cs - 1) (drop 1 cs))) s r
+    → Puts (sigma_words blank ts first cs) s r
+sigma-others blank ts first cs s r lacks h u = sigma-codes blank ts first cs s r lacks h (puts_as (ap (flat inferred_words) (sym (take_all (length cs - 1) (drop 1 cs) (omega (arith, length-drop 1 cs))))) u)
 
--- the codes behind the first
-pub codes-none : (b n : ℕ) (w o : List ℕ) (i : ℕ) → n ≡ 0 → Stored (flat inferred_words (drop 1 (held b n w))) o i o i
+pub sigma-none : (blank : ℕ) (ts : List Token) (first cs : List ℕ) (s : Sheet) → length ts ≤ get_or first 6 0 → length ts ≤ get_or first 7 0 → length cs < 1 → Puts (sigma_words blank ts first cs) s s
 unfolding flat
-codes-none b n w o i e = stored_none (flat inferred_words (drop 1 (held b n w))) o i (ap (λ (k : ℕ). flat inferred_words (drop 1 (held b k w))) e)
+sigma-none blank ts first cs s lacks h few = sigma-codes blank ts first cs s s lacks h (puts_as (ap (flat inferred_words) (drop_of_length-le cs {i = 1} (omega arith))) (puts_none s))
 
-pub codes-behind : (b n : ℕ) (w o : List ℕ) (i : ℕ) (o' : List ℕ) (r : ℕ) → (n ≡ 0 → ⊥) → Stored (flat inferred_words (held (b + 1) (n - 1) w)) o i o' r → Stored (flat inferred_words (drop 1 (held b n w))) o i o' r
-codes-behind b n w o i o' r h s = stored_as (flat inferred_words (drop 1 (held b n w))) (flat inferred_words (held (b + 1) (n - 1) w)) o o' i r
-    (let e : n ≡ suc (n - 1) = omega arith in ap (flat inferred_words) (ap (λ (k : ℕ). drop 1 (take k (drop b w))) e ∙ behind-first (n - 1) (drop b w) ∙ ap (take (n - 1)) (drop-drop 1 b w))) s
-  where
-    behind-first : (k : ℕ) (l : List ℕ) → drop 1 (take (suc k) l) ≡ take k (drop 1 l)
-    behind-first k [] = sym (take-nil {A = ℕ} k)
-    behind-first k (x ∷ l) = refl
+-- ---- the codes at the front of a row
+module _ (blank : ℕ) (text first row : List ℕ) (ts : List Token) (fits : length (gamma_codes text blank ts first) ≤ length row) where
+  -- the blank first
+  all-noted : {cs : List ℕ} → cs ≡ [] → noted_all cs (blank ∷ candidates text blank ts first) ≡ gamma_codes text blank ts first
+  unfolding noted_all noted member gamma_codes
+  all-noted e = ap (λ (cs : List ℕ). noted_all cs (blank ∷ candidates text blank ts first)) e
+
+  module _ (a p r : Codes) (empty : listed a ≡ []) (sound : Sound a) (size : length a.row.now ≡ length row) (u : Notes (blank ∷ []) a p) (v : Notes (candidates text blank ts first) p r) (n : ℕ) (number : n ≡ r.count) where
+    noted-both : Notes (blank ∷ candidates text blank ts first) a r
+    noted-both = notes_then u v
+
+    all-listed : listed r ≡ gamma_codes text blank ts first
+    all-listed = noted-both.notes sound (omega (arith, fits, ap length (all-noted empty), size)) ∙ all-noted empty
+
+    pub gamma-coded : (last : List ℕ) → last ≡ r.row.now → take n last ≡ gamma_codes text blank ts first
+    gamma-coded last e = ap (take n) e ∙ ap (λ (k : ℕ). take k r.row.now) number ∙ all-listed
+
+    pub gamma-counted : n ≡ length (gamma_codes text blank ts first)
+    gamma-counted = omega (arith, number, ap length all-listed, length-take-le r.count r.row.now (noted-both.sound sound).low)
+
+    -- the hints that stand in the row are those of these codes
+    pub gamma-hinted : (last : List ℕ) → last ≡ r.row.now → (k : ℕ) → a.hints ≡ k → Hinted k n last
+    gamma-hinted last e k many =
+        subst (λ (k : ℕ). Hinted k n last) (noted-both.many ∙ many)
+        (subst (λ (n : ℕ). Hinted r.hints n last) (sym number) (subst (λ (w : List ℕ). Hinted r.hints r.count w) (sym e) (noted-both.sound sound).hints))

@@ -1,12 +1,12 @@
 -- Characters noted one after the other are those that are fresh: an undeclared Γ is the language's, and behind its blank stands the language's Σ.
 use mathlib.Core.Path.{◌≡◌, refl, sym, ap, ◌∙◌, fun_ext}
-use mathlib.Core.Bool.{Bool, true, false, cond, ◌||◌, false≢true}
+use mathlib.Core.Bool.{Bool, true, false, ◌||◌, false≢true}
 use mathlib.Core.List.{List, [], ◌∷◌, ◌++◌, append-nil, append_assoc}
 use Prim.Native.Nat.{ℕ}
 use borrow.Author.Tests.{eq-eqb, eqb-true}
 use lib.Dec.{eqb}
 use Rattle.language.specs.Infer.{member, fresh, less}
-use Rattle.language.proofs.Every.{by_test, or_left}
+use Rattle.language.proofs.Every.{by_test}
 use Rattle.alphabet.specs.Codes.{noted, noted_all}
 
 pub fresh_there : (known : ℕ → Bool) (x : ℕ) (l : List ℕ) → known x ≡ true → fresh eqb known (x ∷ l) ≡ fresh eqb known l

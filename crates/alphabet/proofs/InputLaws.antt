@@ -1,6 +1,6 @@
 -- Laws of the characters of the input's value.
-use mathlib.Core.Path.{◌≡◌, refl, sym, ap, subst, ◌∙◌}
-use mathlib.Core.Bool.{Bool, true, false, false≢true}
+use mathlib.Core.Path.{◌≡◌, refl, sym, ap, ◌∙◌}
+use mathlib.Core.Bool.{Bool, true, false}
 use mathlib.Core.List.{List, [], ◌∷◌, ◌++◌}
 use Prim.Native.Nat.{ℕ, ◌+◌, ◌-◌, ◌≤◌, ◌<◌}
 use native.Mathlib.Omega.{arith}
@@ -14,141 +14,52 @@ use Rattle.lexer.specs.Places.{rest}
 use Rattle.language.specs.Infer.{member}
 use Rattle.tokens.specs.declared.Token.{Token}
 use Rattle.parser.specs.Row.{peek}
-use Rattle.alphabet.specs.Codes.{noted, noted_all, held, Codes, Room}
-use Rattle.alphabet.specs.Input.{ends_at, escape_code, escape_of, spelled_as, escapes_next, spelled, input_of}
-use Rattle.alphabet.proofs.CodeLaws.{Noting, noting_start, noting_room, noting_on, noting_end, noted-none}
+use Rattle.alphabet.specs.Codes.{noted, noted_all}
+use Rattle.alphabet.specs.Input.{ends_at, escape_of, spelled_as, escapes_next, spelled, input_of}
+use Rattle.alphabet.specs.Notes.{listed, Sound, Notes}
+use Rattle.alphabet.specs.declared.codes.Codes.{Codes}
+use Rattle.alphabet.proofs.Noting.{notes_none, notes_as, Left, left_on, left_end}
 
 -- ---- tests of one character
 module _ (e : Bool) (c : ℕ) where
-  pub ends_feed : c ≡ 10 → true ≡ ends_at e c
-  unfolding ends_at
-  ends_feed h = rw (eq-eqb c 10 h)
-
-  pub ends_escaped : (c ≡ 10 → ⊥) → e ≡ true → false ≡ ends_at e c
-  unfolding ends_at
-  ends_escaped h g = rw (ne_eqb c 10 h, g)
-
   pub ends_quote : (c ≡ 10 → ⊥) → e ≡ false → eqb c 0x22 ≡ ends_at e c
   unfolding ends_at
   ends_quote h g = rw (ne_eqb c 10 h, g)
-
-  pub next-escaped : e ≡ true → false ≡ escapes_next e c
-  unfolding escapes_next
-  next-escaped h = rw h
 
   pub next-plain : e ≡ false → eqb c 0x5C ≡ escapes_next e c
   unfolding escapes_next
   next-plain h = rw h
 
-module _ (c : ℕ) where
-  pub code_quote : c ≡ 0x22 → 0x22 ≡ escape_code c
-  unfolding escape_code
-  code_quote h = rw (eq-eqb c 0x22 h)
-
-  module _ (a : c ≡ 0x22 → ⊥) where
-    pub code_backslash : c ≡ 0x5C → 0x5C ≡ escape_code c
-    unfolding escape_code
-    code_backslash h = rw (ne_eqb c 0x22 a, eq-eqb c 0x5C h)
-
-    module _ (b : c ≡ 0x5C → ⊥) where
-      pub code_feed : c ≡ 0x6E → 10 ≡ escape_code c
-      unfolding escape_code
-      code_feed h = rw (ne_eqb c 0x22 a, ne_eqb c 0x5C b, eq-eqb c 0x6E h)
-
-      module _ (d : c ≡ 0x6E → ⊥) where
-        pub code_tab : c ≡ 0x74 → 9 ≡ escape_code c
-        unfolding escape_code
-        code_tab h = rw (ne_eqb c 0x22 a, ne_eqb c 0x5C b, ne_eqb c 0x6E d, eq-eqb c 0x74 h)
-
-        pub code-none : (c ≡ 0x74 → ⊥) → 0 ≡ escape_code c
-        unfolding escape_code
-        code-none h = rw (ne_eqb c 0x22 a, ne_eqb c 0x5C b, ne_eqb c 0x6E d, ne_eqb c 0x74 h)
-
--- ---- lists of one or two characters noted
-module _ (b n : ℕ) (w xs : List ℕ) (room : Room b n w xs) where
-  pub noted_empty : xs ≡ [] → Codes b w (noted_all (held b n w) xs) w n
-  noted_empty e = subst (λ (l : List ℕ). Codes b w (noted_all (held b n w) l) w n) (sym e) (noted-none b w n room.low room.hints)
-
-  module _ (x : ℕ) (ys : List ℕ) (is : xs ≡ x ∷ ys) where
-    started : Noting b (noted_all (held b n w) xs) w w n ((x ∷ []) ++ ys)
-    started = subst (λ (l : List ℕ). Noting b (noted_all (held b n w) xs) w w n l) is (noting_start b w n xs room)
-
-    pub head_room : Room b n w (x ∷ [])
-    head_room = noting_room b (noted_all (held b n w) xs) w w n (x ∷ []) ys started
-
-    module _ (w₁ : List ℕ) (n₁ : ℕ) (one : Codes b w (noted (held b n w) x) w₁ n₁) where
-      behind : Noting b (noted_all (held b n w) xs) w w₁ n₁ ys
-      unfolding noted_all
-      behind = noting_on b (noted_all (held b n w) xs) w w n (x ∷ []) ys w₁ n₁ started one
-
-      pub noted-head : ys ≡ [] → Codes b w (noted_all (held b n w) xs) w₁ n₁
-      noted-head e = noting_end b (noted_all (held b n w) xs) w w₁ n₁ (subst (λ (l : List ℕ). Noting b (noted_all (held b n w) xs) w w₁ n₁ l) e behind)
-
-      module _ (y : ℕ) (two : ys ≡ y ∷ []) where
-        then : Noting b (noted_all (held b n w) xs) w w₁ n₁ ((y ∷ []) ++ [])
-        then = subst (λ (l : List ℕ). Noting b (noted_all (held b n w) xs) w w₁ n₁ l) two behind
-
-        pub second_room : Room b n₁ w₁ (y ∷ [])
-        second_room = noting_room b (noted_all (held b n w) xs) w w₁ n₁ (y ∷ []) [] then
-
-        pub noted_second : (w₂ : List ℕ) (n₂ : ℕ) → Codes b w₁ (noted (held b n₁ w₁) y) w₂ n₂ → Codes b w (noted_all (held b n w) xs) w₂ n₂
-        unfolding noted_all
-        noted_second w₂ n₂ c = noting_end b (noted_all (held b n w) xs) w w₂ n₂ (noting_on b (noted_all (held b n w) xs) w w₁ n₁ (y ∷ []) [] w₂ n₂ then c)
-
-pub escape_itself : (c v : ℕ) → v ≡ escape_code c → v ≡ 0 → escape_of c ≡ 0x5C ∷ c ∷ []
-unfolding escape_of
-escape_itself c v e h = rw (← e, eq-eqb v 0 h)
-
-pub escape-other : (c v : ℕ) → v ≡ escape_code c → (v ≡ 0 → ⊥) → escape_of c ≡ v ∷ []
-unfolding escape_of
-escape-other c v e h = rw (← e, ne_eqb v 0 h)
-
-pub spelled-escape : (e : Bool) (c : ℕ) → e ≡ true → escape_of c ≡ spelled_as e c
+pub spelled_escape : {e : Bool} (c : ℕ) {l : List ℕ} {s r : Codes} → e ≡ true → escape_of c ≡ l → Notes l s r → Notes (spelled_as e c) s r
 unfolding spelled_as
-spelled-escape e c h = rw h
+spelled_escape c h g u = rw (h, g) u
 
-pub spelled_backslash : (e : Bool) (c : ℕ) → e ≡ false → c ≡ 0x5C → spelled_as e c ≡ []
-unfolding spelled_as
-spelled_backslash e c h g = rw (h, eq-eqb c 0x5C g)
-
-pub spelled-plain : (e : Bool) (c : ℕ) → e ≡ false → (c ≡ 0x5C → ⊥) → spelled_as e c ≡ c ∷ []
+spelled-plain : (e : Bool) (c : ℕ) → e ≡ false → (c ≡ 0x5C → ⊥) → spelled_as e c ≡ c ∷ []
 unfolding spelled_as
 spelled-plain e c h g = rw (h, ne_eqb c 0x5C g)
 
-pub same_codes : (b n : ℕ) (w xs ys w' : List ℕ) (r : ℕ) → xs ≡ ys → Codes b w (noted_all (held b n w) xs) w' r → Codes b w (noted_all (held b n w) ys) w' r
-same_codes b n w xs ys w' r e c = subst (λ (l : List ℕ). Codes b w (noted_all (held b n w) l) w' r) e c
+pub spelled_itself : (e : Bool) (c : ℕ) {s r : Codes} → e ≡ false → (c ≡ 0x5C → ⊥) → Notes (c ∷ []) s r → Notes (spelled_as e c) s r
+spelled_itself e c h g u = notes_as (spelled-plain e c h g) u
 
-pub same_room : (b n : ℕ) (w xs ys : List ℕ) → ys ≡ xs → Room b n w xs → Room b n w ys
-same_room b n w xs ys e h = subst (λ (l : List ℕ). Room b n w l) (sym e) h
+pub spelled_backslash : (e : Bool) (c : ℕ) (s : Codes) → e ≡ false → c ≡ 0x5C → Notes (spelled_as e c) s s
+unfolding spelled_as
+spelled_backslash e c s h g = rw (h, eq-eqb c 0x5C g) (notes_none s)
 
 -- ---- the string: the walk has come to the place i
-module _ (t : List ℕ) (b : ℕ) (target w₀ w : List ℕ) (n i : ℕ) (e : Bool) (g : Noting b target w₀ w n (spelled e (decode (drop i t)))) (r : Perhaps (ℕ × ℕ)) (s : r ≡ decoded_at i (front (drop i t))) where
-  nothing_left : decode (drop i t) ≡ [] → Codes b w₀ target w n
+module _ (t : List ℕ) (i : ℕ) (e : Bool) (now : Codes) (all : List ℕ) (first : Codes) (g : Left (spelled e (decode (drop i t))) now all first)
+    (r : Perhaps (ℕ × ℕ)) (s : r ≡ decoded_at i (front (drop i t))) where
+  pub spell_none : r ≡ None → Notes all first now
   unfolding spelled
-  nothing_left q = noting_end b target w₀ w n (subst (λ (l : List ℕ). Noting b target w₀ w n (spelled e l)) q g)
-
-  pub spell_none : r ≡ None → Codes b w₀ target w n
-  spell_none q = nothing_left (none_decode t i r s q)
+  spell_none q = left_end (ap (spelled e) (none_decode t i r s q)) g
 
   module _ (c k : ℕ) (is : r ≡ Some (c, k)) (x : Bool) (test : x ≡ ends_at e c) where
-    seen : Noting b target w₀ w n (spelled e (c ∷ decode (drop k t)))
-    seen = subst (λ (l : List ℕ). Noting b target w₀ w n (spelled e l)) (char_decode t i r s c k is) g
-
-    pub spell_ends : x ≡ true → Codes b w₀ target w n
+    pub spell_ends : x ≡ true → Notes all first now
     unfolding spelled
-    spell_ends q = noting_end b target w₀ w n (subst (λ (l : List ℕ). Noting b target w₀ w n l) (rw (sym test ∙ q, spelled)) seen)
+    spell_ends q = left_end (ap (spelled e) (char_decode t i r s c k is) ∙ rw (sym test ∙ q, spelled)) g
 
-    module _ (on : x ≡ false) where
-      split : Noting b target w₀ w n (spelled_as e c ++ spelled (escapes_next e c) (decode (drop k t)))
-      unfolding spelled
-      split = subst (λ (l : List ℕ). Noting b target w₀ w n l) (rw (sym test ∙ on, spelled)) seen
-
-      pub spell_room : Room b n w (spelled_as e c)
-      spell_room = noting_room b target w₀ w n (spelled_as e c) (spelled (escapes_next e c) (decode (drop k t))) split
-
-      pub spell_on : (w' : List ℕ) (n' : ℕ) (e' : Bool) → Codes b w (noted_all (held b n w) (spelled_as e c)) w' n' → e' ≡ escapes_next e c → Noting b target w₀ w' n' (spelled e' (decode (drop k t)))
-      spell_on w' n' e' d q = subst (λ (z : Bool). Noting b target w₀ w' n' (spelled z (decode (drop k t)))) (sym q)
-          (noting_on b target w₀ w n (spelled_as e c) (spelled (escapes_next e c) (decode (drop k t))) w' n' split d)
+    pub spell_on : x ≡ false → {then : Codes} → Notes (spelled_as e c) now then → (e' : Bool) → e' ≡ escapes_next e c → Left (spelled e' (decode (drop k t))) then all first
+    unfolding spelled
+    spell_on q u e' f = rw f (left_on {one = spelled_as e c} (ap (spelled e) (char_decode t i r s c k is) ∙ rw (sym test ∙ q, spelled)) g u)
 
 -- ---- characters that are noted already add nothing
 module _ (c : ℕ) (high : 0x80 ≤ c) where
@@ -175,41 +86,28 @@ noted-passed : (cs xs : List ℕ) (c : ℕ) → member eqb cs c ≡ true → not
 unfolding noted_all
 noted-passed cs xs c e = ap (λ (l : List ℕ). noted_all l xs) (noted-same cs c e)
 
-pub known_not : (c : ℕ) (t : Bool) → false ≡ true → (0x80 ≤ c) × (t ≡ true)
-known_not c t e = absurd (false≢true e)
-
-pub known_seen : (c : ℕ) (r t : Bool) → 0x80 ≤ c → (r ≡ true → t ≡ true) → r ≡ true → (0x80 ≤ c) × (t ≡ true)
-known_seen c r t h f e = (h, f e)
-
 -- the same is still to be noted from the place i on as from the place a on
-abbrev pub Passed : List ℕ → List ℕ → Bool → ℕ → ℕ → Type 0
-Passed t cs e a i = (a ≤ i) × (noted_all cs (spelled e (decode (drop i t))) ≡ noted_all cs (spelled e (decode (drop a t))))
+pub record Passed (t : List ℕ) (e : Bool) (c : Codes) (a i : ℕ) : Type 0 where
+  pub on : a ≤ i
+  pub same : Sound c → noted_all (listed c) (spelled e (decode (drop i t))) ≡ noted_all (listed c) (spelled e (decode (drop a t)))
 
-pub passed_start : (t cs : List ℕ) (e : Bool) (a : ℕ) → Passed t cs e a a
-passed_start t cs e a = (omega arith, refl)
-
-pub passed-plain : (t cs : List ℕ) (e : Bool) (a i : ℕ) → e ≡ false → Passed t cs false a i → Passed t cs e a i
-passed-plain t cs e a i h p = subst (λ (z : Bool). Passed t cs z a i) (sym h) p
-
-pub passed_on : (t cs : List ℕ) (a i : ℕ) → Passed t cs false a i → (r : Perhaps (ℕ × ℕ)) → r ≡ decoded_at i (front (drop i t)) → (c k : ℕ) → r ≡ Some (c, k) → (0x80 ≤ c) × (member eqb cs c ≡ true) → Passed t cs false a k
-passed_on t cs a i p r s c k is h = (
-  omega (arith, p.0, char_lt t i r s c k is),
-  sym (ap (λ (l : List ℕ). noted_all cs (spelled false l)) (char_decode t i r s c k is) ∙ ap (noted_all cs) (spelled_high c h.0 (decode (drop k t))) ∙ noted-passed cs (spelled false (decode (drop k t))) c h.1) ∙ p.1,
-)
-
--- so the walk may go on from there
-pub noting_from : (t : List ℕ) (b : ℕ) (target w₀ w : List ℕ) (n i : ℕ) (e : Bool) → Noting b target w₀ w n (spelled e (decode (drop i t))) → (j : ℕ) → Passed t (held b n w) e i j → Noting b target w₀ w n (spelled e (decode (drop j t)))
-noting_from t b target w₀ w n i e g j p = record { whole = p.1 ∙ g.whole; kept = g.kept; low = g.low; fits = g.fits; hints = g.hints }
+pub passed_on : (t : List ℕ) (s : Codes) (a i : ℕ) → Passed t false s a i → (r : Perhaps (ℕ × ℕ)) → r ≡ decoded_at i (front (drop i t)) → (c k : ℕ) → r ≡ Some (c, k) → 0x80 ≤ c
+    → (Sound s → (c ≡ 0 → ⊥) → member eqb (listed s) c ≡ true) → Passed t false s a k
+passed_on t s a i p r e c k is high known = record {
+  on = omega (arith, p.on, char_lt t i r e c k is);
+  same = λ h.
+      sym (ap (λ (l : List ℕ). noted_all (listed s) (spelled false l)) (char_decode t i r e c k is) ∙ ap (noted_all (listed s)) (spelled_high c high (decode (drop k t)))
+      ∙ noted-passed (listed s) (spelled false (decode (drop k t))) c (known h (λ z. omega arith))) ∙ p.same h;
+}
 
 pub from_falls : (t : List ℕ) (i j : ℕ) → i ≤ j → (r : Perhaps (ℕ × ℕ)) → r ≡ decoded_at j (front (drop j t)) → (c k : ℕ) → r ≡ Some (c, k) → length t - k < length t - i
 from_falls t i j h r s c k is = omega (arith, h, char_falls t j r s c k is)
 
 -- ---- the input
-module _ (text : List ℕ) (ts : List Token) (count d : ℕ) (many : length ts ≡ count) where
-  pub input_none : count ≤ d → input_of text ts d ≡ []
-  unfolding input_of
-  input_none h = rw (many, le-ltb d count h)
+pub input_none : (text : List ℕ) (ts : List Token) (d : ℕ) (s : Codes) → length ts ≤ d → Notes (input_of text ts d) s s
+unfolding input_of
+input_none text ts d s h = rw (le-ltb d (length ts) h) (notes_none s)
 
-  pub input_string : (t : Token) (at x y : ℕ) → d < count → t ≡ peek ts (d + 1) → x ≡ t.start → y ≡ t.value → at ≡ x + y → spelled false (rest text at) ≡ input_of text ts d
-  unfolding input_of
-  input_string t at x y h e ex ey ea = rw (many, lt-ltb d count h, ← e) (ap (λ (k : ℕ). spelled false (rest text k)) (ea ∙ ap (λ (k : ℕ). k + y) ex ∙ ap (λ (k : ℕ). t.start + k) ey))
+pub input_string : (text : List ℕ) (ts : List Token) (d : ℕ) {s r : Codes} → d < length ts → (t : Token) → t ≡ peek ts (d + 1) → Notes (spelled false (rest text (t.start + t.value))) s r → Notes (input_of text ts d) s r
+unfolding input_of
+input_string text ts d h t e u = rw (lt-ltb d (length ts) h, ← e) u

@@ -1,13 +1,12 @@
 -- The characters that are read behind a string's quote are its value.
 use mathlib.Core.Path.{◌≡◌, refl, sym, ap, subst, ◌∙◌}
-use mathlib.Core.Bool.{Bool, true, false, cond}
+use mathlib.Core.Bool.{Bool, true, false}
 use mathlib.Core.List.{List, [], ◌∷◌, ◌++◌}
 use mathlib.Core.Option.{Option, none, some}
-use Prim.Native.Nat.{ℕ, suc}
-use native.Mathlib.Omega.{arith}
-use borrow.Author.Tests.{eq-eqb, eqb-true}
+use Prim.Native.Nat.{ℕ}
+use borrow.Author.Tests.{eqb-true}
 use lib.Dec.{eqb}
-use Rattle.lexer.specs.Tokens.{escape, Inner, ends, breaks, escapes, stands, inner_of, Inside, closed, unclosed, put, pass, inside}
+use Rattle.lexer.specs.Tokens.{escape, inner_of, Inside, closed, unclosed, put, pass, inside}
 use Rattle.language.proofs.Every.{by_test}
 use Rattle.alphabet.specs.Input.{ends_at, escape_code, escape_of, spelled_as, escapes_next, spelled}
 

@@ -1,7 +1,8 @@
 pub mod CodeLaws
+pub mod CodesMean
+pub mod Noting
 pub mod GlyphLaws
 pub mod InputLaws
-pub mod AlphabetLaws
-pub mod CodesMean
 pub mod InputMean
+pub mod AlphabetLaws
 pub mod SymbolWidths

@@ -1,17 +1,15 @@
 -- How many words Σ and Γ may have, from the number of tokens and of codes: what a caller needs to know that its index stays small.
-use mathlib.Core.Path.{◌≡◌, refl}
+use mathlib.Core.Path.{◌≡◌}
 use mathlib.Core.Bool.{Bool, true, false, cond}
 use mathlib.Core.List.{List, [], ◌∷◌, ◌++◌}
-use Prim.Native.Nat.{ℕ, suc, ◌+◌, ◌-◌, ◌*◌, ◌≤◌, ◌<◌}
+use Prim.Native.Nat.{ℕ, ◌+◌, ◌-◌, ◌*◌, ◌≤◌}
 use native.Mathlib.Omega.{arith}
-use lib.Dec.{eqb, ltb}
-use lib.ListN.{length, get_or, take, drop, length-append, length-take, length-drop}
+use lib.Dec.{ltb}
+use lib.ListN.{length, get_or, drop, length-append, length-take, length-drop}
 use Rattle.tokens.specs.declared.Token.{Token}
 use Rattle.parser.specs.Row.{peek}
 use Rattle.language.specs.Layout.{flat}
-use Rattle.assembler.specs.Rows.{place_of}
-use Rattle.sheet.specs.Comments.{span_words}
-use Rattle.alphabet.specs.Symbols.{symbols, line_range, symbols_in, has_blank}
+use Rattle.alphabet.specs.Symbols.{line_range, symbols_in, has_blank}
 use Rattle.alphabet.specs.Alphabets.{listed_words, inferred_words, other_words, declared_gamma, gamma_words, inferred_sigma, sigma_words}
 use Rattle.alphabet.proofs.AlphabetLaws.{flat_width, listed_width, other_width}
 

@@ -1,8 +1,7 @@
 -- Σ and Γ of a row with entries, in words of the sheet: a character and its place, 0 0 where it is inferred.
-use Rattle.std.specs.Prelude.{ℕ, ◌+◌, Bool, true, false, cond, List, [], ◌∷◌, ◌++◌, eqb, ltb, length, get_or, drop}
+use Rattle.std.specs.Prelude.{ℕ, Bool, cond, List, [], ◌∷◌, ◌++◌, eqb, ltb, length, get_or, drop}
 use Rattle.language.specs.Layout.{flat}
 use Rattle.tokens.specs.declared.Token.{Token}
-use Rattle.parser.specs.Row.{peek}
 use Rattle.assembler.specs.Rows.{place_of}
 use Rattle.assembler.specs.Entries.{entries}
 use Rattle.sheet.specs.Comments.{span_words}

@@ -2,3 +2,4 @@ pub mod Codes
 pub mod Symbols
 pub mod Input
 pub mod Alphabets
+pub mod Notes

@@ -1,12 +1,13 @@
 -- The symbols of a row with entries: the blank, Σ and Γ.
-use Rattle.std.specs.Prelude.{ℕ, ◌+◌, ◌-◌, Bool, true, false, cond, not, ◌||◌, List, [], ◌∷◌, ◌++◌, map, eqb, ltb, length, get_or, take, drop}
+use Rattle.std.specs.Prelude.{ℕ, ◌+◌, ◌-◌, Bool, true, false, cond, not, ◌||◌, List, [], ◌∷◌, ◌++◌, map, eqb, ltb, length, take, drop}
 use Rattle.tokens.specs.declared.Token.{Token}
 use Rattle.tokens.specs.View.{token_in}
 use Rattle.parser.specs.Row.{peek}
 use Rattle.parser.specs.Views.{is_symbol}
-use Rattle.assembler.specs.Entries.{Entry, entries}
+use Rattle.assembler.specs.Entries.{Entry}
 use Rattle.sheet.specs.Rules.{resolve}
 use Rattle.alphabet.specs.declared.glyphs.Walk.{Walk}
+use Rattle.alphabet.specs.declared.glyphs.Walk.TheVariants.{Outside, Open, Behind}
 
 -- the tokens from the index i to before j
 abbrev pub range : List Token → ℕ → ℕ → List Token
@@ -61,15 +62,15 @@ has_blank b (t ∷ ts) = elim (is_blank b t) [ true ↦ true | false ↦ has_bla
 -- whether a symbol is the first of its read set, or stands alone
 unfoldable pub takes : Walk → Token → Bool
 unfolding is_symbol
-takes s t = cond s.skip false (is_symbol t)
+takes s t = elim s [ Outside ↦ is_symbol t | Open ↦ is_symbol t | Behind ↦ false ]
 
 -- behind a token of the read sets: `{` opens a set, `}` closes it, and the first symbol of an open set has the others skipped
 unfoldable pub walked : Walk → Token → Walk
 unfolding is_symbol
 walked s t =
-    cond (eqb t.kind 6) (record { inside = true; skip = false })
-    (cond (eqb t.kind 7) (record { inside = false; skip = false })
-    (cond (is_symbol t) (record { inside = s.inside; skip = s.inside }) s))
+    cond (eqb t.kind 6) Open
+    (cond (eqb t.kind 7) Outside
+    (elim s [ Outside ↦ Outside | Open ↦ cond (is_symbol t) Behind Open | Behind ↦ Behind ]))
 
 -- the first member of each read set
 unfoldable pub firsts : Walk → List Token → List Token
@@ -91,7 +92,7 @@ further (t ∷ ts) = further ts ++ cond (eqb t.kind 6) (others false ts) []
 
 -- no set is open
 abbrev pub outside : Walk
-outside = record { inside = false; skip = false }
+outside = Outside
 
 -- the first choice of each tape, what is written but `*`, the further choices: i to j is read, w to d written
 abbrev pub part_symbols : List Token → ℕ → ℕ → ℕ → ℕ → List Token

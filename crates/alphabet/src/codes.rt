@@ -1,138 +1,138 @@
 // Characters noted in a row of words, each once.
-ghost use Rattle.std.specs.Prelude.{◌≡◌, [], ◌∷◌, true, false, ◌||◌, ◌+◌, ◌-◌, ◌≤◌, ◌<◌, eqb, length};
+ghost use Rattle.std.specs.Prelude.{◌≡◌, true, [], ◌∷◌, ◌-◌, ◌<◌, eqb, length, None, IfSome, IsTrue};
 ghost use Rattle.language.specs.Infer.{member};
-ghost use Rattle.alphabet.specs.Codes.{noted, held, hints, slot, hint_of, Looked, Hinted, Codes, Room, Covered};
-ghost use Rattle.infer.specs.Page.{Kept};
+ghost use Rattle.alphabet.specs.Codes.{hints, slot, Looked};
 
-// How many hints there are at most: the last words of work, which say which characters are noted, so that the codes need not be looked through.
+// How many hints there are at most.
 const MOST: usize = 2048;
 
-// How many hints there are where the codes stand from the index `base` on.
-fn hints(base: usize) -> usize
-    ensures { result ≡ hints base }
+// How many there are for a text of `size` bytes: a short one has few, which are soon cleared.
+#[tactic(auto, unfolding(crate::specs::Codes::hints))]
+fn hints(size: usize) -> usize
+    ensures { result ≡ hints size }
 {
-    if base / 8 < MOST {
-        return base / 8;
-    }
-    MOST
+    (size / 2).min(MOST)
 }
 
 // How far from the last word a character's hint stands: each admitted character has a place of its own.
+#[tactic(auto, unfolding(crate::specs::Codes::slot))]
 fn slot(c: u32) -> usize
-    ensures { (result ≡ slot c) × (result < 2048) }
+    ensures value { result ≡ slot c }
+    ensures low { result < 2048 }
 {
-    let x = crate::index(c);
+    let x = c as usize;
     (x + x / 8192 * 768) % MOST
 }
 
-// Clears the hints, before anything is noted.
-pub fn clear_hints(work: &mut [u32], base: usize)
-    requires { base ≤ length work.old }
-    ensures { Kept base work.old work.new × Hinted base 0 work.new }
-{
-    let t = hints(base);
-    if work.len() - base < t {
-        return;
-    }
-    let a = work.len() - t;
-    diag::clear_from(work, a);
+// The characters that are noted: the first words of the row. Its last words are their hints, which say which ones they are, so that they need not be
+// looked through. Where there is no room for one more, none is noted.
+#[derive(Drop)]
+pub struct Codes<'a> {
+    row: &'a mut [u32],
+    hints: usize,
+    count: usize,
 }
 
-// Whether a character's hint shows that it is noted; false says nothing.
-pub fn is_seen(work: &[u32], base: usize, n: usize, c: u32) -> bool
-    requires { (base + n ≤ length work.now) × Hinted base n work.now × (c ≡ 0 → ⊥) }
-    ensures { result ≡ true → member eqb (held base n work.now) c ≡ true }
-{
-    let s = slot(c);
-    let t = hints(base);
-    if t <= s {
-        return false;
-    }
-    if work.len() - base - n <= t {
-        return false;
-    }
-    let i = work.len() - 1 - s;
-    work[i] == c
-}
+impl<'a> Codes<'a> {
+    ghost use Rattle.alphabet.specs.Notes.{listed, lent_row, Sound, Notes};
 
-// Whether c was found, or is x.
-fn meets(found: bool, x: u32, c: u32) -> bool
-    ensures { result ≡ (eqb x c || found) }
-{
-    if x == c {
-        return true;
-    }
-    found
-}
-
-// Whether c is among the n codes from the index `base` on.
-fn contains(work: &[u32], base: usize, n: usize, c: u32) -> bool
-    requires { base + n ≤ length work.now }
-    ensures { result ≡ member eqb (held base n work.now) c }
-{
-    let mut found = false;
-    let mut i = 0;
-    while i < n {
-        found = meets(found, work[base + i], c);
-        i += 1;
-    }
-    found
-}
-
-// One code more whose hint does not tell whether it is there, and is left as it is.
-fn note_unseen(work: &mut [u32], base: usize, n: usize, c: u32) -> usize
-    requires { Room base n work.old (c ∷ []) × Covered base n work.old c }
-    ensures { Codes base work.old (noted (held base n work.old) c) work.new result }
-{
-    if contains(work, base, n, c) {
-        return n;
-    }
-    work[base + n] = c;
-    n + 1
-}
-
-// One code more whose hint, at the index i, is 0.
-fn note_first(work: &mut [u32], base: usize, n: usize, i: usize, c: u32) -> usize
-    requires { Room base n work.old (c ∷ []) × Looked base n work.old c × (i ≡ length work.old - 1 - slot c) × (hint_of work.old c ≡ 0) }
-    ensures { Codes base work.old (noted (held base n work.old) c) work.new result }
-{
-    if c == 0 {
-        return note_unseen(work, base, n, c);
-    }
-    work[i] = c;
-    work[base + n] = c;
-    n + 1
-}
-
-// One code more whose hint, at the index i, does not show it.
-fn note_hinted(work: &mut [u32], base: usize, n: usize, i: usize, c: u32) -> usize
-    requires { Room base n work.old (c ∷ []) × Looked base n work.old c × (i ≡ length work.old - 1 - slot c) }
-    ensures { Codes base work.old (noted (held base n work.old) c) work.new result }
-{
-    if work[i] == 0 {
-        return note_first(work, base, n, i, c);
-    }
-    note_unseen(work, base, n, c)
-}
-
-// One code more, if it is not there yet; answers how many there are.
-pub fn note(work: &mut [u32], base: usize, n: usize, c: u32) -> usize
-    requires { Room base n work.old (c ∷ []) }
-    ensures { Codes base work.old (noted (held base n work.old) c) work.new result }
-{
-    let s = slot(c);
-    let t = hints(base);
-    if t <= s {
-        return note_unseen(work, base, n, c);
-    }
-    if work.len() - base - n <= t {
-        return note_unseen(work, base, n, c);
-    }
-    let i = work.len() - 1 - s;
-    if work[i] == c {
-        if c != 0 {
-            return n;
+    // No character of a text of `size` bytes: the hints are cleared.
+    pub fn new(row: &'a mut [u32], size: usize) -> Codes<'a>
+        ensures empty { listed result ≡ [] }
+        ensures sound { Sound result }
+        ensures many { result.hints ≡ hints size }
+        ensures size { length result.row.now ≡ length row.old }
+        ensures same_row { lent_row result ≡ row.entry.ghost_name }
+    {
+        let hints = hints(size);
+        let start = row.len().saturating_sub(hints);
+        row[start..].fill(0);
+        Codes {
+            row,
+            hints,
+            count: 0,
         }
     }
-    note_hinted(work, base, n, i, c)
+
+    // The characters that were noted before in a row for a text of `size` bytes, of which there are `count`. They and their hints are as they were left, so
+    // that what was true of them is true still.
+    pub fn behind(row: &'a mut [u32], size: usize, count: usize) -> Codes<'a>
+        ensures holds { (result.row.now ≡ row.old) × (result.count ≡ count) }
+        ensures many { result.hints ≡ hints size }
+        ensures same_row { lent_row result ≡ row.entry.ghost_name }
+    {
+        Codes {
+            row,
+            hints: hints(size),
+            count,
+        }
+    }
+
+    // How many are noted.
+    pub fn count(&self) -> usize
+        ensures { result ≡ self.now.count }
+    {
+        self.count
+    }
+
+    // Where a character's hint stands, if it is looked at: there is one, and room for a character more in front of all hints.
+    fn hint(&self, c: u32) -> Option<usize>
+        ensures some { IfSome result (λ i. Looked self.now.hints self.now.count self.now.row.now c
+            × (i ≡ length self.now.row.now - 1 - slot c)) }
+        ensures none { result ≡ None → Looked self.now.hints self.now.count self.now.row.now c → ⊥ }
+    {
+        let s = slot(c);
+        if self.hints <= s || self.row.len().saturating_sub(self.count) <= self.hints {
+            return None;
+        }
+        Some(self.row.len() - 1 - s)
+    }
+
+    // Whether a character's hint shows that it is noted; false says nothing.
+    pub fn is_seen(&self, c: u32) -> bool
+        ensures { IsTrue result → Sound self.now → (c ≡ 0 → ⊥) → member eqb (listed self.now) c ≡ true }
+    {
+        match self.hint(c) {
+            Some(i) => self.row[i] == c,
+            None => false,
+        }
+    }
+
+    // Whether a character is noted, as its hint says: one that is 0 says that it is not. If it is another's, the character is looked for.
+    fn contains(&self, c: u32, hint: Option<usize>) -> bool
+        requires { IfSome hint (λ i. Looked self.now.hints self.now.count self.now.row.now c
+            × (i ≡ length self.now.row.now - 1 - slot c)) }
+        ensures { Sound self.now → result ≡ member eqb (listed self.now) c }
+    {
+        if c != 0 {
+            if let Some(i) = hint {
+                let x = self.row[i];
+                if x == c || x == 0 {
+                    return x == c;
+                }
+            }
+        }
+        let n = self.count.min(self.row.len());
+        self.row[..n].contains(&c)
+    }
+
+    // One character more, if it is not there yet. A hint that is another's is left as it is.
+    pub fn note(&mut self, c: u32)
+        ensures { Notes (c ∷ []) self.old self.new }
+    {
+        if self.row.len() <= self.count {
+            return;
+        }
+        let hint = self.hint(c);
+        if self.contains(c, hint) {
+            return;
+        }
+        if let Some(i) = hint {
+            if self.row[i] == 0 {
+                self.row[i] = c;
+            }
+        }
+        self.row[self.count] = c;
+        self.count += 1;
+    }
 }

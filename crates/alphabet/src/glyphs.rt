@@ -1,86 +1,53 @@
 // The characters that rules use, in the order of first use.
-ghost use Rattle.std.specs.Prelude.{◌≡◌, true, false, cond, [], ◌∷◌, ◌++◌, ◌+◌, ◌*◌, ◌≤◌, ◌<◌, ◌^◌, length, eqb};
+ghost use Rattle.std.specs.Prelude.{◌≡◌, false, ◌∷◌, [], ◌++◌, ◌+◌, ◌<◌, ◌^◌, cond, eqb, length, IsTrue};
 ghost use Rattle.parser.specs.Row.{peek};
-ghost use Rattle.parser.specs.Views.{is_symbol};
-ghost use Rattle.assembler.specs.Rows.{rows};
+ghost use Rattle.tokens.specs.Listed.{tokens_of};
 ghost use Rattle.assembler.specs.Entries.{entry_at, entries};
-ghost use Rattle.alphabet.specs.Codes.{noted_all, held, Codes, Room};
-ghost use Rattle.alphabet.specs.Symbols.{range, symbols, is_new, takes, walked, firsts, outside, others, further, part_symbols, rule_symbols, rules_symbols, codes_of};
+ghost use Rattle.alphabet.specs.Symbols.{range, symbols, is_new, takes, walked, firsts, outside, others, further, part_symbols, rule_symbols, rules_symbols};
 
-use crate::codes;
-use assembler::entry;
+use crate::codes::Codes;
+use assembler::{entry, seek};
 use lexer::kind;
-use parser::view;
+use parser::{ItemKind, view};
 use sheet::rules;
-use tokens::Token;
+use tokens::{Token, Tokens};
 
-// The number of a rule's item.
-const TRANSITION: u32 = 11;
-
-// Where a walk over read sets stands: whether a set is open, and whether its symbols are skipped.
-#[derive(Clone, Copy)]
-pub struct Walk {
-    pub inside: bool,
-    pub skip: bool,
+// Where a walk over read sets stands: in no set, in one of whose symbols none was met, or behind its first symbol, where the others are skipped.
+#[derive(Clone, Copy, Debug, PartialEq, Eq)]
+pub enum Walk {
+    Outside,
+    Open,
+    Behind,
 }
 
-// Whether a symbol is the first of its set, or stands alone.
-fn takes(s: Walk, t: Token) -> bool
-    ensures { result ≡ takes s t }
-{
-    if s.skip {
-        return false;
+impl Walk {
+    // Whether a symbol is the first of its set, or stands alone.
+    #[tactic(auto, unfolding(crate::specs::Symbols::takes))]
+    fn takes(self, t: Token) -> bool
+        ensures { result ≡ takes self t }
+    {
+        match self {
+            Walk::Outside | Walk::Open => view::is_symbol(t),
+            Walk::Behind => false,
+        }
     }
-    view::is_symbol(t)
-}
 
-// Behind a token of the read sets.
-fn walked(s: Walk, t: Token) -> Walk
-    ensures { result ≡ walked s t }
-{
-    if t.kind == kind::L_BRACE {
-        return Walk {
-            inside: true,
-            skip: false,
-        };
+    // Behind a token of the read sets.
+    #[tactic(auto, unfolding(crate::specs::Symbols::walked))]
+    fn walked(self, t: Token) -> Self
+        ensures { result ≡ walked self t }
+    {
+        match (t.kind, self) {
+            (kind::L_BRACE, _) => Walk::Open,
+            (kind::R_BRACE, _) => Walk::Outside,
+            (_, Walk::Open) if view::is_symbol(t) => Walk::Behind,
+            _ => self,
+        }
     }
-    if t.kind == kind::R_BRACE {
-        return Walk {
-            inside: false,
-            skip: false,
-        };
-    }
-    if view::is_symbol(t) {
-        return Walk {
-            inside: s.inside,
-            skip: s.inside,
-        };
-    }
-    s
-}
-
-// Whether a symbol was met in the open set.
-fn met(seen: bool, t: Token) -> bool
-    ensures { result ≡ cond seen true (is_symbol t) }
-{
-    if seen {
-        return true;
-    }
-    view::is_symbol(t)
-}
-
-// Notes a token's character, if it is a symbol.
-fn note_symbol(work: &mut [u32], base: usize, n: usize, t: Token, blank: u32) -> usize
-    requires { Room base n work.old (codes_of blank (symbols (t ∷ []))) }
-    ensures { Codes base work.old (noted_all (held base n work.old) (codes_of blank (symbols (t ∷ [])))) work.new result }
-{
-    if view::is_symbol(t) {
-        return codes::note(work, base, n, rules::resolve(blank, t));
-    }
-    n
 }
 
 // Whether a token is a symbol that differs in kind or value from the last one that was noted.
+#[tactic(auto, unfolding(crate::specs::Symbols::is_new))]
 fn is_new(last: Token, t: Token) -> bool
     ensures { result ≡ is_new last t }
 {
@@ -90,276 +57,169 @@ fn is_new(last: Token, t: Token) -> bool
     false
 }
 
-// The symbols from an index to before another. One like the last that was noted is passed over; the line feed in front of them is like none.
-pub(crate) fn note_range(
-    work: &mut [u32],
-    count: usize,
-    base: usize,
-    n: usize,
-    from: usize,
-    to: usize,
-    blank: u32,
-) -> usize
-    requires { (4 * count ≤ base) × (Room base n work.old (codes_of blank (symbols (range (rows count work.old) from to)))) }
-    ensures { Codes base work.old (noted_all (held base n work.old) (codes_of blank (symbols (range (rows count work.old) from to)))) work.new result }
-{
-    let mut last = Token {
-        kind: kind::NEWLINE,
-        start: 0,
-        end: 0,
-        value: 0,
-    };
-    let mut m = n;
-    let mut i = from;
-    while i < to {
-        let t = entry::token_at(work, count, i);
-        if is_new(last, t) {
-            m = codes::note(work, base, m, rules::resolve(blank, t));
-            last = t;
-        }
-        i += 1;
-    }
-    m
-}
-
-// A token's character, if it is the first of its set.
-fn note_first(work: &mut [u32], base: usize, n: usize, s: Walk, t: Token, blank: u32) -> usize
-    requires { Room base n work.old (codes_of blank (cond (takes s t) (t ∷ []) [])) }
-    ensures { Codes base work.old (noted_all (held base n work.old) (codes_of blank (cond (takes s t) (t ∷ []) []))) work.new result }
-{
-    if takes(s, t) {
-        return codes::note(work, base, n, rules::resolve(blank, t));
-    }
-    n
-}
-
-// The first members of the read sets from an index to before another.
-fn note_firsts(
-    work: &mut [u32],
-    count: usize,
-    base: usize,
-    n: usize,
-    from: usize,
-    to: usize,
-    blank: u32,
-) -> usize
-    requires { (4 * count ≤ base) × (Room base n work.old (codes_of blank (firsts outside (range (rows count work.old) from to)))) }
-    ensures { Codes base work.old (noted_all (held base n work.old) (codes_of blank (firsts outside (range (rows count work.old) from to)))) work.new result }
-{
-    let mut s = Walk {
-        inside: false,
-        skip: false,
-    };
-    let mut m = n;
-    let mut i = from;
-    while i < to {
-        let t = entry::token_at(work, count, i);
-        m = note_first(work, base, m, s, t, blank);
-        s = walked(s, t);
-        i += 1;
-    }
-    m
-}
-
-// A token's character, if it is a further member of its set.
-fn note_other(work: &mut [u32], base: usize, n: usize, seen: bool, t: Token, blank: u32) -> usize
-    requires { Room base n work.old (codes_of blank (cond seen (symbols (t ∷ [])) [])) }
-    ensures { Codes base work.old (noted_all (held base n work.old) (codes_of blank (cond seen (symbols (t ∷ [])) []))) work.new result }
-{
-    if seen {
-        return note_symbol(work, base, n, t, blank);
-    }
-    n
-}
-
-// The further members of the set that is open at an index.
-fn note_others(
-    work: &mut [u32],
-    count: usize,
-    base: usize,
-    n: usize,
-    from: usize,
-    to: usize,
-    blank: u32,
-) -> usize
-    requires { (4 * count ≤ base) × (Room base n work.old (codes_of blank (others false (range (rows count work.old) from to)))) }
-    ensures { Codes base work.old (noted_all (held base n work.old) (codes_of blank (others false (range (rows count work.old) from to)))) work.new result }
-{
-    let mut seen = false;
-    let mut m = n;
-    let mut i = from;
-    while i < to {
-        let t = entry::token_at(work, count, i);
-        if t.kind == kind::R_BRACE {
-            return m;
-        }
-        m = note_other(work, base, m, seen, t, blank);
-        seen = met(seen, t);
-        i += 1;
-    }
-    m
-}
-
-// The further members of the set that the token t in front of an index opens, if it does.
-fn note_set(
-    work: &mut [u32],
-    count: usize,
-    base: usize,
-    n: usize,
-    t: Token,
-    from: usize,
-    to: usize,
-    blank: u32,
-) -> usize
-    requires { (4 * count ≤ base) × (Room base n work.old (codes_of blank (cond (eqb t.kind 6) (others false (range (rows count work.old) from to)) []))) }
-    ensures { Codes base work.old (noted_all (held base n work.old) (codes_of blank (cond (eqb t.kind 6) (others false (range (rows count work.old) from to)) []))) work.new result }
-{
-    if t.kind == kind::L_BRACE {
-        return note_others(work, count, base, n, from, to, blank);
-    }
-    n
-}
-
-// The further members of all read sets from an index to before another, from the last set to the first.
-fn note_further(
-    work: &mut [u32],
-    count: usize,
-    base: usize,
-    n: usize,
-    from: usize,
-    to: usize,
-    blank: u32,
-) -> usize
-    requires { (4 * count ≤ base) × (Room base n work.old (codes_of blank (further (range (rows count work.old) from to)))) }
-    ensures { Codes base work.old (noted_all (held base n work.old) (codes_of blank (further (range (rows count work.old) from to)))) work.new result }
-{
-    let mut m = n;
-    let mut i = to;
-    while from < i {
-        i -= 1;
-        let t = entry::token_at(work, count, i);
-        m = note_set(work, count, base, m, t, i + 1, to, blank);
-    }
-    m
-}
-
-// The symbols of what is read, from an index to before another, and of what is written, from w to before d. Without a set each symbol that is read is the
-// first choice of its tape.
-fn note_tapes(
-    work: &mut [u32],
-    count: usize,
-    base: usize,
-    n: usize,
-    from: usize,
-    to: usize,
-    w: usize,
-    d: usize,
-    blank: u32,
-) -> usize
-    requires { (4 * count ≤ base) × (Room base n work.old (codes_of blank (part_symbols (rows count work.old) from to w d))) }
-    ensures { Codes base work.old (noted_all (held base n work.old) (codes_of blank (part_symbols (rows count work.old) from to w d))) work.new result }
-{
-    if entry::has_kind(work, count, from, to, kind::L_BRACE) {
-        let i = note_firsts(work, count, base, n, from, to, blank);
-        let j = note_range(work, count, base, i, w, d, blank);
-        return note_further(work, count, base, j, from, to, blank);
-    }
-    let i = note_range(work, count, base, n, from, to, blank);
-    note_range(work, count, base, i, w, d, blank)
-}
-
 // Whether a token of the kind k stands at an index.
-fn is_at(work: &[u32], count: usize, i: usize, k: u32) -> bool
-    requires { 4 * count ≤ length work.now }
-    ensures { result ≡ eqb (peek (rows count work.now) i).kind k }
+fn is_at(tokens: &Tokens, i: usize, k: u32) -> bool
+    ensures { result ≡ eqb (peek (tokens_of tokens.now) i).kind k }
 {
-    entry::token_at(work, count, i).kind == k
+    tokens.at(i).kind == k
 }
 
-// Whether what stands from an index to before another and from w to before d are one entry that is read, with `) = (` behind it, and one that is
-// written, with a comma behind it.
-fn is_single(work: &[u32], count: usize, from: usize, to: usize, w: usize, d: usize) -> bool
-    requires { (4 * count ≤ length work.now) × (from + 4 < 2 ^ 64) × (w + 2 < 2 ^ 64) }
-    ensures { result ≡ true → part_symbols (rows count work.now) from to w d ≡ symbols (peek (rows count work.now) from ∷ []) ++ symbols (peek (rows count work.now) w ∷ []) }
-{
-    if to != from + 4 {
-        return false;
-    }
-    if d != w + 2 {
-        return false;
-    }
-    let x = is_at(work, count, from + 1, kind::R_PAREN) & is_at(work, count, from + 2, kind::EQ);
-    let y = is_at(work, count, from + 3, kind::L_PAREN) & is_at(work, count, w + 1, kind::COMMA);
-    x & y
+// Where the parts of a rule stand: what is read from an index to before another, and what is written up to the directions.
+#[derive(Clone, Copy)]
+pub struct Parts {
+    pub from: usize,
+    pub to: usize,
+    pub write: usize,
+    pub dir: usize,
+    pub ghost small: { (from + 4 < 2 ^ 64) × (write + 2 < 2 ^ 64) },
 }
 
-// The symbols of what is read at an index and of what is written at another, one of each.
-fn note_single(
-    work: &mut [u32],
-    count: usize,
-    base: usize,
-    n: usize,
-    from: usize,
-    w: usize,
-    blank: u32,
-) -> usize
-    requires { (4 * count ≤ base) × (Room base n work.old (codes_of blank (symbols (peek (rows count work.old) from ∷ []) ++ symbols (peek (rows count work.old) w ∷ [])))) }
-    ensures { Codes base work.old (noted_all (held base n work.old) (codes_of blank (symbols (peek (rows count work.old) from ∷ []) ++ symbols (peek (rows count work.old) w ∷ [])))) work.new result }
-{
-    let t = entry::token_at(work, count, from);
-    let u = entry::token_at(work, count, w);
-    let m = note_symbol(work, base, n, t, blank);
-    note_symbol(work, base, m, u, blank)
+// The tokens of a text, and the character that its blanks stand for.
+// A range stays two indices, since one value would be taken apart in each function.
+// The codes are no field: each contract would have to say then that the tokens stay.
+#[derive(Clone, Copy)]
+pub struct Symbols<'a> {
+    pub tokens: Tokens<'a>,
+    pub blank: u32,
+    pub ghost few: { tokens.count < 2 ^ 62 },
 }
 
-// The symbols of what is read, from an index to before another, and of what is written, from w to before d. Most rules have one of each.
-fn note_parts(
-    work: &mut [u32],
-    count: usize,
-    base: usize,
-    n: usize,
-    from: usize,
-    to: usize,
-    w: usize,
-    d: usize,
-    blank: u32,
-) -> usize
-    requires { (4 * count ≤ base) × (from + 4 < 2 ^ 64) × (w + 2 < 2 ^ 64) × (Room base n work.old (codes_of blank (part_symbols (rows count work.old) from to w d))) }
-    ensures { Codes base work.old (noted_all (held base n work.old) (codes_of blank (part_symbols (rows count work.old) from to w d))) work.new result }
-{
-    if is_single(work, count, from, to, w, d) {
-        return note_single(work, count, base, n, from, w, blank);
-    }
-    note_tapes(work, count, base, n, from, to, w, d, blank)
-}
+impl<'a> Symbols<'a> {
+    ghost use Rattle.alphabet.specs.Notes.{row_of, Uses};
 
-// The symbols of the line at an index, if it is a rule: the first choice of each tape, what is written, the further choices.
-fn note_rule(work: &mut [u32], count: usize, base: usize, n: usize, e: usize, blank: u32) -> usize
-    requires { (4 * count ≤ base) × (e < count) × (Room base n work.old (codes_of blank (rule_symbols (rows count work.old) (entry_at (rows count work.old) e)))) }
-    ensures { Codes base work.old (noted_all (held base n work.old) (codes_of blank (rule_symbols (rows count work.old) (entry_at (rows count work.old) e)))) work.new result }
-{
-    let t = entry::token_at(work, count, e);
-    if t.kind != entry::ITEM + TRANSITION {
-        return n;
+    // Notes a token's character, if the token is one that counts.
+    fn note_if(&self, counts: bool, t: Token, codes: &mut Codes)
+        ensures { Uses self.now.blank (cond counts (t ∷ []) []) codes.old codes.new }
+    {
+        if counts {
+            codes.note(rules::resolve(self.blank, t));
+        }
     }
-    let q = entry::token_at(work, count, e + 3);
-    let to = entry::wide(q.start);
-    let w = entry::wide(q.end);
-    let d = entry::wide(q.value);
-    note_parts(work, count, base, n, e + 4, to, w, d, blank)
-}
 
-// The symbols of all rules.
-pub fn note_rules(work: &mut [u32], count: usize, base: usize, n: usize, blank: u32) -> usize
-    requires { (4 * count ≤ base) × (Room base n work.old (codes_of blank (rules_symbols (rows count work.old) (entries (rows count work.old))))) }
-    ensures { Codes base work.old (noted_all (held base n work.old) (codes_of blank (rules_symbols (rows count work.old) (entries (rows count work.old))))) work.new result }
-{
-    let mut m = n;
-    let mut e = 0;
-    while e < count {
-        let t = entry::token_at(work, count, e);
-        m = note_rule(work, count, base, m, e, blank);
-        e = entry::next_line(t, e);
+    // The symbols from an index to before another. One like the last that was noted is passed over; the line feed in front of them is like none.
+    pub(crate) fn note_range(&self, from: usize, to: usize, codes: &mut Codes)
+        ensures { Uses self.now.blank (symbols (range (row_of self.now) from to)) codes.old codes.new }
+    {
+        let mut last = Token {
+            kind: kind::NEWLINE,
+            start: 0,
+            end: 0,
+            value: 0,
+        };
+        for i in from..to {
+            let t = self.tokens.at(i);
+            if is_new(last, t) {
+                codes.note(rules::resolve(self.blank, t));
+                last = t;
+            }
+        }
     }
-    m
+
+    // The first members of the read sets from an index to before another.
+    fn note_firsts(&self, from: usize, to: usize, codes: &mut Codes)
+        ensures { Uses self.now.blank (firsts outside (range (row_of self.now) from to)) codes.old codes.new }
+    {
+        let mut s = Walk::Outside;
+        for i in from..to {
+            let t = self.tokens.at(i);
+            self.note_if(s.takes(t), t, codes);
+            s = s.walked(t);
+        }
+    }
+
+    // The further members of the set that is open at an index.
+    fn note_others(&self, from: usize, to: usize, codes: &mut Codes)
+        ensures { Uses self.now.blank (others false (range (row_of self.now) from to)) codes.old codes.new }
+    {
+        let mut seen = false;
+        for i in from..to {
+            let t = self.tokens.at(i);
+            if t.kind == kind::R_BRACE {
+                return;
+            }
+            let symbol = view::is_symbol(t);
+            self.note_if(seen & symbol, t, codes);
+            seen = seen | symbol;
+        }
+    }
+
+    // The further members of all read sets from an index to before another, from the last set to the first.
+    fn note_further(&self, from: usize, to: usize, codes: &mut Codes)
+        ensures { Uses self.now.blank (further (range (row_of self.now) from to)) codes.old codes.new }
+    {
+        for i in (from..to).rev() {
+            if self.tokens.at(i).kind == kind::L_BRACE {
+                self.note_others(i + 1, to, codes);
+            }
+        }
+    }
+
+    // The symbols of what is read and of what is written. Without a set each symbol that is read is the first choice of its tape.
+    fn note_tapes(&self, p: Parts, codes: &mut Codes)
+        ensures { Uses self.now.blank (part_symbols (row_of self.now) p.from p.to p.write p.dir) codes.old codes.new }
+    {
+        if seek::has_kind(&self.tokens, p.from, p.to, kind::L_BRACE) {
+            self.note_firsts(p.from, p.to, codes);
+            self.note_range(p.write, p.dir, codes);
+            self.note_further(p.from, p.to, codes);
+        } else {
+            self.note_range(p.from, p.to, codes);
+            self.note_range(p.write, p.dir, codes);
+        }
+    }
+
+    // Whether there is one entry that is read, with `) = (` behind it, and one that is written, with a comma behind it.
+    fn is_single(&self, p: Parts) -> bool
+        ensures { IsTrue result → part_symbols (row_of self.now) p.from p.to p.write p.dir
+            ≡ symbols (peek (row_of self.now) p.from ∷ []) ++ symbols (peek (row_of self.now) p.write ∷ []) }
+    {
+        if p.to != p.from + 4 || p.dir != p.write + 2 {
+            return false;
+        }
+        let tokens = &self.tokens;
+        let x = is_at(tokens, p.from + 1, kind::R_PAREN) & is_at(tokens, p.from + 2, kind::EQ);
+        let y = is_at(tokens, p.from + 3, kind::L_PAREN) & is_at(tokens, p.write + 1, kind::COMMA);
+        x & y
+    }
+
+    // The symbols of what is read and of what is written. Most rules have one of each.
+    fn note_parts(&self, p: Parts, codes: &mut Codes)
+        ensures { Uses self.now.blank (part_symbols (row_of self.now) p.from p.to p.write p.dir) codes.old codes.new }
+    {
+        if !self.is_single(p) {
+            return self.note_tapes(p, codes);
+        }
+        let (t, u) = (self.tokens.at(p.from), self.tokens.at(p.write));
+        self.note_if(view::is_symbol(t), t, codes);
+        self.note_if(view::is_symbol(u), u, codes);
+    }
+
+    // The symbols of the line at an index, if it is a rule: the first choice of each tape, what is written, the further choices.
+    fn note_rule(&self, e: usize, codes: &mut Codes)
+        requires { e < length (row_of self.now) }
+        ensures { Uses self.now.blank (rule_symbols (row_of self.now) (entry_at (row_of self.now) e)) codes.old codes.new }
+    {
+        let t = self.tokens.at(e);
+        if t.kind == entry::ITEM + ItemKind::Transition as u32 {
+            let q = self.tokens.at(e + 3);
+            let p = Parts {
+                from: e + 4,
+                to: q.start as usize,
+                write: q.end as usize,
+                dir: q.value as usize,
+            };
+            self.note_parts(p, codes);
+        }
+    }
+
+    // The symbols of all rules. A line's first token says where the next line begins, so that no iterator gives the lines.
+    pub fn note_rules(&self, codes: &mut Codes)
+        ensures { Uses self.now.blank (rules_symbols (row_of self.now) (entries (row_of self.now))) codes.old codes.new }
+    {
+        let mut e = 0;
+        while e < self.tokens.len() {
+            self.note_rule(e, codes);
+            e = entry::next_line(self.tokens.at(e), e);
+        }
+    }
 }

@@ -11,7 +11,7 @@ use machine::{Decoder, Head};
 
 // The number that says that diagnostics are counted.
 pub const DIAGNOSTICS: u32 = 0xffff_ffff;
-// Words of an answer, and of the head in it.
+// Words of an answer, and of the head in it: sizes, and no kinds.
 pub const ANSWER_WORDS: usize = 36;
 
 pub const HEAD_WORDS: usize = 33;
@@ -31,23 +31,16 @@ fn decoder_words(d: Decoder) -> [u32; 2]
 fn head_words(head: Head) -> [u32; HEAD_WORDS]
     ensures { result ≡ head_words (head_in head) }
 {
-    let Head {
-        name,
-        input,
-        declared,
-        start,
-        map,
-        counts,
-        ..
-    } = head;
+    let Head { declared, map, .. } = head;
+    let counts = head.counts;
     let [tag, value] = decoder_words(head.output);
     [
         tag,
         value,
-        name.start,
-        name.end,
-        input.start,
-        input.end,
+        head.name.start,
+        head.name.end,
+        head.input.start,
+        head.input.end,
         u32::from(head.kind),
         u32::from(head.tapes),
         head.blank,
@@ -56,8 +49,8 @@ fn head_words(head: Head) -> [u32; HEAD_WORDS]
         u32::from(declared.tape_alphabet),
         u32::from(declared.start),
         u32::from(declared.blank),
-        start.start,
-        start.end,
+        head.start.start,
+        head.start.end,
         map.kind.start,
         map.kind.end,
         map.input.start,
@@ -78,7 +71,7 @@ fn head_words(head: Head) -> [u32; HEAD_WORDS]
     ]
 }
 
-// The number of an answer.
+// The number of an answer: the first column of paper 01's table, which no derive gives, since the cases stand in two enums.
 pub fn answer_number(answer: Result<Answer, Refusal>) -> u32
     ensures { result ≡ reply_number (reply_in answer) }
 {
@@ -89,7 +82,7 @@ pub fn answer_number(answer: Result<Answer, Refusal>) -> u32
     }
 }
 
-// And its value.
+// And its value: the second column of that table.
 pub fn answer_value(answer: Result<Answer, Refusal>) -> u64
     ensures { result ≡ reply_value (reply_in answer) }
 {

@@ -7,7 +7,6 @@ use native.Mathlib.Omega.{arith}
 use lib.ListN.{length, get_or, length-append}
 use lib.Seq.{sets}
 use Rattle.chars.specs.Utf8.{decode}
-use Rattle.lexer.specs.declared.Span.{Span as Place}
 use Rattle.lexer.specs.Tokens.{tokens}
 use Rattle.tokens.specs.declared.Token.{Token}
 use Rattle.language.specs.Machine.{Located, Machine}
@@ -28,13 +27,13 @@ use Rattle.shown.proofs.Shows.{Said, Shown}
 use Rattle.shown.proofs.TextShown.{no_rule_errors}
 use Rattle.shown.proofs.BodyShown.{header_shown, trailing_shown, rules_shown, lengths_shown, kept-all}
 use Rattle.infer.specs.States.{first_state}
-use Rattle.inferred.proofs.StatesInferred.{place_from, first_state_lem}
+use Rattle.inferred.proofs.StatesInferred.{first_state_lem}
 use Rattle.inferred.proofs.OfText.{states-count, symbols-count, places_count}
 use Rattle.alphabet.specs.Alphabets.{gamma_codes, sigma_words, gamma_words}
-use Rattle.machine.specs.declared.Span.{Span}
+use Rattle.diag.specs.declared.Span.{Span}
 use Rattle.machine.specs.declared.Counts.{Counts}
-use Rattle.machine.specs.Head.{span_of, counts_of}
-use Rattle.machine.specs.Meaning.{span_in, counts_in, head_in}
+use Rattle.machine.specs.Head.{counts_of}
+use Rattle.machine.specs.Meaning.{counts_in, head_in}
 use Rattle.head.specs.Heads.{blank_at, head_at}
 use Rattle.head.proofs.HeadMeans.{head-means}
 use Rattle.head.proofs.ItemSays.{said_says}
@@ -44,14 +43,14 @@ use Rattle.answered.specs.Sections.{Sections, sections_of, joined}
 use Rattle.answered.proofs.Bounds.{comments_few, words_few}
 
 -- two words a comment
-comments-count : (l : List (Located Place (List ℕ))) → length (L.flat L.located_words l) ≡ length l * 2
+comments-count : (l : List (Located Span (List ℕ))) → length (L.flat L.located_words l) ≡ length l * 2
 comments-count l = flat-length L.located_words 2 l (every_any _ (λ c. refl) l)
 
 module _ (text : List ℕ) (count : ℕ) (w first : List ℕ) (r : Ready text count w first) where
   abbrev ts : List Token
   ts = rows count w
 
-  abbrev ls : List (Line Place)
+  abbrev ls : List (Line Span)
   ls = lines_of text
 
   -- ---- rules
@@ -64,7 +63,7 @@ module _ (text : List ℕ) (count : ℕ) (w first : List ℕ) (r : Ready text co
   -- ---- what the lines of the row show
   module _ (shown : Shown text (rows count w) 0 (lines_of text)) where
     rules_are : (b : ℕ) → rules b (rows count w) ≡ L.flat L.rule_words (A.expand_all b (A.kept 0 (A.body_of (lines_of text)).rules))
-    rules_are b = rules_shown b ts ls shown ∙ ap (λ (rs : List (A.RuleLine Place)). L.flat L.rule_words (A.expand_all b rs)) (sym all-kept)
+    rules_are b = rules_shown b ts ls shown ∙ ap (λ (rs : List (A.RuleLine Span)). L.flat L.rule_words (A.expand_all b rs)) (sym all-kept)
 
     lengths_are : rule_lengths (rows count w) ≡ L.rule_lengths (A.kept 0 (A.body_of (lines_of text)).rules)
     lengths_are = lengths_shown 0 ts ls shown ∙ ap L.rule_lengths (sym all-kept)
@@ -87,7 +86,7 @@ module _ (text : List ℕ) (count : ℕ) (w first : List ℕ) (r : Ready text co
 
   -- ---- what its entries say
   module _ (said : AllMean (Said text (rows count w)) (rows count w) (entries (rows count w)) (lines_of text)) where
-    pub head_is : (s : Span) (n : Counts) → (A.first (λ p. p.start) (A.items (lines_of text)) ≡ none → span_in s ≡ (L.head_of (I.machine_of (lines_of text))).start)
+    pub head_is : (s : Span) (n : Counts) → (A.first (λ p. p.start) (A.items (lines_of text)) ≡ none → s ≡ (L.head_of (I.machine_of (lines_of text))).start)
         → counts_in n ≡ (L.head_of (I.machine_of (lines_of text))).counts → head_in (head_at (rows count w) first s n) ≡ L.head_of (I.machine_of (lines_of text))
     head_is s n z c =
         ap (λ (f : List ℕ). head_in (head_at (rows count w) f s n)) (table text count w first r)
@@ -95,11 +94,11 @@ module _ (text : List ℕ) (count : ℕ) (w first : List ℕ) (r : Ready text co
 
     pub blank_is : blank_at (rows count w) (get_or first 8 0) ≡ (I.machine_of (lines_of text)).blank
     unfolding head_in head_at L.head_of
-    blank_is = ap (λ (h : L.Head). h.blank) (head_is (span_of (L.head_of (I.machine_of ls)).start) (counts_of (L.head_of (I.machine_of ls)).counts) (λ z. refl) refl)
+    blank_is = ap (λ (h : L.Head). h.blank) (head_is (L.head_of (I.machine_of ls)).start (counts_of (L.head_of (I.machine_of ls)).counts) (λ z. refl) refl)
 
 -- ---- all of it
 module _ (text : List ℕ) (count : ℕ) (w first : List ℕ) (r : Ready text count w first) (t : Tied text count w first) where
-  abbrev m : Machine Place
+  abbrev m : Machine Span
   m = I.machine_of (lines_of text)
 
   abbrev b : ℕ
@@ -154,17 +153,17 @@ module _ (text : List ℕ) (count : ℕ) (w first : List ℕ) (r : Ready text co
 
   -- the head
   module _ (o : List ℕ) (room : length (L.sheet_words m) ≤ length o) where
-    start_is : A.first (λ p. p.start) (A.items (lines_of text)) ≡ none → place_from (first_state (sets o 0 (L.sheet_words m)) 0 (length s.states)) ≡ (L.head_of m).start
+    start_is : A.first (λ p. p.start) (A.items (lines_of text)) ≡ none → first_state (sets o 0 (L.sheet_words m)) 0 (length s.states) ≡ (L.head_of m).start
     unfolding L.head_of L.sheet_words
     start_is z =
         let whole : 0 + length (L.sheet_words m) ≤ length o = omega (arith, room) in
         let n : length s.states ≡ 0 + length (L.flat L.state_words m.states) = omega (arith, ap length states_are) in
-        ap (λ (n : ℕ). place_from (first_state (sets o 0 (L.sheet_words m)) 0 n)) n ∙ first_state_lem (lines_of text) o _ 0 z whole
+        ap (λ (n : ℕ). first_state (sets o 0 (L.sheet_words m)) 0 n) n ∙ first_state_lem (lines_of text) o _ 0 z whole
 
     pub head_of-sheet : (p : Span) (n : Counts)
         → p ≡ record { start = (first_state (sets o 0 (L.sheet_words m)) 0 (length s.states)).start; end = (first_state (sets o 0 (L.sheet_words m)) 0 (length s.states)).end }
         → counts_in n ≡ (L.head_of m).counts → head_in (head_at (rows count w) first p n) ≡ L.head_of m
-    head_of-sheet p n q c = head_is text count w first r t.said p n (λ z. ap span_in q ∙ start_is z) c
+    head_of-sheet p n q c = head_is text count w first r t.said p n (λ z. q ∙ start_is z) c
 
   -- the counts
   pub states-three : length s.states ≡ 3 * length m.states

@@ -7,7 +7,7 @@ use native.Mathlib.Omega.{arith}
 use lib.ListN.{length, get_or, length-map}
 use Rattle.diag.proofs.Cases.{by_test_lem}
 use Rattle.chars.specs.Utf8.{decode}
-use Rattle.lexer.specs.declared.Span.{Span as Place}
+use Rattle.diag.specs.declared.Span.{Span as Place}
 use Rattle.lexer.specs.Tokens.{tokens}
 use Rattle.lexer.proofs.Writes.{tokens_of_bytes}
 use Rattle.lexer.proofs.Placed.{placed}

@@ -2,7 +2,7 @@
 use Rattle.std.specs.Prelude.{ℕ, ◌+◌, ◌*◌, ◌≤◌, ◌≡◌, true, List, [], map, length}
 use Rattle.chars.specs.Utf8.{decode}
 use Rattle.lexer.specs.Tokens.{tokens}
-use Rattle.lexer.specs.declared.Span.{Span}
+use Rattle.diag.specs.declared.Span.{Span}
 use Rattle.parser.specs.Meaning.{token_of}
 use Rattle.language.specs.Lines.{Line, read_lines}
 use Rattle.language.specs.Assembly.{diagnostics_of}

@@ -1,17 +1,17 @@
 -- Laws of assembly as a whole: each pass leaves what the next one asks, and all together give the language's diagnostics.
 use mathlib.Core.Path.{◌≡◌, refl, sym, ap, subst, ◌∙◌}
-use mathlib.Core.Bool.{Bool, true, false, cond, not, false≢true}
+use mathlib.Core.Bool.{Bool, true, false, cond}
 use mathlib.Core.List.{List, [], ◌∷◌, ◌++◌, map}
 use Prim.Native.Nat.{ℕ, zero, suc, ◌+◌, ◌*◌, ◌≤◌, ◌<◌, ◌^◌}
 use native.Mathlib.Omega.{arith}
-use borrow.Author.Tests.{lt-ltb, le-ltb, not-true}
+use borrow.Author.Tests.{lt-ltb, le-ltb}
 use mir.Syntax.{w64}
 use mir.Val.{Fits}
 use lib.Dec.{eqb, ltb}
 use lib.ListN.{length, get_or, take, drop, length-append, length-drop, length-map}
 use lib.Seq.{take-take}
 use Rattle.chars.specs.Utf8.{decode}
-use Rattle.lexer.specs.declared.Span.{Span as Place}
+use Rattle.diag.specs.declared.Span.{Span as Place}
 use Rattle.lexer.specs.Tokens.{tokens}
 use Rattle.lexer.specs.Words.{onto}
 use Rattle.lexer.proofs.Writes.{tokens_of_bytes}
@@ -25,8 +25,11 @@ use Rattle.language.specs.Assembly as A
 use Rattle.language.specs.Infer.{machine_of}
 use Rattle.language.proofs.Counts as C
 use Rattle.diag.specs.declared.Diagnostic.{Diagnostic}
+use Rattle.diag.specs.declared.log.Log as D
 use Rattle.diag.specs.Log.{Log, logged, append_all}
-use Rattle.diag.proofs.Appended.{append_all-append, append_all-count}
+use Rattle.diag.specs.Appends.{Appends}
+use Rattle.diag.proofs.Appending.{appends_then, appends_count, appends_as, appends_nothing}
+use Rattle.diag.proofs.Appended.{append_all-count}
 use Rattle.assembler.specs.declared.Assembled.{Assembled}
 use Rattle.assembler.specs.declared.rules.Tally.{Tally}
 use Rattle.assembler.specs.Rows.{rows, place_of}
@@ -42,11 +45,14 @@ use Rattle.assembler.specs.Assembled as S
 use Rattle.assembler.proofs.Rows.{length-rows}
 use Rattle.assembler.proofs.RowWords.{rows-onto, length-onto}
 use Rattle.equal_names.proofs.NameLaws.{kept-rows}
-use Rattle.assembler.proofs.MarkLaws.{kept_row, kept_interned, kept_trans}
+use Rattle.assembler.proofs.MarkLaws.{kept_interned, kept_trans}
+use Rattle.assembler.proofs.PartLaws.{part-rows, part-kept}
 use Rattle.assembler.proofs.FailureLaws.{line_error-one}
 use Rattle.assembler.proofs.DeclarationLaws.{one_wrong}
 use Rattle.assembler.proofs.RuleLaws.{one-rule}
-use Rattle.assembler.proofs.FinalLaws.{one-final}
+use Rattle.assembler.specs.declared.finals.Names.{Names}
+use Rattle.assembler.specs.Marked.{row_of}
+use Rattle.assembler.proofs.FinalLaws.{one-final, finals-none}
 use Rattle.assembler.proofs.Means.{AllMean, records-append, line_errors_mean, declarations_mean, table_empty}
 use Rattle.assembler.proofs.RulesMean.{RulesOf, rule_errors_mean, rule_count_mean}
 use Rattle.assembler.proofs.FinalsMean.{NamesIn, finals_mean}
@@ -83,43 +89,41 @@ module _ (text : List ℕ) (count : ℕ) (w₀ : List ℕ) (p : S.Tokenized text
         size = ap length e ∙ length-onto (entered (rows count w₀)) w₀ (omega (arith, size, enter_room));
       }
 
--- ---- whether there may be states: each test, where those before it failed
-module _ (count : ℕ) (first : List ℕ) (rules : ℕ) where
-  yes : (i k : ℕ) → i ≡ get_or first k 0 → i < count → ltb (get_or first k 0) count ≡ true
-  yes i k e h = lt-ltb (get_or first k 0) count (omega arith)
+-- ---- whether there may be states: what `||` gives, by the branch that was taken
+module _ (v b : Bool) where
+  pub or_below : (x n : ℕ) → v ≡ ltb x n → x < n → v ≡ cond (ltb x n) true b
+  or_below x n e h = rw (lt-ltb x n h) (e ∙ lt-ltb x n h)
 
-  no : (i k : ℕ) → i ≡ get_or first k 0 → count ≤ i → ltb (get_or first k 0) count ≡ false
-  no i k e h = le-ltb (get_or first k 0) count (omega arith)
+  pub or_above : (x n : ℕ) → n ≤ x → v ≡ b → v ≡ cond (ltb x n) true b
+  or_above x n h e = rw (le-ltb x n h) e
 
-  pub with_q : (q : ℕ) → q ≡ get_or first 5 0 → q < count → true ≡ S.has_states count first rules
+  pub or_true : (u : Bool) → v ≡ u → u ≡ true → v ≡ cond u true b
+  or_true u e h = e ∙ h ∙ sym (ap (λ (u : Bool). cond u true b) h)
+
+  pub or_false : (u : Bool) → u ≡ false → v ≡ b → v ≡ cond u true b
+  or_false u h e = e ∙ sym (ap (λ (u : Bool). cond u true b) h)
+
+or_nested : (a b c d : Bool) → cond (cond (cond a true b) true c) true d ≡ cond a true (cond b true (cond c true d))
+or_nested true b c d = refl
+or_nested false true c d = refl
+or_nested false false c d = refl
+
+module _ (count : ℕ) (first : List ℕ) (rules : ℕ) (u v : Bool) (one : u ≡ cond (ltb (get_or first 5 0) count) true (ltb (get_or first 9 0) count)) (two : v ≡ cond u true (ltb (get_or first 10 0) count)) where
+  states_are : cond v true (ltb 0 rules) ≡ S.has_states count first rules
   unfolding S.has_states
-  with_q q e h = rw (yes q 5 e h) refl
+  states_are =
+      ap (λ (v : Bool). cond v true (ltb 0 rules)) (two ∙ ap (λ (u : Bool). cond u true (ltb (get_or first 10 0) count)) one)
+      ∙ or_nested (ltb (get_or first 5 0) count) (ltb (get_or first 9 0) count) (ltb (get_or first 10 0) count) (ltb 0 rules)
 
-  module _ (q : ℕ) (at-q : q ≡ get_or first 5 0) (no_q : count ≤ q) where
-    pub with_start : (s : ℕ) → s ≡ get_or first 9 0 → s < count → true ≡ S.has_states count first rules
-    unfolding S.has_states
-    with_start s e h = rw (no q 5 at-q no_q, yes s 9 e h) refl
+  pub states_yes : v ≡ true → v ≡ S.has_states count first rules
+  states_yes h = h ∙ sym (ap (λ (v : Bool). cond v true (ltb 0 rules)) h) ∙ states_are
 
-    module _ (s : ℕ) (at-s : s ≡ get_or first 9 0) (no-s : count ≤ s) where
-      pub with_finals : (f : ℕ) → f ≡ get_or first 10 0 → f < count → true ≡ S.has_states count first rules
-      unfolding S.has_states
-      with_finals f e h = rw (no q 5 at-q no_q, no s 9 at-s no-s, yes f 10 e h) refl
-
-      pub with_rules : (f : ℕ) → f ≡ get_or first 10 0 → count ≤ f → (r : Bool) → r ≡ ltb 0 rules → r ≡ S.has_states count first rules
-      unfolding S.has_states
-      with_rules f e h r g = rw (no q 5 at-q no_q, no s 9 at-s no-s, no f 10 e h) g
+  pub states_by_rules : v ≡ false → ltb 0 rules ≡ S.has_states count first rules
+  states_by_rules h = sym (ap (λ (v : Bool). cond v true (ltb 0 rules)) h) ∙ states_are
 
 -- ---- the row of first equal words
 pub kept_fewer : (a b : ℕ) (u v : List ℕ) → a ≤ b → Kept b u v → Kept a u v
 kept_fewer a b u v h k = record { front = sym (take-take a b v h) ∙ ap (take a) k.front ∙ take-take a b u h; size = k.size }
-
--- without F, and with a diagnostic or without states, nobody looks at it
-module _ (text : List ℕ) (count : ℕ) (w first : List ℕ) (wrong rules f : ℕ) (at_f : f ≡ get_or first 10 0) (no-f : count ≤ f) where
-  pub none_sound : 0 < wrong → S.Named text count w first wrong rules
-  none_sound h = record { listed = λ l. absurd (omega arith); sound = λ z y. absurd (omega arith) }
-
-  pub none_named : (b : Bool) → b ≡ S.has_states count first rules → not b ≡ true → S.Named text count w first wrong rules
-  none_named b t n = record { listed = λ l. absurd (omega arith); sound = λ z y. absurd (false≢true (sym (not-true b n) ∙ t ∙ y)) }
 
 module _ (text : List ℕ) (count : ℕ) (w₀ : List ℕ) (laid : Laid count (S.words_from (length text)) (S.marks_from (length text)) w₀) where
   module _ (w₁ first : List ℕ) (wrong rules : ℕ) where
@@ -206,42 +210,47 @@ module _ (text : List ℕ) (count : ℕ) (w₀ w₁ first : List ℕ)
   size₁ : length (rows count w₁) ≡ count
   size₁ = length-rows count w₁ (omega (arith, laid.tokens, laid.words, laid.marks, kept₁.size))
 
-  module _ (w₂ : List ℕ) (kept₂ : Kept (S.marks_from (length text)) w₁ w₂) (l : Log) (g : List ℕ) (n : ℕ) (finals : logged g n ≡ append_all l (finals_errors text (rows count w₁) first)) where
-    row₂ : rows count w₂ ≡ rows count w₀
-    row₂ = kept_row count (S.words_from (length text)) (S.marks_from (length text)) w₁ w₂ named_laid kept₂ ∙ row₁
+  -- the words are cut into the tokens, the row of first equal words and the marks
+  module _ (front words firsts marks : List ℕ) (f : front ≡ take (S.marks_from (length text)) w₁) (m : marks ≡ drop (S.marks_from (length text)) w₁)
+      (t : words ≡ take (S.words_from (length text)) front) (g : firsts ≡ drop (S.words_from (length text)) front) where
+    same-row : rows count words ≡ rows count w₀
+    same-row = part-rows count (S.words_from (length text)) (S.marks_from (length text)) w₁ named_laid front words firsts marks f m t g ∙ row₁
 
-    pub rules_room : 4 * count ≤ length w₂
-    rules_room = omega (arith, laid.tokens, laid.words, laid.marks, kept₁.size, kept₂.size)
+    pub rules_fed : Fed (rows count w₀) → Fed (rows count words)
+    rules_fed x = subst Fed (sym same-row) x
 
-    pub rules_low : count < 2 ^ 32
-    rules_low = omega (arith, laid.few)
+    pub rules_wrong : (wrong : ℕ) → wrong ≡ length (rule_errors no_rules (entries (rows count w₀))) → wrong ≡ length (rule_errors no_rules (entries (rows count words)))
+    rules_wrong wrong counted = counted ∙ ap (λ (ts : List Token). length (rule_errors no_rules (entries ts))) (sym same-row)
 
-    pub rules_few : l.count + 2 * count < 2 ^ 64 → n + count < 2 ^ 64
-    rules_few h =
-        omega (arith, ap (λ (x : Log). x.count) finals, append_all-count l (finals_errors text (rows count w₁) first), finals_few text (rows count w₁) first, size₁)
+    module _ (l l₁ : D.Log) (finals : Appends l l₁ (finals_errors text (rows count words) first)) where
+      pub rules_few : l.count + 2 * count < 2 ^ 64 → l₁.count + count < 2 ^ 64
+      rules_few h =
+          omega (arith, appends_count l l₁ _ finals, finals_few text (rows count words) first, ap length same-row, ap length row₁, size₁)
 
-    pub rules_fed : Fed (rows count w₀) → Fed (rows count w₂)
-    rules_fed f = subst Fed (sym row₂) f
-
-    module _ (wrong : ℕ) (counted : wrong ≡ length (rule_errors no_rules (entries (rows count w₀)))) where
-      pub rules_wrong : wrong ≡ length (rule_errors no_rules (entries (rows count w₂)))
-      rules_wrong = counted ∙ ap (λ (ts : List Token). length (rule_errors no_rules (entries ts))) (sym row₂)
-
-      pub finals_and_rules : (rules : ℕ) (log : List ℕ) (r : ℕ) → S.Named text count w₁ first (l.count + wrong) rules → logged log r ≡ append_all (logged g n) (rule_errors no_rules (entries (rows count w₂))) → S.FinalsAndRules text count w₀ w₂ first rules l log r
-      finals_and_rules rules log r named e =
+      pub finals_and_rules : (v : List ℕ) → length v ≡ length marks → (wrong rules : ℕ) → wrong ≡ length (rule_errors no_rules (entries (rows count w₀)))
+          → S.Named text count w₁ first (l.count + wrong) rules → (l₂ : D.Log) → Appends l₁ l₂ (rule_errors no_rules (entries (rows count words)))
+          → Kept (S.words_from (length text)) w₀ (front ++ v) × S.Named text count (front ++ v) first l₂.count rules
+          × Appends l l₂ (finals_errors text (rows count w₀) first ++ rule_errors no_rules (entries (rows count w₀)))
+      finals_and_rules v size wrong rules counted named l₂ e =
           let a : ℕ = S.words_from (length text) in
           let b : ℕ = S.marks_from (length text) in
-          let on : Interned text (rows count w₁) a w₁ → Interned text (rows count w₂) a w₂ = λ i. kept_interned count a b w₁ w₂ named_laid kept₂ text i in
-          let none : r ≡ 0 → l.count + wrong ≡ 0 = λ z.
-          omega (arith, ap (λ (x : Log). x.count) e, append_all-count (logged g n) (rule_errors no_rules (entries (rows count w₂))), rules_wrong, ap (λ (x : Log). x.count) finals, append_all-count l (finals_errors text (rows count w₁) first)) in
-          record {
-            kept = kept_trans a w₀ w₁ w₂ kept₁ (kept_fewer a b w₁ w₂ (omega arith) kept₂);
-            named = record { listed = λ h. on (named.listed h); sound = λ z h. on (named.sound (none z) h) };
-            written =
-                e ∙ ap (λ (ts : List Token). append_all (logged g n) (rule_errors no_rules (entries ts))) row₂
-                ∙ ap (λ (x : Log). append_all x (rule_errors no_rules (entries (rows count w₀)))) (finals ∙ ap (λ (ts : List Token). append_all l (finals_errors text ts first)) row₁)
-                ∙ sym (append_all-append l (finals_errors text (rows count w₀) first) (rule_errors no_rules (entries (rows count w₀))));
-          }
+          let kept₂ : Kept b w₁ (front ++ v) = part-kept count a b w₁ named_laid front words firsts marks f m t g v size in
+          let on : Interned text (rows count w₁) a w₁ → Interned text (rows count (front ++ v)) a (front ++ v) = λ i. kept_interned count a b w₁ (front ++ v) named_laid kept₂ text i in
+          let none : l₂.count ≡ 0 → l.count + wrong ≡ 0 = λ z.
+          omega (arith, appends_count l₁ l₂ _ e, rules_wrong wrong counted, appends_count l l₁ _ finals) in (
+            kept_trans a w₀ w₁ (front ++ v) kept₁ (kept_fewer a b w₁ (front ++ v) (omega arith) kept₂),
+            record { listed = λ h. on (named.listed h); sound = λ z h. on (named.sound (none z) h) },
+            appends_as l l₂ _ _ (appends_then l l₁ l₂ _ _ finals e)
+                (ap (λ (ts : List Token). finals_errors text ts first ++ rule_errors no_rules (entries ts)) same-row),
+          )
+
+-- the diagnostics of F where it was looked at, and where there is none
+pub finals_said : (names : Names) (text : List ℕ) (ts : List Token) (first : List ℕ) (l l' : D.Log) → names.text.now ≡ text → row_of names ≡ ts
+    → Appends l l' (finals_errors names.text.now (row_of names) first) → Appends l l' (finals_errors text ts first)
+finals_said names text ts first l l' e f p = appends_as l l' _ _ p (ap (λ (x : List ℕ). finals_errors x (row_of names) first) e ∙ ap (λ (ts : List Token). finals_errors text ts first) f)
+
+pub finals_unsaid : (text : List ℕ) (count : ℕ) (w first : List ℕ) (l : D.Log) → 4 * count ≤ length w → count ≤ get_or first 10 0 → Appends l l (finals_errors text (rows count w) first)
+finals_unsaid text count w first l room h = appends_nothing l _ (finals-none text (rows count w) first (omega (arith, length-rows count w room)))
 
 -- ---- all passes over the lines
 module _ (text : List ℕ) (count : ℕ) (w₀ log₀ : List ℕ) (laid : Laid count (S.words_from (length text)) (S.marks_from (length text)) w₀) where
@@ -254,45 +263,44 @@ module _ (text : List ℕ) (count : ℕ) (w₀ log₀ : List ℕ) (laid : Laid c
   pub pass_room : 4 * count ≤ length w₀
   pass_room = omega (arith, laid.tokens, laid.words, laid.marks)
 
-  pub pass_low : count < 2 ^ 32
-  pass_low = omega (arith, laid.few)
-
   all-size : length ts ≡ count
   all-size = length-rows count w₀ pass_room
 
   lines-count : length es ≤ count
   lines-count = omega (arith, entries_few ts, all-size)
 
-  module _ (g₁ : List ℕ) (n : ℕ) (e₁ : logged g₁ n ≡ append_all (logged log₀ 0) (line_errors (entries (rows count w₀)))) where
-    lines_low : n ≤ count
-    lines_low = omega (arith, ap (λ (x : Log). x.count) e₁, append_all-count (logged log₀ 0) (line_errors es), lines_few es, lines-count)
+  -- the log is written from its beginning
+  module _ (l₀ l₁ : D.Log) (begins : logged l₀.row.now l₀.count ≡ logged log₀ 0) (e₁ : Appends l₀ l₁ (line_errors (entries (rows count w₀)))) where
+    lines_low : l₁.count ≤ count
+    lines_low = omega (arith, appends_count l₀ l₁ _ e₁, ap (λ (x : Log). x.count) begins, lines_few es, lines-count)
 
-    pub declarations_room : n + count < 2 ^ 64
+    pub declarations_room : l₁.count + count < 2 ^ 64
     declarations_room = omega (arith, lines_low, laid.few)
 
-    module _ (first : List ℕ) (g₂ : List ℕ) (m : ℕ) (f₂ : first ≡ declarations count undeclared (entries (rows count w₀)))
-        (e₂ : logged g₂ m ≡ append_all (logged g₁ n) (declaration_errors (rows count w₀) undeclared (entries (rows count w₀)))) where
-      pub finals_room : m + 2 * count < 2 ^ 64
-      finals_room =
-          omega (arith, ap (λ (x : Log). x.count) e₂, append_all-count (logged g₁ n) (declaration_errors ts undeclared es), declarations_few ts undeclared es, lines-count, lines_low, laid.few)
+    module _ (l₂ : D.Log) (e₂ : Appends l₁ l₂ (declaration_errors (rows count w₀) undeclared (entries (rows count w₀)))) where
+      pub finals_room : l₂.count + 2 * count < 2 ^ 64
+      finals_room = omega (arith, appends_count l₁ l₂ _ e₂, declarations_few ts undeclared es, lines-count, lines_low, laid.few)
 
-      pub diagnosed : (w₁ log : List ℕ) (k r : ℕ) → k ≡ rule_count no_rules (entries (rows count w₀)) → S.FinalsAndRules text count w₀ w₁ first k (logged g₂ m) log r
+      pub diagnosed : (first : List ℕ) → first ≡ declarations count undeclared (entries (rows count w₀)) → (w₁ log : List ℕ) (l₃ : D.Log) (k r : ℕ) → k ≡ rule_count no_rules (entries (rows count w₀))
+          → Kept (S.words_from (length text)) w₀ w₁ → S.Named text count w₁ first l₃.count k
+          → Appends l₂ l₃ (finals_errors text (rows count w₀) first ++ rule_errors no_rules (entries (rows count w₀))) → r ≡ l₃.count → log ≡ l₃.row.now
           → S.Diagnosed text count w₀ w₁ log₀ log (record { first = first; rules = k; errors = r })
       unfolding S.row_diagnostics
-      diagnosed w₁ log k r c p =
-          let D : List Diagnostic = declaration_errors ts undeclared es in
+      diagnosed first f₂ w₁ log l₃ k r c kept named p er el =
+          let D' : List Diagnostic = declaration_errors ts undeclared es in
           let table : List ℕ = declarations (length ts) undeclared es in
-          let F : List Diagnostic = finals_errors text ts table ++ rule_errors no_rules es in
           let same : first ≡ table = f₂ ∙ ap (λ (k : ℕ). declarations k undeclared es) (sym all-size) in
+          let all : Appends l₀ l₃ (line_errors es ++ (D' ++ (finals_errors text ts first ++ rule_errors no_rules es))) =
+          appends_then l₀ l₁ l₃ (line_errors es) _ e₁ (appends_then l₁ l₂ l₃ D' _ e₂ p) in
           record {
-            kept = p.kept;
-            named = p.named;
+            kept = kept;
+            named = subst (λ (n : ℕ). S.Named text count w₁ first n k) (sym er) named;
             first = f₂;
             rules = c;
             written =
-                p.written ∙ ap (λ (x : List ℕ). append_all (logged g₂ m) (finals_errors text ts x ++ rule_errors no_rules es)) same
-                ∙ ap (λ (x : Log). append_all x F) e₂ ∙ sym (append_all-append (logged g₁ n) D F)
-                ∙ ap (λ (x : Log). append_all x (D ++ F)) e₁ ∙ sym (append_all-append (logged log₀ 0) (line_errors es) (D ++ F));
+                ap (λ (w : List ℕ). logged w r) el ∙ ap (logged l₃.row.now) er ∙ all.written
+                ∙ ap (λ (x : Log). append_all x (line_errors es ++ (D' ++ (finals_errors text ts first ++ rule_errors no_rules es)))) begins
+                ∙ ap (λ (f : List ℕ). append_all (logged log₀ 0) (line_errors es ++ (D' ++ (finals_errors text ts f ++ rule_errors no_rules es)))) same;
           }
 
 -- ---- in the language's terms

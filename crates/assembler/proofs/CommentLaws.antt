@@ -3,7 +3,7 @@ use Rattle.std.specs.Prelude.{Err}
 use mathlib.Core.Path.{◌≡◌, refl, sym, subst}
 use mathlib.Core.Bool.{Bool, true, false, cond}
 use mathlib.Core.List.{List, [], ◌∷◌, map}
-use Prim.Native.Nat.{ℕ, zero, suc, ◌+◌, ◌≤◌}
+use Prim.Native.Nat.{ℕ, zero, suc, ◌≤◌}
 use native.Mathlib.Omega.{arith}
 use borrow.Author.Tests.{ne_eqb, eqb-true}
 use lib.Dec.{eqb}
@@ -15,10 +15,10 @@ use Rattle.tokens.specs.declared.Token.{Token}
 use Rattle.parser.specs.declared.Parts.{Parts}
 use Rattle.parser.specs.declared.ItemKind.{ItemKind}
 use Rattle.parser.specs.declared.ItemKind.TheVariants.{Machine, Kind, Input, Output, Tapes, States, InputAlphabet, TapeAlphabet, Blank, Start, Final, Transition}
-use Rattle.parser.specs.Row.{peek, ended}
+use Rattle.parser.specs.Row.{peek}
 use Rattle.parser.specs.Lines.{Answer, Empty, Comment, Read, line, line_end, code_number}
 use Rattle.parser.specs.Meaning.{token_of, Closed, AllLexed}
-use Rattle.language.specs.Lines.{line_feed, goes_by, remark, ending_of}
+use Rattle.language.specs.Lines.{line_feed, ending_of}
 use Rattle.assembler.specs.Entries.{behind}
 use Rattle.assembler.specs.Feeds.{CommentsLast}
 use Rattle.assembler.specs.Entered.{item_entry, failed_entry, counts_of, parts_of, with_parts, enter_as, enter_line, entered_from, entered}

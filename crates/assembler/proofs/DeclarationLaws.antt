@@ -1,16 +1,18 @@
 -- Laws of the pass over declarations.
 use mathlib.Core.Path.{◌≡◌, refl, sym, ap, subst, ◌∙◌}
-use mathlib.Core.Bool.{Bool, true, false, cond}
-use mathlib.Core.List.{List, [], ◌∷◌, ◌++◌}
-use Prim.Native.Nat.{ℕ, zero, suc, ◌+◌, ◌-◌, ◌*◌, ◌≤◌, ◌<◌}
+use mathlib.Core.Bool.{true, false, cond}
+use mathlib.Core.List.{List, [], ◌∷◌}
+use Prim.Native.Nat.{ℕ, suc, ◌+◌, ◌-◌, ◌*◌, ◌≤◌, ◌<◌, ◌^◌}
 use native.Mathlib.Omega.{arith}
 use borrow.Author.Tests.{le-leb, lt-leb, lt-ltb, le-ltb, eq-eqb, ne_eqb}
-use lib.Dec.{leb, ltb, eqb}
+use lib.Dec.{ltb, eqb}
 use lib.ListN.{length, get_or, set, drop}
 use lib.Seq.{get_or-drop}
 use Rattle.diag.specs.declared.Span.{Span}
 use Rattle.diag.specs.declared.Diagnostic.{Diagnostic}
-use Rattle.diag.specs.Log.{error, with_related, Log, logged, appended, append_all}
+use Rattle.diag.specs.declared.log.Log.{Log}
+use Rattle.diag.specs.Log.{error, with_related}
+use Rattle.diag.specs.Appends.{Appends}
 use Rattle.tokens.specs.declared.Token.{Token}
 use Rattle.parser.specs.Row.{peek, ended}
 use Rattle.parser.specs.Lines.{line_length}
@@ -19,31 +21,27 @@ use Rattle.assembler.specs.Entries.{Entry, entry_at, behind, entries}
 use Rattle.assembler.specs.Feeds.{Fed}
 use Rattle.assembler.specs.Declarations.{declares, name_of, declare, declarations, tapes_error, declaration_error, declaration_errors}
 use Rattle.assembler.proofs.Rows.{length-rows, entries_at, entries-step, entries-end, fed_next}
-use Rattle.assembler.proofs.Passes.{at_most_one, Passing, passing_start, passing_step, passing_end}
+use Rattle.assembler.proofs.Passes.{at_most_one, Passing, passing_start, passing_step, passing_end, passing_room}
 
 -- ---- the value of `tapes`
-module _ (ts : List Token) (i : ℕ) (t : Token) (at : t ≡ peek ts i) (l : Log) where
-  pub tapes-other : (t.kind ≡ 20 → ⊥) → l ≡ append_all l (tapes_error (entry_at ts i))
-  unfolding tapes_error append_all
+module _ (ts : List Token) (i : ℕ) (t : Token) (at : t ≡ peek ts i) where
+  pub tapes-other : (t.kind ≡ 20 → ⊥) → [] ≡ tapes_error (entry_at ts i)
+  unfolding tapes_error
   tapes-other h = rw (← at, ne_eqb t.kind 20 h)
 
   module _ (v : Token) (third : v ≡ peek ts (i + 2)) where
     value-behind : peek (drop (suc i) ts) 1 ≡ v
     value-behind = let e : suc i + 1 ≡ i + 2 = omega arith in get_or-drop (suc i) ts 1 ended ∙ ap (peek ts) e ∙ sym third
 
-    pub tapes_few : t.kind ≡ 20 → v.value ≤ 255 → l ≡ append_all l (tapes_error (entry_at ts i))
-    unfolding tapes_error append_all
+    pub tapes_few : t.kind ≡ 20 → v.value ≤ 255 → [] ≡ tapes_error (entry_at ts i)
+    unfolding tapes_error
     tapes_few h g = rw (← at, eq-eqb t.kind 20 h, value-behind, le-ltb 255 v.value g)
 
-    pub tapes_many : (l' : Log) (p : Span) (d : Diagnostic) → t.kind ≡ 20 → 255 < v.value → p ≡ place_of v → d ≡ error 9 p → l' ≡ appended l d → l' ≡ append_all l (tapes_error (entry_at ts i))
-    unfolding tapes_error append_all
-    tapes_many l' p d h g q r e = rw (← at, eq-eqb t.kind 20 h, value-behind, lt-ltb 255 v.value g) (e ∙ ap (appended l) (r ∙ ap (error 9) q))
+    pub tapes_many : (p : Span) (d : Diagnostic) → t.kind ≡ 20 → 255 < v.value → p ≡ place_of v → d ≡ error 9 p → d ∷ [] ≡ tapes_error (entry_at ts i)
+    unfolding tapes_error
+    tapes_many p d h g q r = rw (← at, eq-eqb t.kind 20 h, value-behind, lt-ltb 255 v.value g) (ap (λ (d : Diagnostic). d ∷ []) (r ∙ ap (error 9) q))
 
 -- ---- a name declared again
-pub duplicate_of : (l l' : Log) (p q : Span) (d e : Diagnostic) (t o o' : Token) → p ≡ place_of t → d ≡ error 11 p → o ≡ o' → q ≡ place_of o → e ≡ with_related d q → l' ≡ appended l e
-    → l' ≡ appended l (with_related (error 11 (place_of t)) (place_of o'))
-duplicate_of l l' p q d e t o o' ep ed eo eq ee el = el ∙ ap (appended l) (ee ∙ cc)
-
 -- ---- one line
 module _ (t : Token) where
   pub declares_low : t.kind < 16 → declares t ≡ false
@@ -81,26 +79,26 @@ module _ (ts : List Token) (i : ℕ) (t : Token) (at : t ≡ peek ts i) (n : ℕ
       declare-first first' e h = e ∙ rw (← at, declares-name t k enough name low, ← name, ← there, le-ltb f n h)
 
 -- the diagnostics
-module _ (ts : List Token) (i : ℕ) (t : Token) (at : t ≡ peek ts i) (first : List ℕ) (l : Log) where
-  none_wrong : declares t ≡ false → l ≡ append_all l (declaration_error ts first (entry_at ts i))
-  unfolding declaration_error append_all
+module _ (ts : List Token) (i : ℕ) (t : Token) (at : t ≡ peek ts i) (first : List ℕ) where
+  none_wrong : declares t ≡ false → [] ≡ declaration_error ts first (entry_at ts i)
+  unfolding declaration_error
   none_wrong e = rw (← at, e)
 
-  pub wrong_low : t.kind < 16 → l ≡ append_all l (declaration_error ts first (entry_at ts i))
+  pub wrong_low : t.kind < 16 → [] ≡ declaration_error ts first (entry_at ts i)
   wrong_low h = none_wrong (declares_low t h)
 
   module _ (k : ℕ) (enough : 16 ≤ t.kind) (name : k ≡ t.kind - 16) where
-    pub wrong_high : 11 ≤ k → l ≡ append_all l (declaration_error ts first (entry_at ts i))
+    pub wrong_high : 11 ≤ k → [] ≡ declaration_error ts first (entry_at ts i)
     wrong_high h = none_wrong (declares_high t k enough name h)
 
-    module _ (low : k < 11) (n f : ℕ) (there : f ≡ get_or first k 0) (all : length ts ≡ n) (l' : Log) where
-      pub wrong_again : f < n → l' ≡ appended l (with_related (error 11 (place_of t)) (place_of (peek ts f))) → l' ≡ append_all l (declaration_error ts first (entry_at ts i))
-      unfolding declaration_error append_all
-      wrong_again h e = rw (← at, declares-name t k enough name low, ← name, ← there, all, lt-ltb f n h) e
-
-      pub wrong_first : n ≤ f → l' ≡ append_all l (tapes_error (entry_at ts i)) → l' ≡ append_all l (declaration_error ts first (entry_at ts i))
+    module _ (low : k < 11) (n f : ℕ) (there : f ≡ get_or first k 0) (all : length ts ≡ n) where
+      pub wrong_again : f < n → with_related (error 11 (place_of t)) (place_of (peek ts f)) ∷ [] ≡ declaration_error ts first (entry_at ts i)
       unfolding declaration_error
-      wrong_first h e = rw (← at, declares-name t k enough name low, ← name, ← there, all, le-ltb f n h) (rw (← at) at e)
+      wrong_again h = rw (← at, declares-name t k enough name low, ← name, ← there, all, lt-ltb f n h)
+
+      pub wrong_first : n ≤ f → tapes_error (entry_at ts i) ≡ declaration_error ts first (entry_at ts i)
+      unfolding declaration_error
+      wrong_first h = rw (← at, declares-name t k enough name low, ← name, ← there, all, le-ltb f n h)
 
 pub one_wrong : (ts : List Token) (first : List ℕ) (e : Entry) → length (declaration_error ts first e) ≤ 1
 unfolding declaration_error tapes_error
@@ -115,21 +113,21 @@ one_wrong ts first e =
     (omega arith)
 
 -- ---- all lines: the pass has come to the line at the index i
-pub record Declaring (count : ℕ) (work : List ℕ) (all : List ℕ) (target : Log) (from : ℕ) (w₀ : List ℕ) (first w : List ℕ) (n i : ℕ) : Type 0 where
-  pub declared : declarations count first (entries_at (rows count work) i) ≡ all
-  pub passing : Passing (rows count work) (declaration_errors (rows count work) first) target from w₀ w n i
+pub record Declaring (count : ℕ) (work : List ℕ) (last : List ℕ) (all : List Diagnostic) (l₀ : Log) (first : List ℕ) (l : Log) (i : ℕ) : Type 0 where
+  pub declared : declarations count first (entries_at (rows count work) i) ≡ last
+  pub passing : Passing (rows count work) (declaration_errors (rows count work) first) all l₀ l i
 
-pub declaring_start : (count : ℕ) (work first w : List ℕ) (n : ℕ) → Fed (rows count work)
-    → Declaring count work (declarations count first (entries (rows count work))) (append_all (logged w n) (declaration_errors (rows count work) first (entries (rows count work)))) n w first w n 0
+pub declaring_start : (count : ℕ) (work first : List ℕ) (l : Log) → Fed (rows count work)
+    → Declaring count work (declarations count first (entries (rows count work))) (declaration_errors (rows count work) first (entries (rows count work))) l first l 0
 unfolding entries
-declaring_start count work first w n fed = record { declared = refl; passing = passing_start (rows count work) (declaration_errors (rows count work) first) w n fed }
+declaring_start count work first l fed = record { declared = refl; passing = passing_start (rows count work) (declaration_errors (rows count work) first) l fed }
 
-module _ (count : ℕ) (work all : List ℕ) (target : Log) (from : ℕ) (w₀ first w : List ℕ) (n i : ℕ) (d : Declaring count work all target from w₀ first w n i) (room : 4 * count ≤ length work) where
-  pub declaring_on : (first' w' : List ℕ) (n' j : ℕ) → i < count → first' ≡ declare count first (entry_at (rows count work) i)
-      → logged w' n' ≡ append_all (logged w n) (declaration_error (rows count work) first (entry_at (rows count work) i)) → j ≡ i + 1 + line_length (drop i (rows count work))
-      → Declaring count work all target from w₀ first' w' n' j
+module _ (count : ℕ) (work last : List ℕ) (all : List Diagnostic) (l₀ : Log) (first : List ℕ) (l : Log) (i : ℕ) (d : Declaring count work last all l₀ first l i) (room : 4 * count ≤ length work) where
+  pub declaring_on : (first' : List ℕ) (l' : Log) (j : ℕ) → i < count → first' ≡ declare count first (entry_at (rows count work) i)
+      → Appends l l' (declaration_error (rows count work) first (entry_at (rows count work) i)) → j ≡ i + 1 + line_length (drop i (rows count work))
+      → Declaring count work last all l₀ first' l' j
   unfolding declarations declaration_errors
-  declaring_on first' w' n' j h ef ew z =
+  declaring_on first' l' j h ef ew z =
       let ts : List Token = rows count work in
       let many : length ts ≡ count = length-rows count work room in
       let here : i < length ts = omega arith in
@@ -139,23 +137,20 @@ module _ (count : ℕ) (work all : List ℕ) (target : Log) (from : ℕ) (w₀ f
       let lines : entries_at ts i ≡ e ∷ entries_at ts j = entries-step ts i here ∙ ap (λ (j : ℕ). e ∷ entries_at ts j) next in
       record {
         declared = ap (λ (f : List ℕ). declarations count f (entries_at ts j)) ef ∙ ap (declarations count first) (sym lines) ∙ d.declared;
-        passing = subst (λ (f : List ℕ). Passing ts (declaration_errors ts f) target from w₀ w' n' j) ef'
-            (subst (λ (j : ℕ). Passing ts (declaration_errors ts (declare (length ts) first e)) target from w₀ w' n' j) next
-            (passing_step ts target from w₀ w n i (declaration_errors ts first) (declaration_errors ts (declare (length ts) first e)) (declaration_error ts first e) w' n' d.passing here (λ es. refl)
+        passing = subst (λ (f : List ℕ). Passing ts (declaration_errors ts f) all l₀ l' j) ef'
+            (subst (λ (j : ℕ). Passing ts (declaration_errors ts (declare (length ts) first e)) all l₀ l' j) next
+            (passing_step ts all l₀ l i (declaration_errors ts first) (declaration_errors ts (declare (length ts) first e)) (declaration_error ts first e) l' d.passing here (λ es. refl)
             (one_wrong ts first e) ew));
       }
 
-  pub declared-end : count ≤ i → first ≡ all
+  pub declared-end : count ≤ i → first ≡ last
   unfolding declarations
   declared-end h = sym (ap (declarations count first) (entries-end (rows count work) i (omega (arith, length-rows count work room)))) ∙ d.declared
 
-  pub declaring_end : count ≤ i → logged w n ≡ target
+  pub declaring_end : count ≤ i → Appends l₀ l all
   unfolding declaration_errors
   declaring_end h =
-      passing_end (rows count work) target from w₀ w n i (declaration_errors (rows count work) first) d.passing (omega (arith, length-rows count work room)) refl
+      passing_end (rows count work) all l₀ l i (declaration_errors (rows count work) first) d.passing (omega (arith, length-rows count work room)) refl
 
-  pub declaring_few : n ≤ from + i
-  declaring_few = d.passing.few
-
-  pub declaring_size : length w ≡ length w₀
-  declaring_size = d.passing.size
+  pub declaring_room : i < count → l₀.count + count < 2 ^ 64 → l.count + 1 < 2 ^ 64
+  declaring_room h g = passing_room (rows count work) all l₀ l i (declaration_errors (rows count work) first) count d.passing h g

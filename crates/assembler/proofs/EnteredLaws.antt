@@ -1,16 +1,13 @@
 -- Laws of the row as its lines are entered one after another.
 use Rattle.std.specs.Prelude.{Err}
 use mathlib.Core.Path.{◌≡◌, refl, sym, ap, subst, ◌∙◌}
-use mathlib.Core.Bool.{Bool, true, false, cond}
 use mathlib.Core.List.{List, [], ◌∷◌, ◌++◌, append-nil, append_assoc}
-use Prim.Native.Nat.{ℕ, zero, suc, ◌+◌, ◌-◌, ◌*◌, ◌≤◌, ◌<◌}
+use Prim.Native.Nat.{ℕ, zero, suc, ◌+◌, ◌*◌, ◌≤◌, ◌<◌}
 use native.Mathlib.Omega.{arith}
-use native.Mathlib.Nat.{le_of_suc-le-suc}
 use borrow.Author.Tests.{le-leb}
-use lib.Dec.{leb, eqb}
-use lib.ListN.{length, get_or, take, drop, set, length-append, length-take, length-drop, length-set, take-append-drop, drop_of_length-le}
+use lib.ListN.{length, take, drop, set, length-append, length-take, length-drop, length-set, drop_of_length-le}
 use native.Mathlib.Nat.{add-zero}
-use lib.Seq.{get_or-append-add, drop-set-lt, take-append-add, drop-append-add, length-take-le, drop-cons, take_all, drop-length}
+use lib.Seq.{get_or-append-add, drop-set-lt, take-append-add, drop-append-add, length-take-le, drop-cons, take_all}
 use Rattle.lexer.specs.Words.{onto}
 use Rattle.tokens.specs.declared.Token.{Token}
 use Rattle.parser.specs.declared.Parts.{Parts}
@@ -24,7 +21,7 @@ use Rattle.assembler.specs.Entries.{behind}
 use Rattle.assembler.specs.Entered.{flat, item_entry, item_number, failed_entry, counts_of, parts_of, with_parts, enter_as, enter_line, enter_at, entered_from, entered}
 use Rattle.assembler.proofs.Rows.{length-rows}
 use Rattle.assembler.proofs.RowWords.{rows-onto, onto-rows, onto-onto, length-onto}
-use Rattle.assembler.proofs.Inside.{PartsIn, ItemIn, LineIn, line_in}
+use Rattle.assembler.proofs.Inside.{LineIn, line_in}
 
 -- ---- a line that is entered is as long as it was
 parts-length : (k : ItemKind) (i : ℕ) (q : Parts) (ts : List Token) → length (with_parts k i q ts) ≡ length ts

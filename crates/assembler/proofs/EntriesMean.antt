@@ -3,18 +3,18 @@ use Rattle.std.specs.Prelude.{Err}
 use mathlib.Core.Path.{◌≡◌, refl, sym, ap, subst, ◌∙◌}
 use mathlib.Core.Bool.{Bool, true, false, cond}
 use mathlib.Core.List.{List, [], ◌∷◌, ◌++◌, map, append-nil, append_assoc}
-use mathlib.Core.Option.{Option, none, some}
+use mathlib.Core.Option.{none}
 use Prim.Native.Nat.{ℕ, zero, suc, ◌+◌, ◌-◌, ◌≤◌, ◌<◌, min}
 use native.Mathlib.Omega.{arith}
-use native.Mathlib.Nat.{le_of_suc-le-suc, min-eq_left, min-eq_right}
-use borrow.Author.Tests.{lt-ltb, le-ltb, le-leb, lt-leb, eq-eqb, ne_eqb, eqb-true, leb-true, leb-false}
+use native.Mathlib.Nat.{le_of_suc-le-suc, min-eq_left}
+use borrow.Author.Tests.{lt-ltb, le-ltb, le-leb, lt-leb, ne_eqb, eqb-true, leb-true, leb-false}
 use lib.Dec.{eqb, leb, ltb}
-use lib.ListN.{length, get_or, take, drop, set, length-append, length-take, length-drop, length-map, length-set, get_or-append, get_or-map, get_or-eq_default, drop_of_length-le}
+use lib.ListN.{length, get_or, take, drop, set, length-append, length-take, length-drop, length-map, length-set, get_or-append, get_or-map}
 use lib.Seq.{drop-drop, get_or-drop, get_or-take, take-add, take-suc, drop_at, length-take-le, drop-cons, get_or-set_same, get_or-set_other, ext_get_or}
 use Rattle.diag.proofs.Cases.{by_test_lem}
-use Rattle.lexer.specs.declared.Span.{Span as Place}
+use Rattle.diag.specs.declared.Span.{Span as Place}
 use Rattle.lexer.specs.Tokens.{TokenKind, word, number, quoted, str, sign, comment, newline, unterminated_string, unterminated_quote, Token as Lexed}
-use Rattle.lexer.specs.Words.{kind_number, token_value, value, sign_number}
+use Rattle.lexer.specs.Words.{kind_number, token_value, value}
 use Rattle.lexer.proofs.Placed.{Placed, All, all-at}
 use Rattle.tokens.specs.declared.Token.{Token}
 use Rattle.parser.specs.declared.Parts.{Parts}
@@ -25,18 +25,17 @@ use Rattle.parser.specs.declared.Item.{Item as Found}
 use Rattle.parser.specs.Row.{peek, ended}
 use Rattle.parser.specs.Views.{is_kind, lead_of}
 use Rattle.parser.specs.Lines.{Answer, Empty, Comment, Read, line, line_end, line_length, newline_at, code_number}
-use Rattle.parser.specs.Meaning.{token_of, nothing, at, between, located, or_else, Sound, seen, read_sets, rule_of, item_means, line_means, Counted, CountedAs, LineCounted, Closed, AllLexed, LineAt}
+use Rattle.parser.specs.Meaning.{token_of, nothing, at, between, located, or_else, Sound, seen, read_sets, rule_of, item_means, line_means, Counted, CountedAs, LineCounted, AllLexed, LineAt}
 use Rattle.parser.proofs.Lines.{line_at}
 use Rattle.parser.proofs.Views.{is_some, tok, sees_number}
 use Rattle.language.specs.Machine.{Located}
 use Rattle.language.specs.Assembly as A
-use Rattle.language.specs.Lines.{Item, Line, blank_line, comment_line, item_line, error_line, state_in, number_in, rows, lines, covering}
+use Rattle.language.specs.Lines.{Item, Line, state_in, number_in, rows, lines, covering}
 use Rattle.assembler.specs.Rows.{place_of}
-use Rattle.assembler.specs.Entries.{Entry, entry_at, behind, entries_from, entries}
+use Rattle.assembler.specs.Entries.{Entry, entry_at, behind, entries}
 use Rattle.assembler.specs.Entered.{item_number, item_entry, failed_entry, counts_of, parts_of, with_parts, enter_as, enter_line, entered_from, entered}
 use Rattle.assembler.specs.Rules.{combinations, read_part}
 use Rattle.assembler.specs.Finals.{names_from}
-use Rattle.assembler.specs.Records.{place_in}
 use Rattle.assembler.proofs.Rows.{entries_at, entries-step, entries-end}
 use Rattle.assembler.proofs.LineLaws.{parts-other}
 use Rattle.assembler.proofs.EnteredLaws.{enter-length, parts_first, entry_behind, enter-drop, entered-one}
@@ -168,7 +167,7 @@ tail_of n [] r h = absurd (omega arith)
 tail_of n (x ∷ l) r h = refl
 
 -- ---- a number's value, cut off at 256 or at 64 bits
-pub token_place : (t : Lexed Place) → place_of (token_of t) ≡ place_in t.place
+pub token_place : (t : Lexed Place) → place_of (token_of t) ≡ t.place
 unfolding token_of
 token_place t = refl
 
@@ -373,11 +372,11 @@ module _ (text : List ℕ) (E : List Token) (i : ℕ) (t : Lexed Place) (l' : To
           let a = inside.assigned (ap lead_of k) in
           let third : peek (drop (suc i) E) 1 ≡ token_of (at l 2) = plain_at 1 (omega (arith, b_is, inside.behind, a.2)) in
           let kind : eqb (token_of (at l 2)).kind 1 ≡ true = ap (λ (w : Token). eqb w.kind 1) (sym (peek-map l 2)) ∙ inside.tapes k in
-          let place : place_of (token_of (at l 2)) ≡ place_in (at l 2).place = token_place (at l 2) in
+          let place : place_of (token_of (at l 2)) ≡ (at l 2).place = token_place (at l 2) in
           record {
             large = ap (λ (w : Token). ltb 255 w.value) third ∙ number_large (at l 2) (sound_at 2 (omega (arith, short, b_is, inside.behind, a.2))) kind
                 ∙ ap (λ (r : ℕ). ltb 255 (or_else 0 (number_in (at l r).kind))) (sym a.0);
-            place = ap place_of third ∙ place ∙ ap (λ (r : ℕ). place_in (at l r).place) (sym a.0);
+            place = ap place_of third ∙ place ∙ ap (λ (r : ℕ). (at l r).place) (sym a.0);
           }
 
     -- of a rule the tokens behind δ and behind its state change too

@@ -1,9 +1,9 @@
 -- Each line of an entered row ends at the first line feed from its first token on: entering puts a line feed nowhere, and over none.
 use Rattle.std.specs.Prelude.{Err}
 use mathlib.Core.Path.{◌≡◌, refl, sym, ap, subst, ◌∙◌}
-use mathlib.Core.Bool.{Bool, true, false, cond}
+use mathlib.Core.Bool.{Bool, true, false}
 use mathlib.Core.List.{List, [], ◌∷◌, ◌++◌}
-use Prim.Native.Nat.{ℕ, zero, suc, ◌+◌, ◌≤◌, ◌<◌}
+use Prim.Native.Nat.{ℕ, zero, suc, ◌+◌, ◌≤◌}
 use native.Mathlib.Omega.{arith}
 use borrow.Author.Tests.{ne_eqb}
 use lib.Dec.{eqb}
@@ -16,11 +16,11 @@ use Rattle.parser.specs.declared.ItemKind.{ItemKind}
 use Rattle.parser.specs.declared.ItemKind.TheVariants.{Machine, Kind, Input, Output, Tapes, States, InputAlphabet, TapeAlphabet, Blank, Start, Final, Transition}
 use Rattle.parser.specs.Row.{peek, ended}
 use Rattle.parser.specs.Lines.{Answer, Empty, Comment, Read, line, line_end, line_length, code_number}
-use Rattle.assembler.specs.Entries.{Entry, behind, entries_from, entries}
+use Rattle.assembler.specs.Entries.{behind, entries_from, entries}
 use Rattle.assembler.specs.Feeds.{AllFed, Fed}
 use Rattle.assembler.specs.Entered.{item_entry, failed_entry, counts_of, parts_of, with_parts, enter_as, enter_line, entered_from, entered}
 use Rattle.assembler.proofs.Rows.{entries_skip}
-use Rattle.assembler.proofs.Inside.{PartsIn, LineIn, line_in}
+use Rattle.assembler.proofs.Inside.{LineIn, line_in}
 use Rattle.assembler.proofs.EnteredLaws.{enter-length, entered-one}
 use Rattle.assembler.proofs.EntriesMean.{length_by, end_is, line-behind}
 

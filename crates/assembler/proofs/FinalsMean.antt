@@ -1,19 +1,18 @@
 -- The diagnostics of F are the language's.
 use mathlib.Core.Path.{◌≡◌, refl, sym, ap, subst, ◌∙◌}
 use mathlib.Core.Bool.{Bool, true, false, cond}
-use mathlib.Core.List.{List, [], ◌∷◌, ◌++◌, append-nil}
+use mathlib.Core.List.{List, [], ◌∷◌, ◌++◌}
 use mathlib.Core.Option.{Option, none, some}
-use Prim.Native.Nat.{ℕ, zero, suc, ◌+◌, ◌-◌, ◌≤◌, ◌<◌}
+use Prim.Native.Nat.{ℕ, suc, ◌+◌, ◌≤◌, ◌<◌}
 use native.Mathlib.Omega.{arith}
-use borrow.Author.Tests.{leb-true, lt-ltb, le-ltb, le-leb, lt-leb, eq-eqb, ne_eqb, ltb-true, ltb-false, eqb-true, eqb-false}
+use borrow.Author.Tests.{leb-true, lt-ltb, le-ltb, le-leb, ltb-true, eqb-true, eqb-false}
 use lib.Dec.{eqb, leb, ltb}
-use lib.ListN.{length, get_or, drop, set, length-set, get_or-replicate, drop_of_length-le}
+use lib.ListN.{length, get_or, drop, set, length-set, drop_of_length-le}
 use lib.Seq.{get_or-set_same, get_or-set_other}
 use Rattle.diag.proofs.Cases.{by_test_lem}
 use Rattle.diag.specs.declared.Span.{Span}
 use Rattle.diag.specs.declared.Diagnostic.{Diagnostic}
 use Rattle.diag.specs.Log.{error, with_related}
-use Rattle.lexer.specs.declared.Span.{Span as Place}
 use Rattle.lexer.specs.Tokens.{TokenKind, word, Token as Lexed}
 use Rattle.lexer.specs.Text.{same}
 use Rattle.lexer.specs.Places.{part, chars_at}
@@ -27,22 +26,22 @@ use Rattle.language.specs.Lines.{Item, machine_item, input_item, kind_item, outp
 use Rattle.language.specs.Assembly as A
 use Rattle.language.specs.Layout.{or_none}
 use Rattle.assembler.specs.Rows.{place_of}
-use Rattle.assembler.specs.Entries.{Entry, entry_at}
+use Rattle.assembler.specs.Entries.{Entry}
 use Rattle.assembler.specs.Names.{same_name}
 use Rattle.assembler.specs.Declarations.{declares, name_of, undeclared, declare, declarations}
 use Rattle.assembler.specs.Finals.{names_from, names_of, listed, unknown_error, final_error, final_errors, finals_errors}
-use Rattle.assembler.specs.Records.{place_in, record_of, records_of}
-use Rattle.assembler.proofs.Means.{number, ItemMeans, Means, AllMean, no_lines, one_line, records-append}
+use Rattle.assembler.specs.Records.{record_of, records_of}
+use Rattle.assembler.proofs.Means.{number, AllMean, no_lines, one_line, records-append}
 
 -- ---- a name in the row: a word of the text that stands at a token's place
-pub record NameIs (text : List ℕ) (w : Token) (l : Located Place (List ℕ)) : Type 0 where
-  pub token : Lexed Place
+pub record NameIs (text : List ℕ) (w : Token) (l : Located Span (List ℕ)) : Type 0 where
+  pub token : Lexed Span
   pub placed : Placed text token
   pub spelled : token.kind ≡ word l.value
   pub place : token.place ≡ l.place
   pub words : w ≡ token_of token
 
-module _ (text : List ℕ) (w : Token) (l : Located Place (List ℕ)) (n : NameIs text w l) where
+module _ (text : List ℕ) (w : Token) (l : Located Span (List ℕ)) (n : NameIs text w l) where
   name_inner : n.token.inner ≡ n.token.place
   name_inner = subst (λ (k : TokenKind). Shape k n.token.place n.token.inner) n.spelled n.placed.shape
 
@@ -51,13 +50,13 @@ module _ (text : List ℕ) (w : Token) (l : Located Place (List ℕ)) (n : NameI
 
   name-part : part text w.start w.end ≡ part text n.token.inner.start n.token.inner.end
   unfolding token_of
-  name-part = ap (λ (w : Token). part text w.start w.end) n.words ∙ ap (λ (p : Place). part text p.start p.end) (sym name_inner)
+  name-part = ap (λ (w : Token). part text w.start w.end) n.words ∙ ap (λ (p : Span). part text p.start p.end) (sym name_inner)
 
-  pub name-place : place_of w ≡ place_in l.place
+  pub name-place : place_of w ≡ l.place
   unfolding token_of
-  name-place = ap place_of n.words ∙ ap place_in n.place
+  name-place = ap place_of n.words ∙ n.place
 
-pub names_same : (text : List ℕ) (a b : Token) (x y : Located Place (List ℕ)) → NameIs text a x → NameIs text b y → same_name text a b ≡ same x.value y.value
+pub names_same : (text : List ℕ) (a b : Token) (x y : Located Span (List ℕ)) → NameIs text a x → NameIs text b y → same_name text a b ≡ same x.value y.value
 unfolding same_name
 names_same text a b x y m n =
     ap (λ (p : List ℕ). same p (part text b.start b.end)) (name-part text a x m) ∙ ap (same (part text m.token.inner.start m.token.inner.end)) (name-part text b y n)
@@ -65,34 +64,34 @@ names_same text a b x y m n =
     ∙ ap (λ (p : List ℕ). same p (chars_at text n.token.inner)) (name_chars text a x m) ∙ ap (same x.value) (name_chars text b y n)
 
 -- names at indices of the row
-pub data AllNames (text : List ℕ) (ts : List Token) : List ℕ → List (Located Place (List ℕ)) → Type 0 where
+pub data AllNames (text : List ℕ) (ts : List Token) : List ℕ → List (Located Span (List ℕ)) → Type 0 where
   no_names : AllNames text ts [] []
-  one_name : {j : ℕ} {js : List ℕ} {l : Located Place (List ℕ)} {ls : List (Located Place (List ℕ))} → NameIs text (peek ts j) l → AllNames text ts js ls → AllNames text ts (j ∷ js) (l ∷ ls)
+  one_name : {j : ℕ} {js : List ℕ} {l : Located Span (List ℕ)} {ls : List (Located Span (List ℕ))} → NameIs text (peek ts j) l → AllNames text ts js ls → AllNames text ts (j ∷ js) (l ∷ ls)
 
 module _ (text : List ℕ) (ts : List Token) where
-  names_snoc : (js : List ℕ) (ls : List (Located Place (List ℕ))) (j : ℕ) (l : Located Place (List ℕ)) → AllNames text ts js ls → NameIs text (peek ts j) l → AllNames text ts (js ++ j ∷ []) (ls ++ l ∷ [])
+  names_snoc : (js : List ℕ) (ls : List (Located Span (List ℕ))) (j : ℕ) (l : Located Span (List ℕ)) → AllNames text ts js ls → NameIs text (peek ts j) l → AllNames text ts (js ++ j ∷ []) (ls ++ l ∷ [])
   names_snoc [] [] j l no_names n = one_name n no_names
   names_snoc [] (x ∷ ls) j l m n = elim m [ ]
   names_snoc (k ∷ js) [] j l m n = elim m [ ]
   names_snoc (k ∷ js) (x ∷ ls) j l (one_name m r) n = one_name m (names_snoc js ls j l r n)
 
   -- where a name is listed first
-  abbrev ListedMeans : Option ℕ → Option Place → Type 0
+  abbrev ListedMeans : Option ℕ → Option Span → Type 0
   ListedMeans none none = Unit {0}
   ListedMeans none (some p) = ⊥
   ListedMeans (some j) none = ⊥
-  ListedMeans (some j) (some p) = place_of (peek ts j) ≡ place_in p
+  ListedMeans (some j) (some p) = place_of (peek ts j) ≡ p
 
-  module _ (x : ℕ) (f : Located Place (List ℕ)) (name : NameIs text (peek ts x) f) where
+  module _ (x : ℕ) (f : Located Span (List ℕ)) (name : NameIs text (peek ts x) f) where
     listed_by : (j : ℕ) (js : List ℕ) (b : Bool) → same_name text (peek ts j) (peek ts x) ≡ b → listed text ts x (j ∷ js) ≡ elim b [ true ↦ some j | false ↦ listed text ts x js ]
     unfolding listed
     listed_by j js b e = ap (λ (b : Bool). elim b [ true ↦ some j | false ↦ listed text ts x js ]) e
 
-    language_by : (l : Located Place (List ℕ)) (ls : List (Located Place (List ℕ))) (b : Bool) → same l.value f.value ≡ b → A.listed_at f.value (l ∷ ls) ≡ elim b [ true ↦ some l.place | false ↦ A.listed_at f.value ls ]
+    language_by : (l : Located Span (List ℕ)) (ls : List (Located Span (List ℕ))) (b : Bool) → same l.value f.value ≡ b → A.listed_at f.value (l ∷ ls) ≡ elim b [ true ↦ some l.place | false ↦ A.listed_at f.value ls ]
     unfolding A.listed_at
     language_by l ls b e = ap (λ (b : Bool). elim b [ true ↦ some l.place | false ↦ A.listed_at f.value ls ]) e
 
-    listed_mean : (js : List ℕ) (ls : List (Located Place (List ℕ))) → AllNames text ts js ls → ListedMeans (listed text ts x js) (A.listed_at f.value ls)
+    listed_mean : (js : List ℕ) (ls : List (Located Span (List ℕ))) → AllNames text ts js ls → ListedMeans (listed text ts x js) (A.listed_at f.value ls)
     unfolding listed A.listed_at
     listed_mean [] [] no_names = tt
     listed_mean [] (l ∷ ls) m = elim m [ ]
@@ -110,13 +109,13 @@ module _ (text : List ℕ) (ts : List Token) where
         rw (a, b) (listed_mean js ls r))
 
   -- Q, declared or not
-  abbrev pub StatesMean : Bool → List ℕ → Option (List (Located Place (List ℕ))) → Type 0
+  abbrev pub StatesMean : Bool → List ℕ → Option (List (Located Span (List ℕ))) → Type 0
   StatesMean d qs none = d ≡ false
   StatesMean d qs (some q) = (d ≡ true) × AllNames text ts qs q
 
   -- ---- one name of F
-  module _ (d : Bool) (qs : List ℕ) (q : Option (List (Located Place (List ℕ)))) (states : StatesMean d qs q) where
-    module _ (x : ℕ) (f : Located Place (List ℕ)) (name : NameIs text (peek ts x) f) where
+  module _ (d : Bool) (qs : List ℕ) (q : Option (List (Located Span (List ℕ)))) (states : StatesMean d qs q) where
+    module _ (x : ℕ) (f : Located Span (List ℕ)) (name : NameIs text (peek ts x) f) where
       unknown_by : (b : Bool) (o : Option ℕ) → d ≡ b → listed text ts x qs ≡ o → unknown_error text ts d qs x ≡ cond b (elim o [ some j ↦ [] | none ↦ error 3 (place_of (peek ts x)) ∷ [] ]) []
       unfolding unknown_error
       unknown_by b o e l =
@@ -131,17 +130,17 @@ module _ (text : List ℕ) (ts : List Token) where
       unfolding A.unknown_error records_of
       unknown_mean = go q states
         where
-          language : (q : List (Located Place (List ℕ))) (o : Option Place) → A.listed_at f.value q ≡ o → A.unknown_error (some q) f ≡ elim o [ some p ↦ [] | none ↦ A.diagnostic 3 f.place none ∷ [] ]
-          language q o e = ap (λ (o : Option Place). elim o [ some p ↦ [] | none ↦ A.diagnostic 3 f.place none ∷ [] ]) e
+          language : (q : List (Located Span (List ℕ))) (o : Option Span) → A.listed_at f.value q ≡ o → A.unknown_error (some q) f ≡ elim o [ some p ↦ [] | none ↦ A.diagnostic 3 f.place none ∷ [] ]
+          language q o e = ap (λ (o : Option Span). elim o [ some p ↦ [] | none ↦ A.diagnostic 3 f.place none ∷ [] ]) e
 
-          found : (q : List (Located Place (List ℕ))) (a : Option ℕ) (b : Option Place) → d ≡ true → listed text ts x qs ≡ a → A.listed_at f.value q ≡ b → ListedMeans a b
+          found : (q : List (Located Span (List ℕ))) (a : Option ℕ) (b : Option Span) → d ≡ true → listed text ts x qs ≡ a → A.listed_at f.value q ≡ b → ListedMeans a b
               → unknown_error text ts d qs x ≡ records_of (A.unknown_error (some q) f)
           found q none none y e g m = unknown_by true none y e ∙ ap (λ (x : Diagnostic). x ∷ []) missing ∙ ap records_of (sym (language q none g))
           found q none (some p) y e g m = absurd m
           found q (some j) none y e g m = absurd m
           found q (some j) (some p) y e g m = unknown_by true (some j) y e ∙ ap records_of (sym (language q (some p) g))
 
-          go : (q : Option (List (Located Place (List ℕ)))) → StatesMean d qs q → unknown_error text ts d qs x ≡ records_of (A.unknown_error q f)
+          go : (q : Option (List (Located Span (List ℕ)))) → StatesMean d qs q → unknown_error text ts d qs x ≡ records_of (A.unknown_error q f)
           go none m = unknown_by false (listed text ts x qs) m refl
           go (some q) m = found q (listed text ts x qs) (A.listed_at f.value q) m.0 refl refl (listed_mean x f name qs q m.1)
 
@@ -150,27 +149,27 @@ module _ (text : List ℕ) (ts : List Token) where
       unfolding final_error
       error_by before o e = ap (λ (o : Option ℕ). elim o [ some j ↦ with_related (error 11 (place_of (peek ts x))) (place_of (peek ts j)) ∷ [] | none ↦ unknown_error text ts d qs x ]) e
 
-      language_error : (before : List (Located Place (List ℕ))) (o : Option Place) → A.listed_at f.value before ≡ o
+      language_error : (before : List (Located Span (List ℕ))) (o : Option Span) → A.listed_at f.value before ≡ o
           → A.final_error q before f ≡ elim o [ some p ↦ A.diagnostic 11 f.place (some p) ∷ [] | none ↦ A.unknown_error q f ]
       unfolding A.final_error
-      language_error before o e = ap (λ (o : Option Place). elim o [ some p ↦ A.diagnostic 11 f.place (some p) ∷ [] | none ↦ A.unknown_error q f ]) e
+      language_error before o e = ap (λ (o : Option Span). elim o [ some p ↦ A.diagnostic 11 f.place (some p) ∷ [] | none ↦ A.unknown_error q f ]) e
 
-      again : (j : ℕ) (p : Place) → place_of (peek ts j) ≡ place_in p → with_related (error 11 (place_of (peek ts x))) (place_of (peek ts j)) ≡ record_of (A.diagnostic 11 f.place (some p))
+      again : (j : ℕ) (p : Span) → place_of (peek ts j) ≡ p → with_related (error 11 (place_of (peek ts x))) (place_of (peek ts j)) ≡ record_of (A.diagnostic 11 f.place (some p))
       unfolding record_of or_none
-      again j p m = ap (λ (a : Span). with_related (error 11 a) (place_of (peek ts j))) (name-place text (peek ts x) f name) ∙ ap (with_related (error 11 (place_in f.place))) m
+      again j p m = ap (λ (a : Span). with_related (error 11 a) (place_of (peek ts j))) (name-place text (peek ts x) f name) ∙ ap (with_related (error 11 f.place)) m
 
-      name_mean : (before : List ℕ) (listed_names : List (Located Place (List ℕ))) → AllNames text ts before listed_names → final_error text ts d qs before x ≡ records_of (A.final_error q listed_names f)
+      name_mean : (before : List ℕ) (listed_names : List (Located Span (List ℕ))) → AllNames text ts before listed_names → final_error text ts d qs before x ≡ records_of (A.final_error q listed_names f)
       unfolding records_of
       name_mean before ns all = go (listed text ts x before) (A.listed_at f.value ns) refl refl (listed_mean x f name before ns all)
         where
-          go : (a : Option ℕ) (b : Option Place) → listed text ts x before ≡ a → A.listed_at f.value ns ≡ b → ListedMeans a b → final_error text ts d qs before x ≡ records_of (A.final_error q ns f)
+          go : (a : Option ℕ) (b : Option Span) → listed text ts x before ≡ a → A.listed_at f.value ns ≡ b → ListedMeans a b → final_error text ts d qs before x ≡ records_of (A.final_error q ns f)
           go none none e g m = error_by before none e ∙ unknown_mean ∙ ap records_of (sym (language_error ns none g))
           go none (some p) e g m = absurd m
           go (some j) none e g m = absurd m
           go (some j) (some p) e g m = error_by before (some j) e ∙ ap (λ (x : Diagnostic). x ∷ []) (again j p m) ∙ ap records_of (sym (language_error ns (some p) g))
 
     -- ---- all names of F
-    names_mean : (before fs : List ℕ) (bs ls : List (Located Place (List ℕ))) → AllNames text ts before bs → AllNames text ts fs ls → final_errors text ts d qs before fs ≡ records_of (A.final_errors q bs ls)
+    names_mean : (before fs : List ℕ) (bs ls : List (Located Span (List ℕ))) → AllNames text ts before bs → AllNames text ts fs ls → final_errors text ts d qs before fs ≡ records_of (A.final_errors q bs ls)
     unfolding final_errors A.final_errors records_of
     names_mean before [] bs [] b no_names = refl
     names_mean before [] bs (f ∷ ls) b m = elim m [ ]
@@ -227,9 +226,9 @@ declare-length n first e = go (declares e.first) (ltb (get_or first (name_of e.f
 -- ---- the names of the first Q and the first F
 module _ (text : List ℕ) (ts : List Token) where
   abbrev Names : Type 0
-  Names = List (Located Place (List ℕ))
+  Names = List (Located Span (List ℕ))
 
-  abbrev pub NamesIn : Entry → Item Place → Type 0
+  abbrev pub NamesIn : Entry → Item Span → Type 0
   NamesIn e (states_item q) = AllNames text ts (names_from (suc e.at) e.rest) q
   NamesIn e (final_item q) = AllNames text ts (names_from (suc e.at) e.rest) q
   NamesIn e (machine_item x) = Unit {0}
@@ -244,17 +243,17 @@ module _ (text : List ℕ) (ts : List Token) where
   NamesIn e (transition_item x) = Unit {0}
 
   -- a part of an item that only the items of number k have: names
-  record Selects (k : ℕ) (part : A.Parts Place → Option Names) : Type 0 where
-    others : (i : Item Place) → (number i ≡ k → ⊥) → part (A.parts i) ≡ none
-    names : (i : Item Place) → number i ≡ k → Names
-    itself : (i : Item Place) (h : number i ≡ k) → part (A.parts i) ≡ some (names i h)
-    listed : (e : Entry) (i : Item Place) (h : number i ≡ k) → NamesIn e i → AllNames text ts (names_from (suc e.at) e.rest) (names i h)
+  record Selects (k : ℕ) (part : A.Parts Span → Option Names) : Type 0 where
+    others : (i : Item Span) → (number i ≡ k → ⊥) → part (A.parts i) ≡ none
+    names : (i : Item Span) → number i ≡ k → Names
+    itself : (i : Item Span) (h : number i ≡ k) → part (A.parts i) ≡ some (names i h)
+    listed : (e : Entry) (i : Item Span) (h : number i ≡ k) → NamesIn e i → AllNames text ts (names_from (suc e.at) e.rest) (names i h)
 
   selects_states : Selects 5 (λ p. p.states)
   unfolding number A.parts
   selects_states = record { others = others; names = names; itself = itself; listed = listed }
     where
-      others : (i : Item Place) → (number i ≡ 5 → ⊥) → (A.parts i).states ≡ none
+      others : (i : Item Span) → (number i ≡ 5 → ⊥) → (A.parts i).states ≡ none
       others (machine_item x) h = refl
       others (kind_item x) h = refl
       others (input_item x) h = refl
@@ -268,7 +267,7 @@ module _ (text : List ℕ) (ts : List Token) where
       others (final_item x) h = refl
       others (transition_item x) h = refl
 
-      names : (i : Item Place) → number i ≡ 5 → Names
+      names : (i : Item Span) → number i ≡ 5 → Names
       names (machine_item x) h = []
       names (kind_item x) h = []
       names (input_item x) h = []
@@ -282,7 +281,7 @@ module _ (text : List ℕ) (ts : List Token) where
       names (final_item x) h = []
       names (transition_item x) h = []
 
-      itself : (i : Item Place) (h : number i ≡ 5) → (A.parts i).states ≡ some (names i h)
+      itself : (i : Item Span) (h : number i ≡ 5) → (A.parts i).states ≡ some (names i h)
       itself (machine_item x) h = absurd (omega arith)
       itself (kind_item x) h = absurd (omega arith)
       itself (input_item x) h = absurd (omega arith)
@@ -296,7 +295,7 @@ module _ (text : List ℕ) (ts : List Token) where
       itself (final_item x) h = absurd (omega arith)
       itself (transition_item x) h = absurd (omega arith)
 
-      listed : (e : Entry) (i : Item Place) (h : number i ≡ 5) → NamesIn e i → AllNames text ts (names_from (suc e.at) e.rest) (names i h)
+      listed : (e : Entry) (i : Item Span) (h : number i ≡ 5) → NamesIn e i → AllNames text ts (names_from (suc e.at) e.rest) (names i h)
       listed e (machine_item x) h n = absurd (omega arith)
       listed e (kind_item x) h n = absurd (omega arith)
       listed e (input_item x) h n = absurd (omega arith)
@@ -314,7 +313,7 @@ module _ (text : List ℕ) (ts : List Token) where
   unfolding number A.parts
   selects_finals = record { others = others; names = names; itself = itself; listed = listed }
     where
-      others : (i : Item Place) → (number i ≡ 10 → ⊥) → (A.parts i).finals ≡ none
+      others : (i : Item Span) → (number i ≡ 10 → ⊥) → (A.parts i).finals ≡ none
       others (machine_item x) h = refl
       others (kind_item x) h = refl
       others (input_item x) h = refl
@@ -328,7 +327,7 @@ module _ (text : List ℕ) (ts : List Token) where
       others (final_item x) h = absurd (h refl)
       others (transition_item x) h = refl
 
-      names : (i : Item Place) → number i ≡ 10 → Names
+      names : (i : Item Span) → number i ≡ 10 → Names
       names (machine_item x) h = []
       names (kind_item x) h = []
       names (input_item x) h = []
@@ -342,7 +341,7 @@ module _ (text : List ℕ) (ts : List Token) where
       names (final_item x) h = x
       names (transition_item x) h = []
 
-      itself : (i : Item Place) (h : number i ≡ 10) → (A.parts i).finals ≡ some (names i h)
+      itself : (i : Item Span) (h : number i ≡ 10) → (A.parts i).finals ≡ some (names i h)
       itself (machine_item x) h = absurd (omega arith)
       itself (kind_item x) h = absurd (omega arith)
       itself (input_item x) h = absurd (omega arith)
@@ -356,7 +355,7 @@ module _ (text : List ℕ) (ts : List Token) where
       itself (final_item x) h = refl
       itself (transition_item x) h = absurd (omega arith)
 
-      listed : (e : Entry) (i : Item Place) (h : number i ≡ 10) → NamesIn e i → AllNames text ts (names_from (suc e.at) e.rest) (names i h)
+      listed : (e : Entry) (i : Item Span) (h : number i ≡ 10) → NamesIn e i → AllNames text ts (names_from (suc e.at) e.rest) (names i h)
       listed e (machine_item x) h n = absurd (omega arith)
       listed e (kind_item x) h n = absurd (omega arith)
       listed e (input_item x) h n = absurd (omega arith)
@@ -371,19 +370,19 @@ module _ (text : List ℕ) (ts : List Token) where
       listed e (transition_item x) h n = absurd (omega arith)
 
   -- the index where the search for the first such item ends
-  data Looked (start final : ℕ) : Option (Located Place Names) → Type 0 where
+  data Looked (start final : ℕ) : Option (Located Span Names) → Type 0 where
     absent : final ≡ start → Looked start final none
-    present : {l : Located Place Names} → final < length ts → AllNames text ts (names_of ts final) l.value → Looked start final (some l)
+    present : {l : Located Span Names} → final < length ts → AllNames text ts (names_of ts final) l.value → Looked start final (some l)
 
   names_of_lem : (a : ℕ) (rest : List Token) (l : Names) → rest ≡ drop (suc a) ts → AllNames text ts (names_from (suc a) rest) l → AllNames text ts (names_of ts a) l
   unfolding names_of
   names_of_lem a rest l e n = subst (λ (r : List Token). AllNames text ts (names_from (suc a) r) l) e n
 
-  looked_from : (start start' final : ℕ) (o : Option (Located Place Names)) → start ≡ start' → Looked start final o → Looked start' final o
+  looked_from : (start start' final : ℕ) (o : Option (Located Span Names)) → start ≡ start' → Looked start final o → Looked start' final o
   looked_from start start' final o e l = subst (λ (s : ℕ). Looked s final o) e l
 
-  module _ (X : Entry → Item Place → Type 0) (asks : (e : Entry) (i : Item Place) → X e i → NamesIn e i) (k : ℕ) (low : k < 11) (part : A.Parts Place → Option Names) (selects : Selects k part) where
-    first_by : (i : Located Place (Item Place)) (is : List (Located Place (Item Place))) (o : Option Names) → part (A.parts i.value) ≡ o
+  module _ (X : Entry → Item Span → Type 0) (asks : (e : Entry) (i : Item Span) → X e i → NamesIn e i) (k : ℕ) (low : k < 11) (part : A.Parts Span → Option Names) (selects : Selects k part) where
+    first_by : (i : Located Span (Item Span)) (is : List (Located Span (Item Span))) (o : Option Names) → part (A.parts i.value) ≡ o
         → A.first part (i ∷ is) ≡ elim o [ some a ↦ some (record { value = a; place = i.place }) | none ↦ A.first part is ]
     unfolding A.first
     first_by i is o e = ap (λ (o : Option Names). elim o [ some a ↦ some (record { value = a; place = i.place }) | none ↦ A.first part is ]) e
@@ -399,7 +398,7 @@ module _ (text : List ℕ) (ts : List Token) where
         (λ y. let z : ltb e.first.kind 27 ≡ true = rw y at h in (leb-true 16 e.first.kind y, ltb-true e.first.kind 27 z))
         (λ n. let z : false ≡ true = rw n at h in absurd (let o : ◌≡◌ {A = ℕ} 0 1 = cc in omega arith))
 
-    lookup : (first : List ℕ) (es : List Entry) (ls : List (Line Place)) → AllMean X ts es ls → length first ≡ 11 → ltb (get_or first k 0) (length ts) ≡ false
+    lookup : (first : List ℕ) (es : List Entry) (ls : List (Line Span)) → AllMean X ts es ls → length first ≡ 11 → ltb (get_or first k 0) (length ts) ≡ false
         → Looked (get_or first k 0) (get_or (declarations (length ts) first es) k 0) (A.first part (A.items ls))
     unfolding declarations A.items A.first
     lookup first [] [] no_lines s f = absent refl
@@ -418,19 +417,19 @@ module _ (text : List ℕ) (ts : List Token) where
         by_test_lem (eqb (number i) k)
         (λ y.
         let z : number i ≡ k = eqb-true (number i) k y in
-        let l : Located Place Names = record { value = selects.names i z; place = x } in
+        let l : Located Span Names = record { value = selects.names i z; place = x } in
         let lands_here : get_or (declare (length ts) first e) k 0 ≡ e.at = lands (length ts) k low first e s (declares-kind e (number i) m.kind (omega arith)) (omega (arith, m.kind)) f in
         let final : get_or (declarations (length ts) (declare (length ts) first e) es) k 0 ≡ e.at =
         all_stays (length ts) k low (declare (length ts) first e) es (ap (λ (m : ℕ). ltb m (length ts)) lands_here ∙ lt-ltb e.at (length ts) h) ∙ lands_here in
         let rest : e.rest ≡ drop (suc e.at) ts = ap (λ (e : Entry). e.rest) q in
         let all : AllNames text ts (names_of ts e.at) l.value = names_of_lem e.at e.rest l.value rest (selects.listed e i z (asks e i m.more)) in
-        subst (λ (o : Option (Located Place Names)). Looked (get_or first k 0) (get_or (declarations (length ts) (declare (length ts) first e) es) k 0) o)
+        subst (λ (o : Option (Located Span Names)). Looked (get_or first k 0) (get_or (declarations (length ts) (declare (length ts) first e) es) k 0) o)
         (sym (first_by (record { value = i; place = x }) (A.items ls) (some (selects.names i z)) (selects.itself i z)))
         (present (omega (arith, final)) (subst (λ (n : ℕ). AllNames text ts (names_of ts n) l.value) (sym final) all)))
         (λ n.
         let o : number i ≡ k → ⊥ = eqb-false (number i) k n in
         let p : get_or (declare (length ts) first e) k 0 ≡ get_or first k 0 = passes (length ts) k low first e (λ d z. o (omega (arith, m.kind))) in
-        subst (λ (w : Option (Located Place Names)). Looked (get_or first k 0) (get_or (declarations (length ts) (declare (length ts) first e) es) k 0) w)
+        subst (λ (w : Option (Located Span Names)). Looked (get_or first k 0) (get_or (declarations (length ts) (declare (length ts) first e) es) k 0) w)
         (sym (first_by (record { value = i; place = x }) (A.items ls) none (selects.others i o)))
         (looked_from _ _ _ _ p (lookup (declare (length ts) first e) es ls r (declare-length (length ts) first e ∙ s) (ap (λ (m : ℕ). ltb m (length ts)) p ∙ f))))
 
@@ -439,17 +438,17 @@ module _ (text : List ℕ) (ts : List Token) where
   unfolding names_of names_from
   no_such n h = ap (names_from (suc n)) (drop_of_length-le ts {i = suc n} (omega arith))
 
-  states_looked : (final : ℕ) (o : Option (Located Place Names)) → length ts ≤ 0xffffffff → Looked 0xffffffff final o → StatesMean text ts (ltb final (length ts)) (names_of ts final) (A.found o)
+  states_looked : (final : ℕ) (o : Option (Located Span Names)) → length ts ≤ 0xffffffff → Looked 0xffffffff final o → StatesMean text ts (ltb final (length ts)) (names_of ts final) (A.found o)
   unfolding A.found
   states_looked final none h (absent e) = le-ltb final (length ts) (omega arith)
   states_looked final (some l) h (present g all) = (lt-ltb final (length ts) g, all)
 
-  finals_looked : (final : ℕ) (o : Option (Located Place Names)) → length ts ≤ 0xffffffff → Looked 0xffffffff final o → AllNames text ts (names_of ts final) (A.or_else (A.found o) [])
+  finals_looked : (final : ℕ) (o : Option (Located Span Names)) → length ts ≤ 0xffffffff → Looked 0xffffffff final o → AllNames text ts (names_of ts final) (A.or_else (A.found o) [])
   unfolding A.found A.or_else
   finals_looked final none h (absent e) = subst (λ (l : List ℕ). AllNames text ts l []) (sym (no_such final (omega arith))) no_names
   finals_looked final (some l) h (present g all) = all
 
-  pub finals_mean : (X : Entry → Item Place → Type 0) → ((e : Entry) (i : Item Place) → X e i → NamesIn e i) → length ts ≤ 0xffffffff → (es : List Entry) (ls : List (Line Place)) → AllMean X ts es ls
+  pub finals_mean : (X : Entry → Item Span → Type 0) → ((e : Entry) (i : Item Span) → X e i → NamesIn e i) → length ts ≤ 0xffffffff → (es : List Entry) (ls : List (Line Span)) → AllMean X ts es ls
       → finals_errors text ts (declarations (length ts) undeclared es) ≡ records_of (A.final_errors (A.states_in (A.items ls)) [] (A.finals_in (A.items ls)))
   unfolding finals_errors A.states_in A.finals_in
   finals_mean X asks h es ls all =

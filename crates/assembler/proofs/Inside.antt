@@ -1,26 +1,24 @@
 -- What the line parser answers lies in the row: codes are small, counts and indices at most the number of tokens.
-use Rattle.parser.specs.declared.Code.{Code}
-use Rattle.parser.specs.declared.Code.TheVariants.{Unexpected, UnterminatedString, NoDirection}
+use Rattle.diag.specs.declared.Code.{Code}
+use Rattle.diag.specs.declared.Code.TheVariants.{Unexpected, UnterminatedString, UnknownName, NoDirection, TooLarge, WrongArity, Duplicate}
 use Rattle.std.specs.Prelude.{Err, None, Option, Some}
 use mathlib.Core.Path.{◌≡◌, refl, sym, ap, subst, ◌∙◌}
 use mathlib.Core.Bool.{Bool, true, false, cond}
 use mathlib.Core.List.{List, [], ◌∷◌}
-use Prim.Native.Nat.{ℕ, zero, suc, ◌+◌, ◌-◌, ◌≤◌, ◌<◌}
+use Prim.Native.Nat.{ℕ, zero, suc, ◌+◌, ◌≤◌, ◌<◌}
 use native.Mathlib.Omega.{arith}
-use borrow.Author.Tests.{eqb-true, ltb-true, ltb-false, eq-eqb, ne_eqb}
+use borrow.Author.Tests.{eqb-true, ltb-true, ltb-false, ne_eqb}
 use native.Mathlib.Nat.{le_of_suc-le-suc}
 use lib.Dec.{eqb, ltb}
-use lib.ListN.{length, drop}
+use lib.ListN.{length}
 use Rattle.tokens.specs.declared.Token.{Token}
-use Rattle.lexer.specs.declared.Span.{Span}
 use Rattle.parser.specs.declared.Parts.{Parts}
 use Rattle.parser.specs.declared.ItemKind.{ItemKind}
 use Rattle.parser.specs.declared.ItemKind.TheVariants.{Machine, Kind, Input, Output, Tapes, States, InputAlphabet, TapeAlphabet, Blank, Start, Final, Transition}
-use Rattle.parser.specs.declared.Lead.{Lead}
-use Rattle.parser.specs.declared.Lead.TheVariants.{Equals, Nothing, Whole}
+use Rattle.parser.specs.declared.Lead.TheVariants.{Equals}
 use Rattle.parser.specs.declared.Item.{Item}
 use Rattle.diag.proofs.Cases.{by_test_lem}
-use Rattle.parser.specs.Row.{peek, ended}
+use Rattle.parser.specs.Row.{peek}
 use Rattle.parser.specs.Views.{is_kind, is_choice, is_state, is_symbol, is_write, is_direction, is_text, keyword_of, lead_of}
 use Rattle.parser.specs.Lines.{Parsed, Done, Answer, Empty, Comment, Read, Parser, then, code_of, unexpected, one, direction, separator, entries_from, entries, set, tuple, read_entry, output, side, equals, left_parts, no_parts, left, right, transition, plain, value, newline_at, finish, value_at, item_of, item_from, item, is_comment, line, line_length, line_end, code_number}
 use Rattle.parser.proofs.Laws.{inside}
@@ -82,7 +80,7 @@ solid_direction t e =
 -- ---- a parser's answer: no more entries than the index behind them, no line feed among them, and a code that fits an entry
 abbrev pub Fair : List Token → ℕ → Parsed ℕ → Type 0
 Fair ts i (Done j n) = (n ≤ j) × Free ts i j
-Fair ts i (Err bad) = code_number bad.code ≤ 8
+Fair ts i (Err bad) = code_number bad.code ≤ 11
 
 pub record Fairly (p : Parser) : Type 0 where
   pub fair : (ts : List Token) (i : ℕ) → Fair ts i (p ts i)
@@ -92,11 +90,15 @@ fair_from : (ts : List Token) (i j : ℕ) (r : Parsed ℕ) → Free ts i j → F
 fair_from ts i j (Done k n) f h = (h.0, free_on ts i j k f h.1)
 fair_from ts i j (Err bad) f h = h
 
-code_low : (c : Code) → code_number c ≤ 8
+code_low : (c : Code) → code_number c ≤ 11
 unfolding code_number
 code_low Unexpected = omega arith
 code_low UnterminatedString = omega arith
+code_low UnknownName = omega arith
 code_low NoDirection = omega arith
+code_low TooLarge = omega arith
+code_low WrongArity = omega arith
+code_low Duplicate = omega arith
 
 unexpected_fair : (ts : List Token) (i : ℕ) (t : Token) → Fair ts i (Err (unexpected t))
 unfolding unexpected
@@ -244,7 +246,7 @@ equals_done ts i j n e =
 -- ---- the value of an item: where it fails the code fits, where it ends a property holds
 abbrev Gives : (ℕ → Parts → Type 0) → Parsed Parts → Type 0
 Gives Q (Done j q) = Q j q
-Gives Q (Err bad) = code_number bad.code ≤ 8
+Gives Q (Err bad) = code_number bad.code ≤ 11
 
 on_gives : (Q : ℕ → Parts → Type 0) (ts : List Token) (i : ℕ) (r : Parsed ℕ) (f : ℕ → ℕ → Parsed Parts) → Fair ts i r → ((j n : ℕ) → r ≡ Done j n → Gives Q (f j n)) → Gives Q (then r f)
 unfolding then
@@ -435,7 +437,7 @@ abbrev pub LineIn : List Token → Answer → Type 0
 LineIn ts Empty = eqb (peek ts 0).kind 13 ≡ true
 LineIn ts (Comment i) = (eqb (peek ts 0).kind 12 ≡ true) × (eqb (peek ts 1).kind 13 ≡ true)
 LineIn ts (Read x) = ItemIn ts x
-LineIn ts (Err bad) = code_number bad.code ≤ 8
+LineIn ts (Err bad) = code_number bad.code ≤ 11
 
 -- the first line feed
 feed_at : (ts : List Token) (n : ℕ) → n ≤ length ts → Free ts 0 n → eqb (peek ts n).kind 13 ≡ true → line_length ts ≡ n

@@ -12,6 +12,7 @@ pub mod LineLaws
 pub mod EnteredLaws
 pub mod MarkLaws
 pub mod FinalLaws
+pub mod PartLaws
 pub mod Means
 pub mod RulesMean
 pub mod FinalsMean

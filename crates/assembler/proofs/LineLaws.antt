@@ -1,9 +1,8 @@
 -- Laws of the pass that enters the lines.
 use Rattle.std.specs.Prelude.{Err}
 use mathlib.Core.Path.{◌≡◌, refl, sym, ap, subst, ◌∙◌}
-use mathlib.Core.Bool.{Bool, true, false, cond}
-use mathlib.Core.List.{List, [], ◌∷◌, ◌++◌}
-use Prim.Native.Nat.{ℕ, zero, suc, ◌+◌, ◌-◌, ◌*◌, ◌≤◌, ◌<◌}
+use mathlib.Core.List.{List, ◌++◌}
+use Prim.Native.Nat.{ℕ, ◌+◌, ◌-◌, ◌*◌, ◌≤◌, ◌<◌}
 use native.Mathlib.Omega.{arith}
 use Prim.Native.Nat.{◌^◌}
 use mir.Syntax.{w32, w64}
@@ -12,30 +11,19 @@ use lib.ListN.{length, take, drop, set, length-drop, length-set, take-append-dro
 use lib.Seq.{sets, length-sets, drop-set-add, take-set-le}
 use Rattle.lexer.specs.Words.{onto}
 use Rattle.tokens.specs.declared.Token.{Token}
-use Rattle.lexer.specs.declared.Span.{Span}
 use Rattle.parser.specs.declared.Parts.{Parts}
 use Rattle.parser.specs.declared.ItemKind.{ItemKind}
 use Rattle.parser.specs.declared.ItemKind.TheVariants.{Machine, Kind, Input, Output, Tapes, States, InputAlphabet, TapeAlphabet, Blank, Start, Final, Transition}
 use Rattle.parser.specs.declared.Item.{Item}
-use Rattle.parser.specs.Row.{tokens_in}
 use Rattle.parser.specs.declared.Failure.{Failure}
 use Rattle.parser.specs.Lines.{Answer, Empty, Comment, Read, line, line_end, code_number}
 use Rattle.assembler.specs.Rows.{rows}
 use Rattle.assembler.specs.Entered.{words_of, flat, item_number, item_entry, failed_entry, counts_of, parts_of, PartsFit, with_parts, enter_as, enter_line, enter_at}
 use Rattle.assembler.proofs.Rows.{length-rows}
-use Rattle.assembler.proofs.RowWords.{part-tokens, rows-onto, onto-rows, onto-onto, put-onto}
+use Rattle.assembler.proofs.RowWords.{rows-onto, onto-rows, onto-onto, put-onto}
 use Rattle.assembler.proofs.Inside.{PartsIn, ItemIn, LineIn, line_in, line_end_in}
 
 -- ---- the parts that functions take
-pub number_by : (k x : ItemKind) (n : ℕ) → k ≡ x → n ≡ item_number x → n ≡ item_number k
-number_by k x n e h = h ∙ ap item_number (sym e)
-
-pub line_part : (n i : ℕ) (w : List ℕ) (l : Answer) → 4 * n ≤ length w → i < n → l ≡ line (tokens_in (take (4 * n - 4 * i) (drop (4 * i) w))) 0 → l ≡ line (drop i (rows n w)) 0
-line_part n i w l h g e = e ∙ ap (λ (ts : List Token). line ts 0) (part-tokens n i w h (omega arith))
-
-pub size-part : (n i : ℕ) (w : List ℕ) (l : ℕ) → 4 * n ≤ length w → i < n → l ≡ line_end (tokens_in (take (4 * n - 4 * i) (drop (4 * i) w))) 0 → l ≡ line_end (drop i (rows n w)) 0
-size-part n i w l h g e = e ∙ ap (λ (ts : List Token). line_end ts 0) (part-tokens n i w h (omega arith))
-
 -- ---- stores in a row
 -- a store behind the first i tokens
 behind-first : (ts : List Token) (i k : ℕ) (t : Token) → take i ts ++ set (drop i ts) k t ≡ set ts (i + k) t
@@ -58,9 +46,9 @@ room_after n i w v t e = ap length e ∙ length-sets w (4 * i) (words_of t)
 put_more : (n i k : ℕ) (w v u : List ℕ) (a : List Token) (t : Token) → 4 * n ≤ length w → i < n → length a ≡ n → v ≡ onto (flat a) w → u ≡ sets v (4 * i) (words_of t) → u ≡ onto (flat (set a i t)) w
 put_more n i k w v u a t h l e p q = q ∙ ap (λ (x : List ℕ). sets x (4 * i) (words_of t)) p ∙ put-onto a w i t (omega arith)
 
-pub parts-put : (n i : ℕ) (w v u : List ℕ) (q : Parts) → 4 * n ≤ length w → i + 3 < n → v ≡ sets w (4 * (i + 1)) (words_of (counts_of q)) → u ≡ sets v (4 * (i + 3)) (words_of (parts_of i q))
+pub parts_put : (n i : ℕ) (w v u : List ℕ) (q : Parts) → 4 * n ≤ length w → i + 3 < n → v ≡ sets w (4 * (i + 1)) (words_of (counts_of q)) → u ≡ sets v (4 * (i + 3)) (words_of (parts_of i q))
     → u ≡ onto (flat (set (set (rows n w) (i + 1) (counts_of q)) (i + 3) (parts_of i q))) w
-parts-put n i w v u q h l e d =
+parts_put n i w v u q h l e d =
     put_more n (i + 3) 0 w v u (set (rows n w) (i + 1) (counts_of q)) (parts_of i q) h l (length-set (rows n w) (i + 1) (counts_of q) ∙ length-rows n w h)
     (put_row n (i + 1) w v (counts_of q) h (omega arith) e) d
 
@@ -88,6 +76,8 @@ pub entry_of : (i m : ℕ) (x : Item) (w v : List ℕ) → m ≡ item_number x.k
 unfolding item_entry
 entry_of i m x w v e s = rw (← e) s
 
+pub ruleset items = (number_fits, entry_of)
+
 number-rule : (k : ItemKind) → item_number k ≡ 11 → k ≡ Transition
 unfolding item_number
 number-rule Machine e = absurd (omega arith)
@@ -102,6 +92,13 @@ number-rule Blank e = absurd (omega arith)
 number-rule Start e = absurd (omega arith)
 number-rule Final e = absurd (omega arith)
 number-rule Transition e = refl
+
+pub rule_number : (k : ItemKind) → k ≡ Transition → item_number k ≡ 11
+unfolding item_number
+rule_number k e = ap item_number e
+
+pub other_number : (k : ItemKind) → (k ≡ Transition → ⊥) → item_number k ≡ 11 → ⊥
+other_number k h e = h (number-rule k e)
 
 -- only a rule has parts
 pub parts-other : (k : ItemKind) (i : ℕ) (q : Parts) (ts : List Token) → (item_number k ≡ 11 → ⊥) → with_parts k i q ts ≡ ts
@@ -201,7 +198,7 @@ module _ (n i : ℕ) (w : List ℕ) (room : 4 * n ≤ length w) (low : i < n) (f
   -- of a failure
   module _ (bad : Failure) (read : line (drop i (rows n w)) 0 ≡ Err bad) where
     pub code_fits : Fits w32 (32 + code_number bad.code)
-    code_fits = let z : code_number bad.code ≤ 8 = subst (LineIn rest) read (line_in rest) in record { fits = omega arith }
+    code_fits = let z : code_number bad.code ≤ 11 = subst (LineIn rest) read (line_in rest) in record { fits = omega arith }
 
     module _ (m : ℕ) (size : m ≡ line_end (drop i (rows n w)) 0) where
       pub size-sum : Fits w64 (i + m)
@@ -237,3 +234,7 @@ module _ (n i : ℕ) (w : List ℕ) (l : Answer) (read : l ≡ line (drop i (row
 
   pub line_is : (x : Answer) → l ≡ x → line (drop i (rows n w)) 0 ≡ x
   line_is x e = sym read ∙ e
+
+pub ruleset failures = (code_fits, size-sum, size_fits)
+
+pub ruleset nothing = (blank_entered, comment-entered)

@@ -6,18 +6,19 @@ use mathlib.Core.Option.{Option, none, some}
 use Prim.Native.Nat.{ℕ, ◌+◌, ◌-◌, ◌≤◌, ◌<◌}
 use native.Mathlib.Omega.{arith}
 use borrow.Author.Tests.{eq-eqb, ne_eqb}
-use borrow.Rule.Slice.PartMut.{mid_of, post_of, put_mid, same_len_mid, mid_len, take_put}
 use lib.Dec.{eqb}
 use lib.ListN.{length, get_or, take, set, replicate, length-set, length-replicate, get_or-replicate, get_or-append}
-use lib.Seq.{get_or-append-add, get_or-take, get_or-set_same, get_or-set_other, take-set-le, length-take-le}
+use lib.Seq.{get_or-take, get_or-set_same, get_or-set_other, take-set-le, length-take-le}
 use Rattle.diag.proofs.Cases.{by_test_lem}
-use Rattle.diag.specs.Log.{error, with_related, Log, appended, append_all}
+use Rattle.diag.specs.Log.{error, with_related}
 use Rattle.lexer.specs.Text.{same}
 use Rattle.tokens.specs.declared.Token.{Token}
 use Rattle.parser.specs.Row.{peek}
 use Rattle.assembler.specs.Rows.{rows, place_of}
 use Rattle.assembler.specs.Names.{same_name, is_word, first_equal}
-use Rattle.assembler.specs.Finals.{listed, unknown_error, final_error, mark_by, mark_of, Marks, Interned, Laid, Kept}
+use Rattle.assembler.specs.Finals.{listed, unknown_error, final_error, mark_by, mark_of, Interned, Laid, Kept}
+use Rattle.assembler.specs.declared.finals.Names.{Names}
+use Rattle.assembler.specs.Marked.{row_of, Marked}
 pub use Rattle.equal_names.proofs.NameLaws.{part_of, name-part, part-name, first_low, first_part, first-same, kept_refl, kept_trans}
 use Rattle.equal_names.proofs.NameLaws.{kept-rows}
 use Rattle.assembler.proofs.Rows.{length-rows}
@@ -131,9 +132,6 @@ module _ (text : List ℕ) (count a b : ℕ) (w : List ℕ) (laid : Laid count a
     here : get_or w (a + i) 0 ≡ first_equal text (peek row i) 0 row
     here = names.interned i (omega (arith, row_length)) word
 
-    pub word-inside : a + i < length w
-    word-inside = omega (arith, laid.words, laid.marks)
-
     pub mark-inside : b + get_or w (a + i) 0 < length w
     mark-inside = omega (arith, here, first_low text row i (omega (arith, row_length)) word, row_length, laid.marks)
 
@@ -142,118 +140,118 @@ module _ (text : List ℕ) (count a b : ℕ) (w : List ℕ) (laid : Laid count a
       kept : Kept b w v
       kept = kept_set b (get_or w (a + i) 0) m w v stored
 
-      pub marks_set : (old new : ℕ → ℕ) → ((x : ℕ) → x < length row → is_word (peek row x) ≡ true → get_or w (b + get_or w (a + x) 0) 0 ≡ old x)
-          → ((x : ℕ) → part_of text (peek row i) ≡ part_of text (peek row x) → new x ≡ m) → ((x : ℕ) → same_name text (peek row i) (peek row x) ≡ false → new x ≡ old x)
-          → (x : ℕ) → x < length row → is_word (peek row x) ≡ true → get_or v (b + get_or v (a + x) 0) 0 ≡ new x
-      marks_set old new was equal other x h e =
-          let at : get_or v (a + x) 0 ≡ first_equal text (peek row x) 0 row = kept_word count a b w v laid kept x (omega (arith, row_length)) ∙ names.interned x h e in
-          let at' : get_or w (a + x) 0 ≡ first_equal text (peek row x) 0 row = names.interned x h e in
-          let from : get_or v (b + get_or v (a + x) 0) 0 ≡ get_or (set w (b + get_or w (a + i) 0) m) (b + get_or w (a + x) 0) 0 =
-          ap (λ (k : ℕ). get_or v (b + k) 0) (at ∙ sym at') ∙ ap (λ (r : List ℕ). get_or r (b + get_or w (a + x) 0) 0) stored in
-          by_test_lem (same_name text (peek row i) (peek row x))
+-- ---- marks in a row of their own
+module _ (names : Names) where
+  abbrev text' : List ℕ
+  text' = names.text.now
+
+  abbrev ts' : List Token
+  ts' = row_of names
+
+  abbrev firsts' : List ℕ
+  firsts' = names.firsts.now
+
+  pub size_of : length (row_of names) ≡ names.tokens.count
+  size_of = length-rows names.tokens.count names.tokens.words.now names.tokens.within
+
+  module _ (i : ℕ) (low : i < names.tokens.count) (word : is_word (peek (row_of names) i) ≡ true) where
+    first_here : get_or firsts' i 0 ≡ first_equal text' (peek ts' i) 0 ts'
+    first_here = names.interned.first i low word
+
+    pub mark_inside : (marks : List ℕ) → names.tokens.count ≤ length marks → get_or names.firsts.now i 0 < length marks
+    mark_inside marks room = omega (arith, first_here, first_low text' ts' i (omega (arith, size_of)) word, size_of)
+
+    module _ (marks : List ℕ) (room : names.tokens.count ≤ length marks) where
+      -- the marks after the name at i was marked with m
+      marks_put : (m : ℕ) (old new : ℕ → ℕ) → ((x : ℕ) → x < length ts' → is_word (peek ts' x) ≡ true → get_or marks (get_or firsts' x 0) 0 ≡ old x)
+          → ((x : ℕ) → part_of text' (peek ts' i) ≡ part_of text' (peek ts' x) → new x ≡ m) → ((x : ℕ) → same_name text' (peek ts' i) (peek ts' x) ≡ false → new x ≡ old x)
+          → (x : ℕ) → x < length ts' → is_word (peek ts' x) ≡ true → get_or (set marks (get_or firsts' i 0) m) (get_or firsts' x 0) 0 ≡ new x
+      marks_put m old new was equal other x h e =
+          let at : get_or firsts' x 0 ≡ first_equal text' (peek ts' x) 0 ts' = names.interned.first x (omega (arith, size_of)) e in
+          by_test_lem (same_name text' (peek ts' i) (peek ts' x))
           (λ s.
-          let p : part_of text (peek row i) ≡ part_of text (peek row x) = name-part text (peek row i) (peek row x) s in
-          let k : get_or w (a + x) 0 ≡ get_or w (a + i) 0 = at' ∙ sym (here ∙ first-same text (peek row i) (peek row x) 0 row p) in
-          from ∙ ap (λ (k : ℕ). get_or (set w (b + get_or w (a + i) 0) m) (b + k) 0) k ∙ get_or-set_same w (b + get_or w (a + i) 0) m 0 mark-inside ∙ sym (equal x p))
+          let p : part_of text' (peek ts' i) ≡ part_of text' (peek ts' x) = name-part text' (peek ts' i) (peek ts' x) s in
+          let k : get_or firsts' x 0 ≡ get_or firsts' i 0 = at ∙ sym (first_here ∙ first-same text' (peek ts' i) (peek ts' x) 0 ts' p) in
+          ap (λ (k : ℕ). get_or (set marks (get_or firsts' i 0) m) k 0) k ∙ get_or-set_same marks (get_or firsts' i 0) m 0 (mark_inside marks room) ∙ sym (equal x p))
           (λ s.
-          let apart : b + get_or w (a + x) 0 ≡ b + get_or w (a + i) 0 → ⊥ = λ z.
-          let k : first_equal text (peek row x) 0 row ≡ first_equal text (peek row i) 0 row = omega (arith, at', here) in
-          let p : part_of text (peek row i) ≡ part_of text (peek row x) =
-          sym (first_part text row i (omega (arith, row_length)) word) ∙ ap (λ (k : ℕ). part_of text (peek row k)) (sym k) ∙ first_part text row x h e in
-          let z : ◌≡◌ {A = ℕ} 0 1 = (let t = part-name text (peek row i) (peek row x) p in cc) in omega arith in
-          from ∙ get_or-set_other w (b + get_or w (a + i) 0) (b + get_or w (a + x) 0) m 0 apart ∙ was x h e ∙ sym (other x s))
+          let apart : get_or firsts' x 0 ≡ get_or firsts' i 0 → ⊥ = λ z.
+          let k : first_equal text' (peek ts' x) 0 ts' ≡ first_equal text' (peek ts' i) 0 ts' = omega (arith, at, first_here) in
+          let p : part_of text' (peek ts' i) ≡ part_of text' (peek ts' x) =
+          sym (first_part text' ts' i (omega (arith, size_of)) word) ∙ ap (λ (k : ℕ). part_of text' (peek ts' k)) (sym k) ∙ first_part text' ts' x h e in
+          let z : ◌≡◌ {A = ℕ} 0 1 = (let t = part-name text' (peek ts' i) (peek ts' x) p in cc) in omega arith in
+          get_or-set_other marks (get_or firsts' i 0) (get_or firsts' x 0) m 0 apart ∙ was x h e ∙ sym (other x s))
 
       -- one of Q's names
-      pub state-marked : (qs : List ℕ) → m ≡ 1 → Marks text row a b w qs [] → Marks text row a b v (qs ++ i ∷ []) []
-      state-marked qs one p = record {
-        marks = marks_set (mark_of text row qs []) (mark_of text row (qs ++ i ∷ []) []) (λ x h e. p.marks x h e) (λ x q. mark_state text row qs x i q ∙ sym one) (λ x s. mark_no_state text row qs x i s);
+      pub state-marked : (qs : List ℕ) → Marked names marks qs [] → Marked names (set marks (get_or names.firsts.now i 0) 1) (qs ++ i ∷ []) []
+      state-marked qs p = record {
+        marks-at = marks_put 1 (mark_of text' ts' qs []) (mark_of text' ts' (qs ++ i ∷ []) []) (λ x h e. p.marks-at x h e) (λ x q. mark_state text' ts' qs x i q) (λ x s. mark_no_state text' ts' qs x i s);
       }
 
-      -- a name that F lists for the first time
-      pub name-marked : (qs before : List ℕ) → m ≡ i + 2 → listed text row i before ≡ none → Marks text row a b w qs before → Marks text row a b v qs (before ++ i ∷ [])
-      name-marked qs before two new p = record {
-        marks = marks_set (mark_of text row qs before) (mark_of text row qs (before ++ i ∷ [])) (λ x h e. p.marks x h e) (λ x q. mark-listed text row qs before x i new q ∙ sym two)
-            (λ x s. mark-other text row qs before x i s);
-      }
+      -- what the mark of the name at i says
+      module _ (m : ℕ) (mark : m ≡ get_or marks (get_or names.firsts.now i 0) 0) (qs before : List ℕ) (p : Marked names marks qs before) where
+        mark_is : m ≡ mark_of text' ts' qs before i
+        mark_is = mark ∙ p.marks-at i (omega (arith, size_of)) word
 
-    -- what the mark of the name at i says
-    module _ (m : ℕ) (mark : m ≡ get_or w (b + get_or w (a + i) 0) 0) (qs before : List ℕ) (p : Marks text row a b w qs before) where
-      mark_is : m ≡ mark_of text row qs before i
-      mark_is = mark ∙ p.marks i (omega (arith, row_length)) word
-
-      -- it was listed before
-      mark_high : 2 ≤ m → listed text row i before ≡ some (m - 2)
-      unfolding mark_of mark_by
-      mark_high h = go (listed text row i before) (listed text row i qs) mark_is
-        where
-          go : (o q : Option ℕ) → m ≡ mark_by o q → o ≡ some (m - 2)
-          go (some j) q e = ap some (omega arith)
-          go none (some k) e = absurd (omega arith)
-          go none none e = absurd (omega arith)
-
-      mark_low : m < 2 → listed text row i before ≡ none
-      unfolding mark_of mark_by
-      mark_low h = go (listed text row i before) (listed text row i qs) mark_is
-        where
-          go : (o q : Option ℕ) → m ≡ mark_by o q → o ≡ none
-          go (some j) q e = absurd (omega arith)
-          go none q e = refl
-
-      pub again_marks : 2 ≤ m → Marks text row a b w qs (before ++ i ∷ [])
-      again_marks h = record { marks = λ x g e. p.marks x g e ∙ sym (mark_again text row qs before x i (m - 2) (mark_high h)) }
-
-      pub first_marks : (v : List ℕ) → m < 2 → v ≡ set w (b + get_or w (a + i) 0) (i + 2) → Marks text row a b v qs (before ++ i ∷ [])
-      first_marks v h e = name-marked (i + 2) v e qs before refl (mark_low h) p
-
-      module _ (t : Token) (at : t ≡ peek row i) (d : Bool) (l l' : Log) where
-        pub final_again : (f : ℕ) → 2 ≤ m → f ≡ m - 2 → l' ≡ appended l (with_related (error 11 (place_of t)) (place_of (peek row f))) → l' ≡ append_all l (final_error text row d qs before i)
-        unfolding final_error append_all
-        final_again f h e q =
-            let o : listed text row i before ≡ some f = mark_high h ∙ ap some (sym e) in
-            q ∙ ap (λ (t : Token). appended l (with_related (error 11 (place_of t)) (place_of (peek row f)))) at
-            ∙ sym (ap (λ (o : Option ℕ). append_all l (elim o [ some j ↦ with_related (error 11 (place_of (peek row i))) (place_of (peek row j)) ∷ [] | none ↦ unknown_error text row d qs i ])) o)
-
-        unknown_is : m < 2 → unknown_error text row d qs i ≡ cond (cond d (eqb m 0) false) (error 3 (place_of (peek row i)) ∷ []) []
-        unfolding unknown_error mark_of mark_by
-        unknown_is h = go d (listed text row i qs) (mark_is ∙ ap (λ (o : Option ℕ). mark_by o (listed text row i qs)) (mark_low h))
+        -- it was listed before
+        mark_high : 2 ≤ m → listed text' ts' i before ≡ some (m - 2)
+        unfolding mark_of mark_by
+        mark_high h = go (listed text' ts' i before) (listed text' ts' i qs) mark_is
           where
-            go : (d : Bool) (q : Option ℕ) → m ≡ mark_by none q
-                → cond d (elim q [ some j ↦ [] | none ↦ error 3 (place_of (peek row i)) ∷ [] ]) [] ≡ cond (cond d (eqb m 0) false) (error 3 (place_of (peek row i)) ∷ []) []
-            go true (some j) e = rw (ne_eqb m 0 (omega arith))
-            go true none e = rw (eq-eqb m 0 e)
-            go false q e = refl
+            go : (o q : Option ℕ) → m ≡ mark_by o q → o ≡ some (m - 2)
+            go (some j) q e = ap some (omega arith)
+            go none (some k) e = absurd (omega arith)
+            go none none e = absurd (omega arith)
 
-        pub final-first : m < 2 → l' ≡ append_all l (cond (cond d (eqb m 0) false) (error 3 (place_of t) ∷ []) []) → l' ≡ append_all l (final_error text row d qs before i)
-        unfolding final_error
-        final-first h q =
-            q ∙ ap (λ (t : Token). append_all l (cond (cond d (eqb m 0) false) (error 3 (place_of t) ∷ []) [])) at ∙ ap (append_all l) (sym (unknown_is h))
-            ∙ sym (ap (λ (o : Option ℕ). append_all l (elim o [ some j ↦ with_related (error 11 (place_of (peek row i))) (place_of (peek row j)) ∷ [] | none ↦ unknown_error text row d qs i ])) (mark_low h))
+        mark_low : m < 2 → listed text' ts' i before ≡ none
+        unfolding mark_of mark_by
+        mark_low h = go (listed text' ts' i before) (listed text' ts' i qs) mark_is
+          where
+            go : (o q : Option ℕ) → m ≡ mark_by o q → o ≡ none
+            go (some j) q e = absurd (omega arith)
+            go none q e = refl
+
+        pub again_marks : 2 ≤ m → Marked names marks qs (before ++ i ∷ [])
+        again_marks h = record { marks-at = λ x g e. p.marks-at x g e ∙ sym (mark_again text' ts' qs before x i (m - 2) (mark_high h)) }
+
+        -- a name that F lists for the first time
+        pub first_marks : m < 2 → Marked names (set marks (get_or names.firsts.now i 0) (i + 2)) qs (before ++ i ∷ [])
+        first_marks h = record {
+          marks-at = marks_put (i + 2) (mark_of text' ts' qs before) (mark_of text' ts' qs (before ++ i ∷ [])) (λ x h e. p.marks-at x h e)
+              (λ x q. mark-listed text' ts' qs before x i (mark_low h) q) (λ x s. mark-other text' ts' qs before x i s);
+        }
+
+        -- its diagnostic
+        module _ (d : Bool) where
+          pub final_again : 2 ≤ m → with_related (error 11 (place_of (peek (row_of names) i))) (place_of (peek (row_of names) (m - 2))) ∷ [] ≡ final_error names.text.now (row_of names) d qs before i
+          unfolding final_error
+          final_again h = sym (ap (λ (o : Option ℕ). elim o [ some j ↦ with_related (error 11 (place_of (peek ts' i))) (place_of (peek ts' j)) ∷ [] | none ↦ unknown_error text' ts' d qs i ]) (mark_high h))
+
+          unknown_is : m < 2 → unknown_error text' ts' d qs i ≡ cond (cond d (eqb m 0) false) (error 3 (place_of (peek ts' i)) ∷ []) []
+          unfolding unknown_error mark_of mark_by
+          unknown_is h = go d (listed text' ts' i qs) (mark_is ∙ ap (λ (o : Option ℕ). mark_by o (listed text' ts' i qs)) (mark_low h))
+            where
+              go : (d : Bool) (q : Option ℕ) → m ≡ mark_by none q
+                  → cond d (elim q [ some j ↦ [] | none ↦ error 3 (place_of (peek ts' i)) ∷ [] ]) [] ≡ cond (cond d (eqb m 0) false) (error 3 (place_of (peek ts' i)) ∷ []) []
+              go true (some j) e = rw (ne_eqb m 0 (omega arith))
+              go true none e = rw (eq-eqb m 0 e)
+              go false q e = refl
+
+          pub final-first : m < 2 → cond (cond d (eqb m 0) false) (error 3 (place_of (peek (row_of names) i)) ∷ []) [] ≡ final_error names.text.now (row_of names) d qs before i
+          unfolding final_error
+          final-first h =
+              sym (unknown_is h)
+              ∙ sym (ap (λ (o : Option ℕ). elim o [ some j ↦ with_related (error 11 (place_of (peek ts' i))) (place_of (peek ts' j)) ∷ [] | none ↦ unknown_error text' ts' d qs i ]) (mark_low h))
 
   -- ---- no marks
-  module _ (v : List ℕ) (cleared : v ≡ replicate (length (mid_of b (b + count - b) w)) 0) where
-    mid_is : length (mid_of b (b + count - b) w) ≡ count
-    mid_is = mid_len b (b + count) w laid.marks ∙ omega arith
+  no_marks : (rest : List ℕ) → Marked names (replicate names.tokens.count 0 ++ rest) [] []
+  unfolding mark_of mark_by listed
+  no_marks rest = record {
+    marks-at = λ x h e.
+        let k : get_or firsts' x 0 < names.tokens.count = omega (arith, names.interned.first x (omega (arith, size_of)) e, first_low text' ts' x h e, size_of) in
+        get_or-append (replicate names.tokens.count 0) rest 0 (get_or firsts' x 0) (omega (arith, length-replicate {A = ℕ} names.tokens.count 0)) ∙ get_or-replicate names.tokens.count (get_or firsts' x 0) 0 0 k;
+  }
 
-    pub clear_kept : Kept b w (put_mid b (b + count - b) w v)
-    clear_kept = record {
-      front = take_put b (b + count - b) w v (omega (arith, laid.marks));
-      size = same_len_mid b (b + count - b) w v (ap length cleared ∙ length-replicate (length (mid_of b (b + count - b) w)) 0);
-    }
-
-    pub clear_marks : Marks text row a b (put_mid b (b + count - b) w v) [] []
-    unfolding mark_of mark_by listed
-    clear_marks = record {
-      marks = λ x h e.
-          let u : List ℕ = put_mid b (b + count - b) w v in
-          let k : get_or u (a + x) 0 ≡ first_equal text (peek row x) 0 row = kept_word count a b w u laid clear_kept x (omega (arith, row_length)) ∙ names.interned x h e in
-          let k-low : first_equal text (peek row x) 0 row < count = omega (arith, first_low text row x h e, row_length) in
-          let lb : length (take b w) ≡ b = length-take-le b w (omega (arith, laid.marks)) in
-          let lv : length v ≡ count = ap length cleared ∙ length-replicate (length (mid_of b (b + count - b) w)) 0 ∙ mid_is in
-          let j : ℕ = first_equal text (peek row x) 0 row in
-          ap (λ (n : ℕ). get_or u (b + n) 0) k
-          ∙ ap (λ (n : ℕ). get_or u (n + j) 0) (sym lb)
-          ∙ get_or-append-add (take b w) (v ++ post_of b (b + count - b) w) j 0
-          ∙ get_or-append v (post_of b (b + count - b) w) 0 j (omega arith)
-          ∙ ap (λ (r : List ℕ). get_or r j 0) cleared
-          ∙ get_or-replicate (length (mid_of b (b + count - b) w)) j 0 0 (omega (arith, mid_is));
-    }
+  pub marks-cleared : (marks v rest : List ℕ) → names.tokens.count ≤ length marks → v ≡ replicate (length (take names.tokens.count marks)) 0 → Marked names (v ++ rest) [] []
+  marks-cleared marks v rest h e =
+      let n : length (take names.tokens.count marks) ≡ names.tokens.count = length-take-le names.tokens.count marks h in
+      rw (e, n) (no_marks rest)

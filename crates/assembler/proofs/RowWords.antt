@@ -1,14 +1,14 @@
 -- Laws of a row of tokens as words: the words of a row give the row back, and a store of four words is a store of a token.
-use mathlib.Core.Path.{◌≡◌, refl, sym, ap, subst, ◌∙◌}
+use mathlib.Core.Path.{◌≡◌, refl, sym, ap, ◌∙◌}
 use mathlib.Core.List.{List, [], ◌∷◌, ◌++◌, append-nil, append_assoc}
 use Prim.Native.Nat.{ℕ, zero, suc, ◌+◌, ◌-◌, ◌*◌, ◌≤◌, ◌<◌}
 use native.Mathlib.Omega.{arith}
 use native.Mathlib.Nat.{le_of_suc-le-suc}
-use lib.ListN.{length, get_or, take, drop, set, length-append, length-take, length-drop, length-set, take-append-drop}
-use lib.Seq.{take_at, drop_at, take-length, length-take-le, sets, sets-eq, length-sets, set_split, split_at, drop-append-add, drop-drop}
+use lib.ListN.{length, take, drop, set, length-append, length-take, length-drop, length-set, take-append-drop}
+use lib.Seq.{take_at, drop_at, sets}
 use Rattle.lexer.specs.Words.{onto}
 use Rattle.tokens.specs.declared.Token.{Token}
-use Rattle.parser.specs.Row.{tokens_in, ended, peek}
+use Rattle.parser.specs.Row.{tokens_in}
 use Rattle.assembler.specs.Rows.{rows}
 use Rattle.assembler.specs.Entered.{words_of, flat}
 

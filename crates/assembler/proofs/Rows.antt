@@ -1,22 +1,21 @@
 -- Laws of the tokens in a row of words, and of the lines that their entries part.
 use mathlib.Core.Path.{◌≡◌, refl, sym, ap, subst, ◌∙◌}
-use mathlib.Core.Bool.{Bool, true, false, cond}
+use mathlib.Core.Bool.{Bool, true, false}
 use mathlib.Core.List.{List, [], ◌∷◌, ◌++◌}
-use Prim.Native.Nat.{ℕ, zero, suc, ◌+◌, ◌-◌, ◌*◌, ◌≤◌, ◌<◌}
+use Prim.Native.Nat.{ℕ, zero, suc, ◌+◌, ◌-◌, ◌*◌, ◌≤◌, ◌<◌, min, max}
 use native.Mathlib.Omega.{arith}
-use native.Mathlib.Numerals.{add-one}
+use native.Mathlib.Decide.{dec_lt}
 use borrow.Author.Tests.{le-leb, lt-leb, eq-eqb, ne_eqb}
-use lib.Dec.{eqb, leb}
+use lib.Dec.{eqb}
 use lib.ListN.{length, get_or, take, drop, drop_of_length-le, length-drop}
 use lib.Seq.{drop-cons, drop-drop, take-add, take-suc, take_all, get_or-drop}
 use Rattle.diag.proofs.Cases.{by_test_lem}
 use Rattle.tokens.specs.declared.Token.{Token}
-use Rattle.tokens.specs.View.{token_in}
 use Rattle.parser.specs.Row.{ended, peek}
 use Rattle.parser.specs.Lines.{line_length}
 pub use Rattle.equal_names.proofs.NameLaws.{length-rows, row_read, row_past}
 use Rattle.assembler.specs.Rows.{rows}
-use Rattle.assembler.specs.Entries.{Entry, entry_at, has_kind, behind, entries_from, entries}
+use Rattle.assembler.specs.Entries.{Entry, entry_at, has_kind, behind, entries_from}
 use Rattle.assembler.specs.Feeds.{AllFed}
 
 -- ---- the lines
@@ -48,13 +47,9 @@ entries-end ts i h = ap (entries_from 0 i) (drop_of_length-le ts {i = i} h)
 
 -- where the next line begins
 module _ (t : Token) (i : ℕ) where
-  pub next-item : 16 ≤ t.kind → i < t.value → t.value + 1 ≡ i + 1 + behind i t
+  pub next-item : 16 ≤ t.kind → (n : ℕ) → n ≡ max i t.value → n + 1 ≡ i + 1 + behind i t
   unfolding behind
-  next-item h g = rw (le-leb 16 t.kind h) (omega arith)
-
-  pub next-item_here : 16 ≤ t.kind → t.value ≤ i → i + 1 ≡ i + 1 + behind i t
-  unfolding behind
-  next-item_here h g = rw (le-leb 16 t.kind h) (omega arith)
+  next-item h n e = rw (le-leb 16 t.kind h) (omega arith)
 
   pub next-comment : t.kind < 16 → t.kind ≡ 12 → i + 2 ≡ i + 1 + behind i t
   unfolding behind
@@ -94,16 +89,19 @@ module _ (count : ℕ) (work : List ℕ) (a i : ℕ) (s : Seeking count work a i
       ap line_length (drop-cons (rows count work) i ended (omega (arith, length-rows count work room)))
       ∙ ap (λ (b : Bool). elim b [ true ↦ 0 | false ↦ suc (line_length (drop (suc i) (rows count work))) ]) e
 
-  module _ (t : Token) (h : i < count) (e : t ≡ peek (rows count work) i) where
-    pub seeking_on : (t.kind ≡ 13 → ⊥) → Seeking count work a (i + 1)
+  module _ (t : Token) (h : i < count) (e : t ≡ peek (rows count work) i) (b : Bool) (test : b ≡ eqb t.kind 13) where
+    tested : eqb (peek (rows count work) i).kind 13 ≡ b
+    tested = ap (λ (t : Token). eqb t.kind 13) (sym e) ∙ sym test
+
+    pub seeking_on : b ≡ false → Seeking count work a (i + 1)
     seeking_on n =
         let z : i + 1 ≡ suc i = omega arith in
-        let one : line_length (drop i (rows count work)) ≡ suc (line_length (drop (suc i) (rows count work))) = here_by false h (ap (λ (t : Token). eqb t.kind 13) (sym e) ∙ ne_eqb t.kind 13 n) in
+        let one : line_length (drop i (rows count work)) ≡ suc (line_length (drop (suc i) (rows count work))) = here_by false h (tested ∙ n) in
         record { left = ap (λ (k : ℕ). k + line_length (drop k (rows count work))) z ∙ omega (arith, one) ∙ s.left; within = omega arith }
 
-    pub seeking_here : t.kind ≡ 13 → i + 1 ≡ a + 1 + line_length (drop a (rows count work))
+    pub seeking_here : b ≡ true → i + 1 ≡ a + 1 + line_length (drop a (rows count work))
     seeking_here y =
-        let none : line_length (drop i (rows count work)) ≡ 0 = here_by true h (ap (λ (t : Token). eqb t.kind 13) (sym e) ∙ eq-eqb t.kind 13 y) in
+        let none : line_length (drop i (rows count work)) ≡ 0 = here_by true h (tested ∙ y) in
         omega (arith, s.left, none)
 
   pub seeking_end : count ≤ i → i + 1 ≡ a + 1 + line_length (drop a (rows count work))
@@ -111,6 +109,9 @@ module _ (count : ℕ) (work : List ℕ) (a i : ℕ) (s : Seeking count work a i
   seeking_end h =
       let none : line_length (drop i (rows count work)) ≡ 0 = ap line_length (drop_of_length-le (rows count work) {i = i} (omega (arith, length-rows count work room))) in
       omega (arith, s.left, none)
+
+  pub seeking_done : count ≤ i → count + 1 ≡ a + 1 + line_length (drop a (rows count work))
+  seeking_done h = omega (arith, seeking_end h, s.within)
 
 -- ---- the search for a kind from the end: there is one up to the index `to` if there is one up to the index i
 abbrev pub kind_from : ℕ → ℕ → List ℕ → ℕ → ℕ → Bool
@@ -166,18 +167,25 @@ kind_cut k count work a to room h r e =
     let few : length l ≤ count - a = omega (arith, length-drop a (rows count work), length-rows count work room) in
     e ∙ ap (has_kind k) (take_all (count - a) l few ∙ sym (take_all (to - a) l (omega arith)))
 
+pub kind-least : (k count : ℕ) (work : List ℕ) (a to : ℕ) → 4 * count ≤ length work → (r : Bool) (n : ℕ) → n ≡ min to count → r ≡ kind_from k count work a n → r ≡ kind_from k count work a to
+kind-least k count work a to room r n e h = go (dec_lt count to)
+  where
+    go : Dec (count < to) → r ≡ kind_from k count work a to
+    go (yes l) = kind_cut k count work a to room l r (h ∙ ap (kind_from k count work a) (omega (arith, e)))
+    go (no l) = h ∙ ap (kind_from k count work a) (omega (arith, e))
+
 module _ (k count : ℕ) (work : List ℕ) (a to i : ℕ) (inv : kind_from k count work a i ≡ kind_from k count work a to) where
   pub kind-end : i ≤ a → false ≡ kind_from k count work a to
   unfolding has_kind
   kind-end h = let e : i - a ≡ 0 = omega arith in sym (ap (λ (n : ℕ). has_kind k (take n (drop a (rows count work)))) e) ∙ inv
 
-  module _ (room : 4 * count ≤ length work) (low : a < i) (within : i ≤ count) (t : Token) (at : t ≡ token_in work (i - 1)) where
+  module _ (room : 4 * count ≤ length work) (low : a < i) (within : i ≤ count) (t : Token) (at : t ≡ peek (rows count work) (i - 1)) where
     kind_by : (b : Bool) → eqb t.kind k ≡ b → kind_from k count work a i ≡ elim b [ true ↦ true | false ↦ kind_from k count work a (i - 1) ]
     kind_by b e =
         let ts : List Token = rows count work in
         let more : i - a ≡ suc ((i - 1) - a) = omega arith in
         let back : a + ((i - 1) - a) ≡ i - 1 = omega arith in
-        let last : get_or (drop a ts) ((i - 1) - a) ended ≡ t = get_or-drop a ts ((i - 1) - a) ended ∙ ap (λ (n : ℕ). peek ts n) back ∙ sym (row_read count work (i - 1) t room (omega arith) at) in
+        let last : get_or (drop a ts) ((i - 1) - a) ended ≡ t = get_or-drop a ts ((i - 1) - a) ended ∙ ap (λ (n : ℕ). peek ts n) back ∙ sym at in
         ap (λ (n : ℕ). has_kind k (take n (drop a ts))) more
         ∙ ap (has_kind k) (take-suc (drop a ts) ((i - 1) - a) ended (omega (arith, length-drop a ts, length-rows count work room)))
         ∙ ap (λ (u : Token). has_kind k (take ((i - 1) - a) (drop a ts) ++ u ∷ [])) last
@@ -188,3 +196,5 @@ module _ (k count : ℕ) (work : List ℕ) (a to i : ℕ) (inv : kind_from k cou
 
     pub kind-on : (t.kind ≡ k → ⊥) → kind_from k count work a (i - 1) ≡ kind_from k count work a to
     kind-on e = sym (kind_by false (ne_eqb t.kind k e)) ∙ inv
+
+pub ruleset kinds = (kind-least, kind-none, kind-first)

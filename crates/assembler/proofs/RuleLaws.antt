@@ -1,10 +1,10 @@
 -- Laws of the pass over rules.
 use mathlib.Core.Path.{◌≡◌, refl, sym, ap, subst, ◌∙◌}
-use mathlib.Core.Bool.{Bool, true, false, cond, false≢true}
-use mathlib.Core.List.{List, [], ◌∷◌, ◌++◌}
-use Prim.Native.Nat.{ℕ, zero, suc, ◌+◌, ◌-◌, ◌*◌, ◌≤◌, ◌<◌, ◌^◌, min}
+use mathlib.Core.Bool.{Bool, true, false, cond, not, false≢true}
+use mathlib.Core.List.{List, [], ◌∷◌}
+use Prim.Native.Nat.{ℕ, suc, ◌+◌, ◌-◌, ◌*◌, ◌≤◌, ◌<◌, ◌^◌, min}
 use native.Mathlib.Omega.{arith}
-use native.Mathlib.Nat.{mul-le-mul, min-le_right, min-eq_left, min-eq_right}
+use native.Mathlib.Nat.{mul-le-mul, min-le_right}
 use native.Mathlib.Numerals.{add-one}
 use native.Mathlib.Decide.{dec_lt}
 use mir.Syntax.{w64}
@@ -15,9 +15,12 @@ use lib.ListN.{length, take, drop, drop_of_length-le}
 use lib.Seq.{get_or-drop, drop-cons, drop-drop, take-nil}
 use Rattle.diag.specs.declared.Span.{Span}
 use Rattle.diag.specs.declared.Diagnostic.{Diagnostic}
-use Rattle.diag.specs.Log.{error, Log, logged, appended, append_all}
+use Rattle.diag.specs.declared.log.Log.{Log}
+use Rattle.diag.specs.Log.{error}
+use Rattle.diag.specs.Appends.{Appends}
+use Rattle.diag.proofs.Appending.{appends_as}
 use Rattle.tokens.specs.declared.Token.{Token}
-use Rattle.assembler.specs.declared.rules.Sets.{Sets}
+use Rattle.assembler.specs.declared.sets.Sets.{Sets}
 use Rattle.assembler.specs.declared.rules.Tally.{Tally}
 use Rattle.assembler.specs.declared.rules.Verdict.{Verdict}
 use Rattle.assembler.specs.declared.rules.Verdict.TheVariants.{Other, WrongArity, TooMany, Expands}
@@ -29,7 +32,7 @@ use Rattle.assembler.specs.Entries.{Entry, entry_at, has_kind, behind, entries}
 use Rattle.assembler.specs.Feeds.{Fed}
 use Rattle.assembler.specs.Rules.{counted, combinations_from, combinations, same_arity, read_part, verdict, after, rule_error, rule_errors, no_rules}
 use Rattle.assembler.proofs.Rows.{length-rows, fed_here}
-use Rattle.assembler.proofs.Passes.{at_most_one, Passing, passing_start, passing_step, passing_end}
+use Rattle.assembler.proofs.Passes.{at_most_one, Passing, passing_start, passing_step, passing_end, passing_room}
 
 -- ---- one token of the read sets
 pub product_fits : (p s : ℕ) → p ≤ 262145 → s < 2 ^ 32 → Fits w64 (p * s)
@@ -38,25 +41,15 @@ product_fits p s h g =
     let b : p * s ≤ 262145 * 2 ^ 32 = mul-le-mul h le in
     record { fits = omega arith }
 
-pub cut_low : (n : ℕ) → n ≤ 262144 → n ≡ min n 262145
-cut_low n h = sym (min-eq_left {n = n} {m = 262145} (omega arith))
-
-pub cut_high : (n : ℕ) → 262144 < n → 262145 ≡ min n 262145
-cut_high n h = sym (min-eq_right {n = 262145} {m = n} (omega arith))
-
 module _ (s : Sets) (t : Token) where
   pub counted_opened : t.kind ≡ 6 → record { product = s.product; size = 0 } ≡ counted s t
   unfolding counted
   counted_opened h = rw (eq-eqb t.kind 6 h)
 
   module _ (a : t.kind ≡ 6 → ⊥) where
-    pub counted_closed : t.kind ≡ 7 → s.product * s.size ≤ 262144 → record { product = s.product * s.size; size = s.size } ≡ counted s t
+    pub counted_closed : t.kind ≡ 7 → (n : ℕ) → n ≡ min (s.product * s.size) 262145 → record { product = n; size = s.size } ≡ counted s t
     unfolding counted
-    counted_closed h g = rw (ne_eqb t.kind 6 a, eq-eqb t.kind 7 h, ← cut_low (s.product * s.size) g)
-
-    pub counted_cut : t.kind ≡ 7 → 262144 < s.product * s.size → record { product = 262145; size = s.size } ≡ counted s t
-    unfolding counted
-    counted_cut h g = rw (ne_eqb t.kind 6 a, eq-eqb t.kind 7 h, ← cut_high (s.product * s.size) g)
+    counted_closed h n e = rw (ne_eqb t.kind 6 a, eq-eqb t.kind 7 h, ← e)
 
     module _ (b : t.kind ≡ 7 → ⊥) (x : Bool) (symbol : x ≡ is_symbol t) where
       pub counted-member : x ≡ true → record { product = s.product; size = s.size + 1 } ≡ counted s t
@@ -132,6 +125,9 @@ combinations-kept s (t ∷ ts) h = go (eqb t.kind 7) refl h (combinations-kept (
     go false e h rest = rest h ∙ counted-kept s t e
 
 -- four tokens of which none is a `}`
+pub not_kind : (t : Token) (k : ℕ) → not (eqb t.kind k) ≡ true → t.kind ≡ k → ⊥
+not_kind t k h e = let z : not (eqb t.kind k) ≡ false = rw (eq-eqb t.kind k e) in false≢true (sym z ∙ h)
+
 kind-not : (k n : ℕ) (ts : List Token) (i : ℕ) → ((peek ts i).kind ≡ k → ⊥) → has_kind k (take n (drop (suc i) ts)) ≡ false → has_kind k (take (suc n) (drop i ts)) ≡ false
 unfolding has_kind
 kind-not k n ts i h rest = go (dec_lt i (length ts))
@@ -150,9 +146,6 @@ module _ (ts : List Token) (i : ℕ) (a b c d : Token) (at : a ≡ peek ts i) (b
 
 pub plain_here : (ts : List Token) (from to : ℕ) (b : Bool) → to - 4 ≡ from → 4 ≤ to → (b ≡ true → has_kind 7 (take 4 (drop from ts)) ≡ false) → b ≡ true → has_kind 7 (take (to - from) (drop from ts)) ≡ false
 plain_here ts from to b e h f y = let q : to - from ≡ 4 = omega arith in ap (λ (n : ℕ). has_kind 7 (take n (drop from ts))) q ∙ f y
-
-pub plain-not : (t : Bool) → false ≡ true → t ≡ false
-plain-not t e = absurd (false≢true e)
 
 pub combinations-none : (b : Bool) (ts : List Token) → b ≡ has_kind 7 ts → b ≡ false → 1 ≡ combinations ts
 unfolding combinations
@@ -199,6 +192,16 @@ module _ (count : ℕ) (work : List ℕ) (from to : ℕ) (s : Sets) (i : ℕ) (c
   pub counting_end : to ≤ i → s.product ≡ combinations (take (to - from) (drop from (rows count work)))
   unfolding combinations_from
   counting_end h = let none : to - i ≡ 0 = omega arith in sym (ap (λ (n : ℕ). combinations_from s (take n (drop i (rows count work)))) none) ∙ c.whole
+
+  pub counting_least : (n : ℕ) → n ≡ min to count → n ≤ i → s.product ≡ combinations (take (to - from) (drop from (rows count work)))
+  counting_least n e h = go (dec_lt i to)
+    where
+      go : Dec (i < to) → s.product ≡ combinations (take (to - from) (drop from (rows count work)))
+      go (yes l) = counting_past (omega (arith, e))
+      go (no l) = counting_end (omega arith)
+
+pub counting_below : (to count n i : ℕ) → n ≡ min to count → i < n → (i < to) × (i < count)
+counting_below to count n i e h = (omega (arith, e), omega (arith, e))
 
 -- ---- what becomes of a line
 pub arity_same : (p : Token) → p.end ≡ p.start → eqb p.value p.start ≡ same_arity p
@@ -263,27 +266,27 @@ module _ (s : Tally) (v : Verdict) where
   after_expands n e = rw e
 
 -- ---- one line's diagnostic
-module _ (v : Verdict) (cut : Bool) (p : Span) (l : Log) where
-  pub rule-other : v ≡ Other → l ≡ append_all l (rule_error v cut p)
-  unfolding rule_error append_all
+module _ (v : Verdict) (cut : Bool) (p : Span) where
+  pub rule-other : v ≡ Other → [] ≡ rule_error v cut p
+  unfolding rule_error
   rule-other e = rw e
 
-  pub rule_expands : (n : ℕ) → v ≡ Expands n → l ≡ append_all l (rule_error v cut p)
-  unfolding rule_error append_all
+  pub rule_expands : (n : ℕ) → v ≡ Expands n → [] ≡ rule_error v cut p
+  unfolding rule_error
   rule_expands n e = rw e
 
-  pub rule_cut : v ≡ TooMany → cut ≡ true → l ≡ append_all l (rule_error v cut p)
-  unfolding rule_error append_all
+  pub rule_cut : v ≡ TooMany → cut ≡ true → [] ≡ rule_error v cut p
+  unfolding rule_error
   rule_cut e h = rw (e, h)
 
-  module _ (l' : Log) (d : Diagnostic) where
-    pub rule_arity : v ≡ WrongArity → d ≡ error 10 p → l' ≡ appended l d → l' ≡ append_all l (rule_error v cut p)
-    unfolding rule_error append_all
-    rule_arity e q r = rw e (r ∙ ap (appended l) q)
+  module _ (d : Diagnostic) where
+    pub rule_arity : v ≡ WrongArity → d ≡ error 10 p → d ∷ [] ≡ rule_error v cut p
+    unfolding rule_error
+    rule_arity e q = rw e (ap (λ (d : Diagnostic). d ∷ []) q)
 
-    pub rule_many : v ≡ TooMany → cut ≡ false → d ≡ error 9 p → l' ≡ appended l d → l' ≡ append_all l (rule_error v cut p)
-    unfolding rule_error append_all
-    rule_many e h q r = rw (e, h) (r ∙ ap (appended l) q)
+    pub rule_many : v ≡ TooMany → cut ≡ false → d ≡ error 9 p → d ∷ [] ≡ rule_error v cut p
+    unfolding rule_error
+    rule_many e h q = rw (e, h) (ap (λ (d : Diagnostic). d ∷ []) q)
 
 pub one-rule : (v : Verdict) (cut : Bool) (p : Span) → length (rule_error v cut p) ≤ 1
 unfolding rule_error
@@ -314,26 +317,29 @@ after-within s TooMany h g = h
 after-within s (Expands n) h g = g n refl
 
 -- ---- all lines: the pass has come to the line at the index i
-pub record Tallying (count : ℕ) (work : List ℕ) (target : Log) (from : ℕ) (w₀ : List ℕ) (s : Tally) (w : List ℕ) (n i : ℕ) : Type 0 where
-  pub passing : Passing (rows count work) (rule_errors s) target from w₀ w n i
+pub record Tallying (count : ℕ) (work : List ℕ) (all : List Diagnostic) (l₀ : Log) (s : Tally) (l : Log) (i : ℕ) : Type 0 where
+  pub passing : Passing (rows count work) (rule_errors s) all l₀ l i
   pub within : s.rules ≤ 262144
 
-pub tallying_start : (count : ℕ) (work w : List ℕ) (n : ℕ) → Fed (rows count work)
-    → Tallying count work (append_all (logged w n) (rule_errors no_rules (entries (rows count work)))) n w no_rules w n 0
+pub tallying_start : (count : ℕ) (work : List ℕ) (l : Log) → Fed (rows count work)
+    → Tallying count work (rule_errors no_rules (entries (rows count work))) l no_rules l 0
 unfolding entries
-tallying_start count work w n fed = record { passing = passing_start (rows count work) (rule_errors no_rules) w n fed; within = omega arith }
+tallying_start count work l fed = record { passing = passing_start (rows count work) (rule_errors no_rules) l fed; within = omega arith }
 
-module _ (count : ℕ) (work : List ℕ) (target : Log) (from : ℕ) (w₀ : List ℕ) (s : Tally) (w : List ℕ) (n i : ℕ)
-    (p : Tallying count work target from w₀ s w n i) (room : 4 * count ≤ length work) where
+module _ (count : ℕ) (work : List ℕ) (all : List Diagnostic) (l₀ : Log) (s : Tally) (l : Log) (i : ℕ)
+    (p : Tallying count work all l₀ s l i) (room : 4 * count ≤ length work) where
   -- the line's first token says where it ends
   pub tallying_fed : (t : Token) → i < count → t ≡ peek (rows count work) i → behind i t ≡ line_length (drop i (rows count work))
   tallying_fed t h e = fed_here (rows count work) i p.passing.fed (omega (arith, length-rows count work room)) t e
 
-  pub tallying_on : (s' : Tally) (w' : List ℕ) (n' j : ℕ) (t : Token) (v : Verdict) (q : Span) → i < count → t ≡ peek (rows count work) i
-      → v ≡ verdict s.rules (entry_at (rows count work) i) → q ≡ place_of t → logged w' n' ≡ append_all (logged w n) (rule_error v s.cut q) → s' ≡ after s v
-      → j ≡ i + 1 + behind i t → Tallying count work target from w₀ s' w' n' j
+  pub tallying_room : i < count → l₀.count + count < 2 ^ 64 → l.count + 1 < 2 ^ 64
+  tallying_room h g = passing_room (rows count work) all l₀ l i (rule_errors s) count p.passing h g
+
+  pub tallying_on : (s' : Tally) (l' : Log) (j : ℕ) (t : Token) (v : Verdict) (q : Span) → i < count → t ≡ peek (rows count work) i
+      → v ≡ verdict s.rules (entry_at (rows count work) i) → q ≡ place_of t → Appends l l' (rule_error v s.cut q) → s' ≡ after s v
+      → j ≡ i + 1 + behind i t → Tallying count work all l₀ s' l' j
   unfolding rule_errors
-  tallying_on s' w' n' j t v q h et ev eq ew es ej =
+  tallying_on s' l' j t v q h et ev eq ew es ej =
       let ts : List Token = rows count work in
       let many : length ts ≡ count = length-rows count work room in
       let here : i < length ts = omega arith in
@@ -342,16 +348,16 @@ module _ (count : ℕ) (work : List ℕ) (target : Log) (from : ℕ) (w₀ : Lis
       let v' : Verdict = verdict s.rules e in
       let ds : List Diagnostic = rule_error v' s.cut (place_of (peek ts i)) in
       let eq' : q ≡ place_of (peek ts i) = eq ∙ ap place_of et in
-      let ew' : logged w' n' ≡ append_all (logged w n) ds =
-      ew ∙ ap (λ (v : Verdict). append_all (logged w n) (rule_error v s.cut q)) ev ∙ ap (λ (q : Span). append_all (logged w n) (rule_error v' s.cut q)) eq' in
+      let ew' : Appends l l' ds =
+      appends_as l l' (rule_error v s.cut q) ds ew (ap (λ (v : Verdict). rule_error v s.cut q) ev ∙ ap (λ (q : Span). rule_error v' s.cut q) eq') in
       let es' : after s v' ≡ s' = ap (after s) (sym ev) ∙ sym es in
       record {
-        passing = subst (λ (x : Tally). Passing ts (rule_errors x) target from w₀ w' n' j) es'
-            (subst (λ (j : ℕ). Passing ts (rule_errors (after s v')) target from w₀ w' n' j) next
-            (passing_step ts target from w₀ w n i (rule_errors s) (rule_errors (after s v')) ds w' n' p.passing here (λ es. refl) (one-rule v' s.cut (place_of (peek ts i))) ew'));
+        passing = subst (λ (x : Tally). Passing ts (rule_errors x) all l₀ l' j) es'
+            (subst (λ (j : ℕ). Passing ts (rule_errors (after s v')) all l₀ l' j) next
+            (passing_step ts all l₀ l i (rule_errors s) (rule_errors (after s v')) ds l' p.passing here (λ es. refl) (one-rule v' s.cut (place_of (peek ts i))) ew'));
         within = subst (λ (x : Tally). x.rules ≤ 262144) es' (after-within s v' p.within (λ m h. verdict-within s.rules m e h));
       }
 
-  pub tallying_end : count ≤ i → logged w n ≡ target
+  pub tallying_end : count ≤ i → Appends l₀ l all
   unfolding rule_errors
-  tallying_end h = passing_end (rows count work) target from w₀ w n i (rule_errors s) p.passing (omega (arith, length-rows count work room)) refl
+  tallying_end h = passing_end (rows count work) all l₀ l i (rule_errors s) p.passing (omega (arith, length-rows count work room)) refl

@@ -1,19 +1,18 @@
 -- The diagnostics of rules, and their number, are the language's.
-use mathlib.Core.Path.{◌≡◌, refl, sym, ap, subst, ◌∙◌}
+use mathlib.Core.Path.{◌≡◌, refl, sym, ap, ◌∙◌}
 use mathlib.Core.Bool.{Bool, true, false, cond, ◌&&◌}
 use mathlib.Core.List.{List, [], ◌∷◌, ◌++◌}
-use mathlib.Core.Option.{Option, none, some}
-use Prim.Native.Nat.{ℕ, zero, suc, ◌+◌, ◌-◌, ◌*◌, ◌≤◌, ◌<◌, min}
+use mathlib.Core.Option.{Option, none}
+use Prim.Native.Nat.{ℕ, ◌+◌, ◌≤◌, ◌<◌, min}
 use native.Mathlib.Omega.{arith}
 use native.Mathlib.Nat.{min-eq_left, min-eq_right}
-use borrow.Author.Tests.{le-leb, lt-leb, eq-eqb, ne_eqb, leb-true, leb-false}
+use borrow.Author.Tests.{lt-leb, eq-eqb, ne_eqb, leb-true, leb-false}
 use lib.Dec.{eqb, leb}
 use lib.ListN.{length}
 use Rattle.diag.proofs.Cases.{by_test_lem}
 use Rattle.diag.specs.declared.Span.{Span}
 use Rattle.diag.specs.declared.Diagnostic.{Diagnostic}
 use Rattle.diag.specs.Log.{error}
-use Rattle.lexer.specs.declared.Span.{Span as Place}
 use Rattle.tokens.specs.declared.Token.{Token}
 use Rattle.parser.specs.Row.{peek}
 use Rattle.language.specs.Machine.{Located}
@@ -27,17 +26,17 @@ use Rattle.assembler.specs.declared.rules.Verdict.TheVariants.{Other, WrongArity
 use Rattle.assembler.specs.Rows.{place_of}
 use Rattle.assembler.specs.Entries.{Entry}
 use Rattle.assembler.specs.Rules.{combinations, same_arity, read_part, verdict, after, rule_error, rule_errors, rule_count, no_rules}
-use Rattle.assembler.specs.Records.{place_in, record_of, records_of}
-use Rattle.assembler.proofs.Means.{number, ItemMeans, Means, AllMean, no_lines, one_line}
+use Rattle.assembler.specs.Records.{record_of, records_of}
+use Rattle.assembler.proofs.Means.{number, ItemMeans, AllMean, no_lines, one_line}
 
 -- ---- a rule's entry: the counts of its lists, and the product of its read sets, cut off above the limit
-pub record RuleMeans (e : Entry) (r : RawTransition Place) : Type 0 where
+pub record RuleMeans (e : Entry) (r : RawTransition Span) : Type 0 where
   pub reads : (peek e.rest 0).start ≡ length r.read
   pub writes : (peek e.rest 0).end ≡ length r.write
   pub dirs : (peek e.rest 0).value ≡ length r.dir
   pub product : combinations (read_part e) ≡ min (A.combinations r.read) 262145
 
-arity_mean : (e : Entry) (r : RawTransition Place) → RuleMeans e r
+arity_mean : (e : Entry) (r : RawTransition Span) → RuleMeans e r
     → same_arity (peek e.rest 0) ≡ eqb (length r.write) (length r.read) && eqb (length r.dir) (length r.read)
 unfolding same_arity
 arity_mean e r m = rw (m.reads, m.writes, m.dirs) (go (eqb (length r.write) (length r.read)) (eqb (length r.dir) (length r.read)))
@@ -61,7 +60,7 @@ verdict_of n c A.expands = Expands (n + c)
 verdict_of n c A.wrong_arity = WrongArity
 verdict_of n c A.too_many = TooMany
 
-verdict_mean : (n : ℕ) (e : Entry) (r : RawTransition Place) → e.first.kind ≡ 27 → RuleMeans e r → verdict n e ≡ verdict_of n (A.combinations r.read) (A.verdict n r)
+verdict_mean : (n : ℕ) (e : Entry) (r : RawTransition Span) → e.first.kind ≡ 27 → RuleMeans e r → verdict n e ≡ verdict_of n (A.combinations r.read) (A.verdict n r)
 unfolding verdict A.verdict
 verdict_mean n e r k m =
     let c : ℕ = A.combinations r.read in
@@ -83,7 +82,7 @@ verdict_mean n e r k m =
         rw (f, t)
 
 -- ---- the rules among the lines
-abbrev pub RulesOf : Entry → Item Place → Type 0
+abbrev pub RulesOf : Entry → Item Span → Type 0
 RulesOf e (transition_item r) = RuleMeans e r
 RulesOf e (machine_item x) = Unit {0}
 RulesOf e (kind_item x) = Unit {0}
@@ -102,16 +101,16 @@ unfolding verdict
 other-verdict n e h = rw (ne_eqb e.first.kind 27 h)
 
 -- what a rule does to the count and to the diagnostics, and what another line does
-record Same (s : Tally) (es : List Entry) (rs : List (A.RuleLine Place)) : Type 0 where
+record Same (s : Tally) (es : List Entry) (rs : List (A.RuleLine Span)) : Type 0 where
   errors : rule_errors s es ≡ records_of (A.rule_errors s.rules s.cut rs)
   count : rule_count s es ≡ s.rules + L.rule_count (A.kept s.rules rs)
 
 module _ (s : Tally) (e : Entry) (es : List Entry) where
-  other-same : (rs : List (A.RuleLine Place)) → (e.first.kind ≡ 27 → ⊥) → Same s es rs → Same s (e ∷ es) rs
+  other-same : (rs : List (A.RuleLine Span)) → (e.first.kind ≡ 27 → ⊥) → Same s es rs → Same s (e ∷ es) rs
   unfolding rule_errors rule_count after rule_error
   other-same rs h p = record { errors = rw (other-verdict s.rules e h) p.errors; count = rw (other-verdict s.rules e h) p.count }
 
-  module _ (l : A.RuleLine Place) (rs : List (A.RuleLine Place)) (k : e.first.kind ≡ 27) (q : place_of e.first ≡ place_in l.line) (m : RuleMeans e l.raw) (p : (s : Tally) → Same s es rs) where
+  module _ (l : A.RuleLine Span) (rs : List (A.RuleLine Span)) (k : e.first.kind ≡ 27) (q : place_of e.first ≡ l.line) (m : RuleMeans e l.raw) (p : (s : Tally) → Same s es rs) where
     abbrev c : ℕ
     c = A.combinations l.raw.read
 
@@ -147,14 +146,14 @@ module _ (s : Tally) (e : Entry) (es : List Entry) where
         let z : n + L.rule_count (A.kept n rs) ≡ s.rules + (c + L.rule_count (A.kept n rs)) = omega arith in
         record {
           errors = step_errors (Expands n) v ∙ r.errors ∙ ap records_of (sym (language_errors A.expands d));
-          count = step_count (Expands n) v ∙ r.count ∙ z ∙ ap (λ (x : List (A.RuleLine Place)). s.rules + L.rule_count x) (sym (language_kept A.expands d));
+          count = step_count (Expands n) v ∙ r.count ∙ z ∙ ap (λ (x : List (A.RuleLine Span)). s.rules + L.rule_count x) (sym (language_kept A.expands d));
         }
 
     refused : A.verdict s.rules l.raw ≡ A.wrong_arity → verdict s.rules e ≡ WrongArity → Same s (e ∷ es) (l ∷ rs)
     unfolding rule_error after records_of record_of or_none
     refused d v = record {
-      errors = step_errors WrongArity v ∙ ap (λ (x : Span). error 10 x ∷ rule_errors s es) q ∙ ap (λ (x : List Diagnostic). error 10 (place_in l.line) ∷ x) (p s).errors ∙ ap records_of (sym (language_errors A.wrong_arity d));
-      count = step_count WrongArity v ∙ (p s).count ∙ ap (λ (x : List (A.RuleLine Place)). s.rules + L.rule_count x) (sym (language_kept A.wrong_arity d));
+      errors = step_errors WrongArity v ∙ ap (λ (x : Span). error 10 x ∷ rule_errors s es) q ∙ ap (λ (x : List Diagnostic). error 10 l.line ∷ x) (p s).errors ∙ ap records_of (sym (language_errors A.wrong_arity d));
+      count = step_count WrongArity v ∙ (p s).count ∙ ap (λ (x : List (A.RuleLine Span)). s.rules + L.rule_count x) (sym (language_kept A.wrong_arity d));
     }
 
     cut_by : (b : Bool) → s.cut ≡ b
@@ -173,7 +172,7 @@ module _ (s : Tally) (e : Entry) (es : List Entry) where
         let r = p s' in
         record {
           errors = step_errors TooMany v ∙ ap (λ (x : List Diagnostic). rule_error TooMany s.cut (place_of e.first) ++ x) r.errors ∙ first s.cut refl;
-          count = step_count TooMany v ∙ r.count ∙ ap (λ (x : List (A.RuleLine Place)). s.rules + L.rule_count x) (sym (language_kept A.too_many d));
+          count = step_count TooMany v ∙ r.count ∙ ap (λ (x : List (A.RuleLine Span)). s.rules + L.rule_count x) (sym (language_kept A.too_many d));
         }
       where
         first : (b : Bool) → s.cut ≡ b → rule_error TooMany s.cut (place_of e.first) ++ records_of (A.rule_errors s.rules true rs) ≡ records_of (A.rule_errors s.rules s.cut (l ∷ rs))
@@ -191,11 +190,11 @@ module _ (s : Tally) (e : Entry) (es : List Entry) where
         go A.too_many d = dropped d (is A.too_many d)
 
 -- ---- all lines: the rules of the body are those of the lines, whatever comments are pending
-module _ (X : Entry → Item Place → Type 0) (asks : (e : Entry) (i : Item Place) → X e i → RulesOf e i) (ts : List Token) where
+module _ (X : Entry → Item Span → Type 0) (asks : (e : Entry) (i : Item Span) → X e i → RulesOf e i) (ts : List Token) where
   abbrev Comments : Type 0
-  Comments = List (Located Place (List ℕ))
+  Comments = List (Located Span (List ℕ))
 
-  item-same : (s : Tally) (e : Entry) (es : List Entry) (i : Item Place) (p : Place) (c : Option (Located Place (List ℕ))) (seen : Bool) (old block : Comments) (b : A.Body Place) → ItemMeans X e i p
+  item-same : (s : Tally) (e : Entry) (es : List Entry) (i : Item Span) (p : Span) (c : Option (Located Span (List ℕ))) (seen : Bool) (old block : Comments) (b : A.Body Span) → ItemMeans X e i p
       → ((s : Tally) → Same s es b.rules) → Same s (e ∷ es) (A.attach_item (A.parts i).rule seen old block p c b).rules
   unfolding A.attach_item A.parts A.add_header A.add_rule number
   item-same s e es (machine_item x) p c seen old block b m r = other-same s e es b.rules (λ z. omega (arith, m.kind)) (r s)
@@ -212,7 +211,7 @@ module _ (X : Entry → Item Place → Type 0) (asks : (e : Entry) (i : Item Pla
   item-same s e es (transition_item x) p c seen old block b m r =
       rule-same s e es (record { raw = x; line = p; comment = c; leading = A.leads seen old block }) b.rules (omega (arith, m.kind)) m.place (asks e (transition_item x) m.more) r
 
-  attached : (s : Tally) (es : List Entry) (ls : List (Line Place)) → AllMean X ts es ls → (seen : Bool) (old block : Comments) → Same s es (A.attach seen old block ls).rules
+  attached : (s : Tally) (es : List Entry) (ls : List (Line Span)) → AllMean X ts es ls → (seen : Bool) (old block : Comments) → Same s es (A.attach seen old block ls).rules
   unfolding A.attach A.at_end rule_errors rule_count A.rule_errors A.kept L.rule_count records_of
   attached s [] [] no_lines true old block = record { errors = refl; count = omega arith }
   attached s [] [] no_lines false old block = record { errors = refl; count = omega arith }
@@ -224,10 +223,10 @@ module _ (X : Entry → Item Place → Type 0) (asks : (e : Entry) (i : Item Pla
   attached s (e ∷ es) (error_line n p ∷ ls) (one_line h q m r) seen old block = other-same s e es (A.attach true [] [] ls).rules (λ z. omega (arith, m.0)) (attached s es ls r true [] [])
   attached s (e ∷ es) (item_line i p c ∷ ls) (one_line h q m r) seen old block = item-same s e es i p c seen old block (A.attach true [] [] ls) m (λ s. attached s es ls r true [] [])
 
-  pub rule_errors_mean : (es : List Entry) (ls : List (Line Place)) → AllMean X ts es ls → rule_errors no_rules es ≡ records_of (A.rule_errors 0 false (A.body_of ls).rules)
+  pub rule_errors_mean : (es : List Entry) (ls : List (Line Span)) → AllMean X ts es ls → rule_errors no_rules es ≡ records_of (A.rule_errors 0 false (A.body_of ls).rules)
   unfolding A.body_of
   rule_errors_mean es ls m = (attached no_rules es ls m false [] []).errors
 
-  pub rule_count_mean : (es : List Entry) (ls : List (Line Place)) → AllMean X ts es ls → rule_count no_rules es ≡ L.rule_count (A.kept 0 (A.body_of ls).rules)
+  pub rule_count_mean : (es : List Entry) (ls : List (Line Span)) → AllMean X ts es ls → rule_count no_rules es ≡ L.rule_count (A.kept 0 (A.body_of ls).rules)
   unfolding A.body_of
   rule_count_mean es ls m = (attached no_rules es ls m false [] []).count ∙ omega arith

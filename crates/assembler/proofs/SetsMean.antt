@@ -1,27 +1,26 @@
 -- The product of a rule's read sets, counted token by token and cut off above the limit, is the language's.
-use mathlib.Core.Path.{◌≡◌, refl, sym, ap, subst, ◌∙◌}
+use mathlib.Core.Path.{◌≡◌, refl, sym, ap, ◌∙◌}
 use mathlib.Core.Bool.{Bool, true, false, cond}
-use mathlib.Core.List.{List, [], ◌∷◌, ◌++◌, map}
+use mathlib.Core.List.{List, [], ◌∷◌, map}
 use mathlib.Core.Option.{Option, none, some}
-use Prim.Native.Nat.{ℕ, zero, suc, ◌+◌, ◌-◌, ◌*◌, ◌≤◌, ◌<◌, min}
+use Prim.Native.Nat.{ℕ, zero, suc, ◌+◌, ◌*◌, ◌≤◌, min}
 use native.Mathlib.Omega.{arith}
 use native.Mathlib.Nat.{mul-le-mul, mul_assoc, mul-zero, mul-one, min-eq_left, min-eq_right, min-le_right}
 use borrow.Author.Tests.{leb-true, leb-false}
 use lib.Dec.{eqb, leb}
 use lib.ListN.{length}
 use Rattle.diag.proofs.Cases.{by_test_lem}
-use Rattle.lexer.specs.declared.Span.{Span as Place}
-use Rattle.lexer.specs.Tokens.{TokenKind, Token as Lexed}
-use Rattle.lexer.specs.Words.{kind_number}
+use Rattle.diag.specs.declared.Span.{Span as Place}
+use Rattle.lexer.specs.Tokens.{Token as Lexed}
 use Rattle.tokens.specs.declared.Token.{Token}
 use Rattle.parser.specs.Views.{is_kind, is_symbol}
-use Rattle.parser.specs.Meaning.{token_of, Sound, SoundAs, ReadPart, opens, closes, passes, reads, read_part, joins, outside, inside, read_sets}
+use Rattle.parser.specs.Meaning.{token_of, Sound, ReadPart, opens, closes, passes, reads, read_part, joins, outside, inside, read_sets}
 use Rattle.parser.proofs.Views.{is_some, names_l_brace, names_r_brace, sees_sign, sees_symbol}
 use Rattle.language.specs.Machine.{Located}
 use Rattle.language.specs.Parser.{is_sign}
 use Rattle.language.specs.Lines.{RawSymbol, symbol_in}
 use Rattle.language.specs.Assembly as A
-use Rattle.assembler.specs.declared.rules.Sets.{Sets}
+use Rattle.assembler.specs.declared.sets.Sets.{Sets}
 use Rattle.assembler.specs.Rules.{counted, combinations_from, combinations}
 use Rattle.assembler.proofs.Braces.{balanced}
 

@@ -2,22 +2,21 @@
 use mathlib.Core.Path.{◌≡◌, refl, sym, ap, subst, ◌∙◌}
 use mathlib.Core.Bool.{false}
 use mathlib.Core.List.{List, [], ◌∷◌, ◌++◌}
-use Prim.Native.Nat.{ℕ, zero, suc, ◌+◌, ◌-◌, ◌*◌, ◌≤◌, ◌<◌}
+use Prim.Native.Nat.{ℕ, ◌+◌, ◌*◌, ◌≤◌, ◌<◌}
 use native.Mathlib.Omega.{arith}
 use borrow.Author.Tests.{lt-leb, ne_eqb}
 use lib.Dec.{leb}
 use lib.ListN.{length, drop, length-append}
 use Rattle.diag.specs.declared.Span.{Span}
 use Rattle.diag.specs.declared.Diagnostic.{Diagnostic}
-use Rattle.diag.specs.Log.{Log, logged, append_all}
-use Rattle.diag.proofs.Appended.{append_all-count}
+use Rattle.diag.specs.declared.log.Log.{Log}
+use Rattle.diag.specs.Log.{logged, Log as Given}
 use Rattle.tokens.specs.declared.Token.{Token}
 use Rattle.parser.specs.Row.{peek}
 use Rattle.parser.specs.Lines.{line_length}
 use Rattle.assembler.specs.declared.rules.Tally.{Tally}
 use Rattle.assembler.specs.declared.rules.Verdict.{Verdict}
 use Rattle.assembler.specs.declared.rules.Verdict.TheVariants.{Other}
-use Rattle.assembler.specs.declared.survey.Counts.{Counts}
 use Rattle.assembler.specs.Rows.{rows, place_of}
 use Rattle.assembler.specs.Entries.{Entry, entry_at, behind, entries}
 use Rattle.assembler.specs.Feeds.{AllFed, Fed}
@@ -29,16 +28,6 @@ use Rattle.assembler.proofs.Rows.{length-rows, entries_at, entries-step, entries
 use Rattle.assembler.proofs.FailureLaws.{line_error-one}
 use Rattle.assembler.proofs.DeclarationLaws.{one_wrong}
 use Rattle.assembler.proofs.RuleLaws.{one-rule, verdict-within, after-within}
-
--- ---- a log's count
-pub given-count : (w w' : List ℕ) (n n' : ℕ) (ds : List Diagnostic) → logged w' n' ≡ append_all (logged w n) ds → n' ≡ n + length ds
-given-count w w' n n' ds e = ap (λ (l : Log). l.count) e ∙ append_all-count (logged w n) ds
-
--- appending no diagnostic changes nothing
-pub none-given : (l : Log) (ds : List Diagnostic) (k : ℕ) → k ≡ length ds → k ≡ 0 → l ≡ append_all l ds
-unfolding append_all
-none-given l [] k e z = refl
-none-given l (d ∷ ds) k e z = absurd (omega arith)
 
 -- ---- all lines: the walk has come to the line at the index i
 pub record Surveying (count : ℕ) (work first₀ first : List ℕ) (s : Tally) (f d r i : ℕ) : Type 0 where
@@ -53,18 +42,22 @@ pub record Surveying (count : ℕ) (work first₀ first : List ℕ) (s : Tally) 
   pub few_wrong : r ≤ i
   pub fed : AllFed (entries_at (rows count work) i)
 
-pub surveying_start : (count : ℕ) (work first : List ℕ) → Fed (rows count work) → Surveying count work first first no_rules 0 0 0 0
+-- a log that was given none
+pub no_count : (l : Log) (w : List ℕ) → logged l.row.now l.count ≡ logged w 0 → l.count ≡ 0
+no_count l w e = ap (λ (x : Given). x.count) e
+
+pub surveying_start : (count : ℕ) (work first : List ℕ) (f d r : ℕ) → Fed (rows count work) → f ≡ 0 → d ≡ 0 → r ≡ 0 → Surveying count work first first no_rules f d r 0
 unfolding entries
-surveying_start count work first fed = record {
+surveying_start count work first f d r fed ef ed er = record {
   declared = refl;
   rules = refl;
-  failures = omega arith;
-  names = omega arith;
-  wrong = omega arith;
+  failures = omega (arith, ef);
+  names = omega (arith, ed);
+  wrong = omega (arith, er);
   within = omega arith;
-  few_failures = omega arith;
-  few_names = omega arith;
-  few_wrong = omega arith;
+  few_failures = omega (arith, ef);
+  few_names = omega (arith, ed);
+  few_wrong = omega (arith, er);
   fed = fed;
 }
 

@@ -1,5 +1,5 @@
 -- Assembly as a whole: the passes over a row, and what they leave of a text.
-use Rattle.std.specs.Prelude.{ℕ, ◌+◌, ◌*◌, ◌≤◌, ◌<◌, ◌≡◌, Bool, true, cond, List, [], ◌∷◌, ◌++◌, map, ltb, length, get_or}
+use Rattle.std.specs.Prelude.{ℕ, ◌+◌, ◌*◌, ◌≤◌, ◌<◌, ◌≡◌, Bool, true, cond, List, ◌++◌, map, ltb, length, get_or}
 use Rattle.chars.specs.Utf8.{decode}
 use Rattle.lexer.specs.Tokens.{tokens}
 use Rattle.tokens.specs.declared.Token.{Token}
@@ -8,7 +8,7 @@ use Rattle.language.specs.Lines.{read_lines}
 use Rattle.language.specs.Assembly.{diagnostics_of}
 use Rattle.language.specs.Infer.{machine_of}
 use Rattle.diag.specs.declared.Diagnostic.{Diagnostic}
-use Rattle.diag.specs.Log.{Log, logged, append_all}
+use Rattle.diag.specs.Log.{logged, append_all}
 use Rattle.assembler.specs.declared.Assembled.{Assembled}
 use Rattle.assembler.specs.Rows.{rows}
 use Rattle.assembler.specs.Entries.{entries}
@@ -53,12 +53,6 @@ has_states count first rules = cond (ltb (get_or first 5 0) count) true (cond (l
 pub record Named (text : List ℕ) (count : ℕ) (w first : List ℕ) (wrong rules : ℕ) : Type 0 where
   pub listed : get_or first 10 0 < count → Interned text (rows count w) (words_from (length text)) w
   pub sound : wrong ≡ 0 → has_states count first rules ≡ true → Interned text (rows count w) (words_from (length text)) w
-
--- the last two passes over a row with entries, behind a log
-pub record FinalsAndRules (text : List ℕ) (count : ℕ) (w₀ w first : List ℕ) (rules : ℕ) (l : Log) (log : List ℕ) (n : ℕ) : Type 0 where
-  pub kept : Kept (words_from (length text)) w₀ w
-  pub named : Named text count w first n rules
-  pub written : logged log n ≡ append_all l (finals_errors text (rows count w₀) first ++ rule_errors no_rules (entries (rows count w₀)))
 
 -- the passes over a row with entries
 pub record Diagnosed (text : List ℕ) (count : ℕ) (w₀ w log₀ log : List ℕ) (r : Assembled) : Type 0 where

@@ -1,6 +1,6 @@
 -- The lines of a row whose first tokens are entries: what a line holds stands in its first token, and the line feed's index with it.
 -- An item's kind is 16 and its number, a failure's 32 and its code; a comment alone (12) and a line feed (13) are what they were.
-use Rattle.std.specs.Prelude.{ℕ, zero, suc, ◌+◌, ◌-◌, Bool, true, false, cond, List, [], ◌∷◌, eqb, leb, drop}
+use Rattle.std.specs.Prelude.{ℕ, zero, suc, ◌-◌, Bool, true, false, cond, List, [], ◌∷◌, eqb, leb, drop}
 use Rattle.tokens.specs.declared.Token.{Token}
 use Rattle.parser.specs.Row.{peek}
 

@@ -78,6 +78,10 @@ mark_of text ts qs before x = mark_by (listed text ts x before) (listed text ts 
 pub record Marks (text : List ℕ) (ts : List Token) (a b : ℕ) (w : List ℕ) (qs before : List ℕ) : Type 0 where
   pub marks : (x : ℕ) → x < length ts → is_word (peek ts x) ≡ true → get_or w (b + get_or w (a + x) 0) 0 ≡ mark_of text ts qs before x
 
+-- the row of marks holds the mark of each name, at the place that the row of first equal words gives
+pub record MarkedIn (text : List ℕ) (ts : List Token) (firsts marks qs before : List ℕ) : Type 0 where
+  pub marks-at : (x : ℕ) → x < length ts → is_word (peek ts x) ≡ true → get_or marks (get_or firsts x 0) 0 ≡ mark_of text ts qs before x
+
 -- where the rows stand: the tokens, then the row of first equal words at a, then the marks at b
 pub record Laid (count a b : ℕ) (w : List ℕ) : Type 0 where
   pub tokens : 4 * count ≤ a

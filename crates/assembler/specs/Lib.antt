@@ -7,6 +7,7 @@ pub mod Rules
 pub mod Entered
 pub mod Names
 pub mod Finals
+pub mod Marked
 pub mod Survey
 pub mod Records
 pub mod Assembled

@@ -8,7 +8,7 @@ use Rattle.parser.specs.Row.{peek}
 use Rattle.parser.specs.Views.{is_symbol}
 use Rattle.assembler.specs.Rows.{place_of}
 use Rattle.assembler.specs.Entries.{Entry}
-use Rattle.assembler.specs.declared.rules.Sets.{Sets}
+use Rattle.assembler.specs.declared.sets.Sets.{Sets}
 use Rattle.assembler.specs.declared.rules.Tally.{Tally}
 use Rattle.assembler.specs.declared.rules.Verdict.{Verdict}
 use Rattle.assembler.specs.declared.rules.Verdict.TheVariants.{Other, WrongArity, TooMany, Expands}

@@ -1,106 +1,83 @@
-// The first declaration of each name, and the diagnostics of declarations.
-ghost use Rattle.std.specs.Prelude.{◌≡◌, ◌+◌, ◌*◌, ◌<◌, ◌≤◌, ◌^◌, length};
-ghost use Rattle.diag.specs.Log.{error, with_related, logged, appended, append_all};
-ghost use Rattle.parser.specs.Row.{peek};
-ghost use Rattle.assembler.specs.Rows.{rows, place_of};
+// The first declaration of each name, and the diagnostics of declarations. The tokens are lent to be read and the log to be written, and a place in one
+// goes with any place in the other, so that they are two parameters, here and in failures, pass and rules. That the tokens are few and fed is asked by
+// the walks over all lines, here and there: a struct that says so would be taken apart again for the functions of one line. That the log can count on is
+// asked of each: a bound in Log would ask it of whoever makes one.
+ghost use Rattle.std.specs.Prelude.{◌≡◌, [], ◌∷◌, ◌+◌, ◌<◌, ◌^◌};
+ghost use Rattle.diag.specs.Log.{error, with_related};
+ghost use Rattle.diag.specs.Appends.{Appends};
+ghost use Rattle.tokens.specs.Row.{peek};
+ghost use Rattle.tokens.specs.Listed.{tokens_of};
+ghost use Rattle.assembler.specs.Rows.{place_of};
 ghost use Rattle.assembler.specs.Entries.{entry_at, entries};
 ghost use Rattle.assembler.specs.Feeds.{Fed};
 ghost use Rattle.assembler.specs.Declarations.{declare, declarations, tapes_error, declaration_error, declaration_errors};
 
-use crate::entry;
-use diag::Diagnostic;
-use tokens::Token;
+use crate::{entry, seek};
+use diag::{Code, Diagnostic, Log};
+use parser::ItemKind;
+use tokens::{Token, Tokens, span_of};
 
-// The number of names.
-pub const NAMES: usize = 11;
-// The number of the name `tapes`.
-const TAPES: u32 = 4;
-// The codes of diagnostics.
-const TOO_LARGE: u32 = 9;
-
-const DUPLICATE_DECLARATION: u32 = 11;
+// The number of names: the items before a rule's.
+pub const NAMES: usize = ItemKind::Transition as usize;
 
 // Tapes above 255: at the value.
-pub fn tapes_error(work: &[u32], count: usize, at: usize, log: &mut [u32], errors: usize) -> usize
-    requires { (4 * count ≤ length work.now) × (at < count) × (errors + 1 < 2 ^ 64) }
-    ensures { logged log.new result ≡ append_all (logged log.old errors) (tapes_error (entry_at (rows count work.now) at)) }
+pub fn tapes_error(tokens: &Tokens, at: usize, log: &mut Log)
+    requires { (at < tokens.now.count) × (log.old.count + 1 < 2 ^ 64) }
+    ensures { Appends log.old log.new (tapes_error (entry_at (tokens_of tokens.now) at)) }
 {
-    let t = entry::token_at(work, count, at);
-    if t.kind != entry::ITEM + TAPES {
-        return errors;
+    if tokens.known(at).kind == entry::ITEM + ItemKind::Tapes as u32 {
+        let v = tokens.at(at + 2);
+        if 255 < v.value {
+            log.append(Diagnostic::error(Code::TooLarge as u32, span_of(v)));
+        }
     }
-    let v = entry::token_at(work, count, at + 2);
-    if 255 < v.value {
-        return diag::append(
-            log,
-            errors,
-            Diagnostic::error(TOO_LARGE, entry::place_of(v)),
-        );
-    }
-    errors
 }
 
 // A name that is declared again by the token t, related to its first declaration, f.
-pub fn duplicate(
-    work: &[u32],
-    count: usize,
-    f: usize,
-    t: Token,
-    log: &mut [u32],
-    errors: usize,
-) -> usize
-    requires { (4 * count ≤ length work.now) × (errors + 1 < 2 ^ 64) }
-    ensures { logged log.new result ≡ appended (logged log.old errors) (with_related (error 11 (place_of t)) (place_of (peek (rows count work.now) f))) }
+pub fn duplicate(tokens: &Tokens, f: usize, t: Token, log: &mut Log)
+    requires { log.old.count + 1 < 2 ^ 64 }
+    ensures { Appends log.old log.new (with_related (error 11 (place_of t)) (place_of (peek (tokens_of tokens.now) f)) ∷ []) }
 {
-    let d = Diagnostic::error(DUPLICATE_DECLARATION, entry::place_of(t));
-    let p = entry::token_at(work, count, f);
-    diag::append(log, errors, d.with_related(entry::place_of(p)))
+    let d = Diagnostic::error(Code::Duplicate as u32, span_of(t));
+    log.append(d.with_related(span_of(tokens.at(f))));
 }
 
 // One line's, and its declaration if it is the first of its name.
-pub fn declaration(
-    work: &[u32],
-    count: usize,
-    at: usize,
-    first: &mut [u32; 11],
-    log: &mut [u32],
-    errors: usize,
-) -> usize
-    requires { (4 * count ≤ length work.now) × (at < count) × (count < 2 ^ 32) × (errors + 1 < 2 ^ 64) }
-    ensures { (first.new ≡ declare count first.old (entry_at (rows count work.now) at)) × (logged log.new result ≡ append_all (logged log.old errors) (declaration_error (rows count work.now) first.old (entry_at (rows count work.now) at))) }
+pub fn declaration(tokens: &Tokens, at: usize, first: &mut [u32; 11], log: &mut Log)
+    requires inside { (at < tokens.now.count) × (tokens.now.count < 2 ^ 32) }
+    requires room { log.old.count + 1 < 2 ^ 64 }
+    ensures first { first.new ≡ declare tokens.now.count first.old (entry_at (tokens_of tokens.now) at) }
+    ensures log { Appends log.old log.new
+        (declaration_error (tokens_of tokens.now) first.old (entry_at (tokens_of tokens.now) at)) }
 {
-    let t = entry::token_at(work, count, at);
+    let t = tokens.known(at);
     if t.kind < entry::ITEM {
-        return errors;
+        return;
     }
-    let k = entry::wide(t.kind - entry::ITEM);
+    let k = (t.kind - entry::ITEM) as usize;
     if NAMES <= k {
-        return errors;
+        return;
     }
-    let f = entry::wide(first[k]);
-    if f < count {
-        return duplicate(work, count, f, t, log, errors);
+    let f = first[k] as usize;
+    if f < tokens.count {
+        duplicate(tokens, f, t, log);
+        return;
     }
     first[k] = at as u32;
-    tapes_error(work, count, at, log, errors)
+    tapes_error(tokens, at, log);
 }
 
-// Of all lines.
-pub fn declarations(
-    work: &[u32],
-    count: usize,
-    first: &mut [u32; 11],
-    log: &mut [u32],
-    errors: usize,
-) -> usize
-    requires { (4 * count ≤ length work.now) × (count < 2 ^ 32) × (errors + count < 2 ^ 64) × Fed (rows count work.now) }
-    ensures { (first.new ≡ declarations count first.old (entries (rows count work.now))) × (logged log.new result ≡ append_all (logged log.old errors) (declaration_errors (rows count work.now) first.old (entries (rows count work.now)))) }
+// Of all lines. Where a line ends is found while it is read, so that no `for` counts the steps.
+pub fn declarations(tokens: &Tokens, first: &mut [u32; 11], log: &mut Log)
+    requires few { tokens.now.count < 2 ^ 32 }
+    requires room { log.old.count + tokens.now.count < 2 ^ 64 }
+    requires fed { Fed (tokens_of tokens.now) }
+    ensures first { first.new ≡ declarations tokens.now.count first.old (entries (tokens_of tokens.now)) }
+    ensures log { Appends log.old log.new (declaration_errors (tokens_of tokens.now) first.old (entries (tokens_of tokens.now))) }
 {
-    let mut n = errors;
     let mut at = 0;
-    while at < count {
-        n = declaration(work, count, at, first, log, n);
-        at = entry::behind_feed(work, count, at);
+    while at < tokens.count {
+        declaration(tokens, at, first, log);
+        at = seek::behind_feed(tokens, at);
     }
-    n
 }

@@ -1,39 +1,34 @@
 // The diagnostics of the lines that failed.
-ghost use Rattle.std.specs.Prelude.{◌≡◌, ◌+◌, ◌*◌, ◌<◌, ◌≤◌, ◌^◌, length};
-ghost use Rattle.diag.specs.Log.{logged, append_all};
-ghost use Rattle.parser.specs.Row.{tokens_in, peek};
-ghost use Rattle.assembler.specs.Rows.{rows};
-ghost use Rattle.assembler.specs.Entries.{entry_at, entries};
+ghost use Rattle.std.specs.Prelude.{◌+◌, ◌<◌, ◌^◌};
+ghost use Rattle.diag.specs.Appends.{Appends};
+ghost use Rattle.tokens.specs.Listed.{tokens_of};
+ghost use Rattle.assembler.specs.Entries.{entries};
 ghost use Rattle.assembler.specs.Feeds.{Fed};
 ghost use Rattle.assembler.specs.Failures.{line_error, line_errors};
 
-use crate::entry;
-use diag::Diagnostic;
-use tokens::Token;
+use crate::{entry, seek};
+use diag::{Diagnostic, Log};
+use tokens::{Token, Tokens, span_of};
 
 // One line's.
-pub fn line_error(t: Token, log: &mut [u32], errors: usize) -> usize
-    requires { errors + 1 < 2 ^ 64 }
-    ensures { logged log.new result ≡ append_all (logged log.old errors) (line_error t) }
+pub fn line_error(t: Token, log: &mut Log)
+    requires { log.old.count + 1 < 2 ^ 64 }
+    ensures { Appends log.old log.new (line_error t) }
 {
     if entry::FAILED <= t.kind {
-        let d = Diagnostic::error(t.kind - entry::FAILED, entry::place_of(t));
-        return diag::append(log, errors, d);
+        log.append(Diagnostic::error(t.kind - entry::FAILED, span_of(t)));
     }
-    errors
 }
 
-// Of all lines.
-pub fn line_errors(work: &[u32], count: usize, log: &mut [u32], errors: usize) -> usize
-    requires { (4 * count ≤ length work.now) × (errors + count < 2 ^ 64) × Fed (rows count work.now) }
-    ensures { logged log.new result ≡ append_all (logged log.old errors) (line_errors (entries (rows count work.now))) }
+// Of all lines. Where a line ends is found while it is read, so that no `for` counts the steps.
+pub fn line_errors(tokens: &Tokens, log: &mut Log)
+    requires room { log.old.count + tokens.now.count < 2 ^ 64 }
+    requires fed { Fed (tokens_of tokens.now) }
+    ensures { Appends log.old log.new (line_errors (entries (tokens_of tokens.now))) }
 {
-    let mut n = errors;
     let mut at = 0;
-    while at < count {
-        let t = entry::token_at(work, count, at);
-        n = line_error(t, log, n);
-        at = entry::behind_feed(work, count, at);
+    while at < tokens.count {
+        line_error(tokens.known(at), log);
+        at = seek::behind_feed(tokens, at);
     }
-    n
 }

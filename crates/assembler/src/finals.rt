@@ -1,203 +1,163 @@
 // The diagnostics of F: names listed twice, and names that a declared Q lacks.
-ghost use Rattle.std.specs.Prelude.{◌≡◌, true, false, cond, List, [], ◌∷◌, ◌++◌, eqb, ltb, ℕ, ◌+◌, ◌*◌, ◌<◌, ◌≤◌, ◌^◌, length, get_or, set};
-ghost use Rattle.diag.specs.Log.{error, logged, append_all};
-ghost use Rattle.parser.specs.Row.{peek};
-ghost use Rattle.assembler.specs.Rows.{rows, place_of};
+ghost use Rattle.std.specs.Prelude.{◌≡◌, true, List, [], ◌∷◌, ◌++◌, ltb, ℕ, ◌+◌, ◌<◌, ◌≤◌, ◌^◌, length, get_or};
+ghost use Rattle.diag.specs.Appends.{Appends};
+ghost use Rattle.tokens.specs.Row.{peek};
+ghost use Rattle.tokens.specs.Listed.{tokens_of};
+ghost use Rattle.equal_names.specs.Names.{FirstsOf};
 ghost use Rattle.assembler.specs.Names.{is_word};
-ghost use Rattle.assembler.specs.Finals.{name_at, names_of, final_error, final_error_at, final_errors, finals_errors, Marks, Interned, Laid, Kept};
+ghost use Rattle.assembler.specs.Finals.{name_at, names_of, final_error, final_error_at, final_errors, finals_errors};
 
-use crate::{declarations, entry};
-use diag::Diagnostic;
+use crate::declarations;
+use diag::{Code, Diagnostic, Log};
 use lexer::kind;
-use parser::view;
-use tokens::Token;
+use parser::{ItemKind, view};
+use tokens::{Tokens, span_of};
 
-// The code of a name that Q lacks.
-const UNKNOWN_NAME: u32 = 3;
-
-// Marks the name at an index.
-fn mark(work: &mut [u32], a: usize, b: usize, at: usize, m: u32)
-    requires { (a + at < length work.old) × (b + get_or work.old (a + at) 0 < length work.old) }
-    ensures { work.new ≡ set work.old (b + get_or work.old (a + at) 0) m }
-{
-    let k = entry::wide(work[a + at]);
-    work[b + k] = m;
+// The names of a text: its tokens, and the row of first equal words, which gives for each word the first that has its characters.
+#[derive(Clone, Copy)]
+pub struct Names<'a> {
+    pub text: &'a [u8],
+    pub tokens: Tokens<'a>,
+    pub firsts: &'a [u32],
+    pub ghost few: { tokens.count < 2 ^ 31 },
+    pub ghost room: { tokens.count ≤ length firsts.now },
+    pub ghost interned: { FirstsOf text.now (tokens_of tokens) tokens.count firsts.now },
 }
 
-// The mark of the name at an index.
-fn mark_at(work: &[u32], a: usize, b: usize, at: usize) -> u32
-    requires { (a + at < length work.now) × (b + get_or work.now (a + at) 0 < length work.now) }
-    ensures { result ≡ get_or work.now (b + get_or work.now (a + at) 0) 0 }
-{
-    let k = entry::wide(work[a + at]);
-    work[b + k]
-}
+// A row of marks holds for each name a word, at the index of the first word that has its characters: 1 where Q has the name, and 2 and the index of its
+// first listing where F has come by it. They are numbers, since they are words of the lent work. The marks are no field: each method would have to say
+// then that it keeps the tokens and the firsts.
+impl<'a> Names<'a> {
+    ghost use Rattle.assembler.specs.Marked.{row_of, Marked};
 
-// Takes all marks away.
-pub fn clear_marks(text: &[u8], work: &mut [u32], count: usize, a: usize, b: usize)
-    requires { Laid count a b work.old × Interned text.now (rows count work.old) a work.old }
-    ensures { Kept b work.old work.new × Marks text.now (rows count work.old) a b work.new [] [] }
-{
-    let e = b + count;
-    diag::clear(&mut work[b..e]);
-}
-
-// Marks the token at an index as one of Q's names, if it is one.
-fn mark_state(text: &[u8], work: &mut [u32], count: usize, a: usize, b: usize, at: usize)
-    requires { Laid count a b work.old × Interned text.now (rows count work.old) a work.old × (at < count) }
-    ensures { Kept b work.old work.new × ((qs : List ℕ) → Marks text.now (rows count work.old) a b work.old qs [] → Marks text.now (rows count work.old) a b work.new (qs ++ name_at at (peek (rows count work.old) at)) []) }
-{
-    if view::is_state(entry::token_at(work, count, at)) {
-        mark(work, a, b, at, 1);
+    // The names of tokens whose row of first equal words this is.
+    pub fn new(text: &'a [u8], tokens: Tokens<'a>, firsts: &'a [u32]) -> Self
+        requires few { tokens.count < 2 ^ 31 }
+        requires room { tokens.count ≤ length firsts.now }
+        requires interned { FirstsOf text.now (tokens_of tokens) tokens.count firsts.now }
+        ensures text { result.text.now ≡ text.now }
+        ensures tokens { result.tokens ≡ tokens.entry }
+        ensures firsts { result.firsts.now ≡ firsts.now }
+    {
+        Self {
+            text,
+            tokens,
+            firsts,
+        }
     }
-}
 
-// Marks the names of the set in the line at an index as Q's.
-pub fn mark_states(text: &[u8], work: &mut [u32], count: usize, a: usize, b: usize, q: usize)
-    requires { Laid count a b work.old × Interned text.now (rows count work.old) a work.old × Marks text.now (rows count work.old) a b work.old [] [] × (q < 2 ^ 32) }
-    ensures { Kept b work.old work.new × Marks text.now (rows count work.old) a b work.new (names_of (rows count work.old) q) [] }
-{
-    let mut i = q + 1;
-    while i < count {
-        let t = entry::token_at(work, count, i);
-        if t.kind == kind::NEWLINE {
+    // Marks the token at an index as one of Q's names, if it is one. Crate infer's list_final does this over Names of its own, which promise less: one
+    // function for both would ask again for what each of the two holds.
+    fn mark_state(&self, marks: &mut [u32], at: usize)
+        requires inside { at < self.now.tokens.count }
+        requires room { self.now.tokens.count ≤ length marks.old }
+        ensures { (qs : List ℕ) → Marked self.now marks.old qs []
+            → Marked self.now marks.new (qs ++ name_at at (peek (row_of self.now) at)) [] }
+    {
+        if view::is_state(self.tokens.at(at)) {
+            marks[self.firsts[at] as usize] = 1;
+        }
+    }
+
+    // Marks the names of the set in the line at an index as Q's, and no others. This loop and that of final_errors are two: one with a closure would have
+    // to say in its contract what all calls of it do.
+    pub fn mark_states(&self, marks: &mut [u32], q: usize)
+        requires line { q < 2 ^ 32 }
+        requires room { self.now.tokens.count ≤ length marks.old }
+        ensures { Marked self.now marks.new (names_of (row_of self.now) q) [] }
+    {
+        marks[..self.tokens.count].fill(0);
+        for i in q + 1..self.tokens.count {
+            if self.tokens.at(i).kind == kind::NEWLINE {
+                return;
+            }
+            self.mark_state(marks, i);
+        }
+    }
+
+    // The word at an index, as a name that F lists.
+    fn final_name(&self, marks: &mut [u32], at: usize, declared: bool, log: &mut Log)
+        requires inside { at < self.now.tokens.count }
+        requires word { is_word (peek (row_of self.now) at) ≡ true }
+        requires room { (self.now.tokens.count ≤ length marks.old) × (log.old.count + 1 < 2 ^ 64) }
+        ensures same_row { log.new.row.ghost_name ≡ log.old.row.ghost_name }
+        ensures listed { (qs before : List ℕ) → Marked self.now marks.old qs before
+            → Appends log.old log.new (final_error self.now.text.now (row_of self.now) declared qs before at)
+            × Marked self.now marks.new qs (before ++ at ∷ []) }
+    {
+        let t = self.tokens.at(at);
+        let k = self.firsts[at] as usize;
+        let m = marks[k];
+        if 2 <= m {
+            declarations::duplicate(&self.tokens, m as usize - 2, t, log);
             return;
         }
-        mark_state(text, work, count, a, b, i);
-        i += 1;
-    }
-}
-
-// A name with the mark m that is in no Q, where one is declared.
-fn unknown_error(t: Token, m: u32, declared: bool, log: &mut [u32], errors: usize) -> usize
-    requires { errors + 1 < 2 ^ 64 }
-    ensures { logged log.new result ≡ append_all (logged log.old errors) (cond (cond declared (eqb m 0) false) (error 3 (place_of t) ∷ []) []) }
-{
-    if declared {
-        if m == 0 {
-            return diag::append(
-                log,
-                errors,
-                Diagnostic::error(UNKNOWN_NAME, entry::place_of(t)),
-            );
+        marks[k] = (at + 2) as u32;
+        if declared && m == 0 {
+            log.append(Diagnostic::error(Code::UnknownName as u32, span_of(t)));
         }
-        return errors;
     }
-    errors
-}
 
-// The word at an index, as a name that F lists.
-fn final_name(
-    text: &[u8],
-    work: &mut [u32],
-    count: usize,
-    a: usize,
-    b: usize,
-    at: usize,
-    declared: bool,
-    log: &mut [u32],
-    errors: usize,
-) -> usize
-    requires { Laid count a b work.old × Interned text.now (rows count work.old) a work.old × (at < count) × (is_word (peek (rows count work.old) at) ≡ true) × (errors + 1 < 2 ^ 64) }
-    ensures { Kept b work.old work.new × ((qs before : List ℕ) → Marks text.now (rows count work.old) a b work.old qs before → (logged log.new result ≡ append_all (logged log.old errors) (final_error text.now (rows count work.old) declared qs before at)) × Marks text.now (rows count work.old) a b work.new qs (before ++ at ∷ [])) }
-{
-    let t = entry::token_at(work, count, at);
-    let m = mark_at(work, a, b, at);
-    if 2 <= m {
-        let f = entry::wide(m - 2);
-        return declarations::duplicate(work, count, f, t, log, errors);
-    }
-    mark(work, a, b, at, (at + 2) as u32);
-    unknown_error(t, m, declared, log, errors)
-}
-
-// The token at an index, as one of F's line.
-pub fn final_at(
-    text: &[u8],
-    work: &mut [u32],
-    count: usize,
-    a: usize,
-    b: usize,
-    at: usize,
-    declared: bool,
-    log: &mut [u32],
-    errors: usize,
-) -> usize
-    requires { Laid count a b work.old × Interned text.now (rows count work.old) a work.old × (at < count) × (errors + 1 < 2 ^ 64) }
-    ensures { Kept b work.old work.new × ((qs before : List ℕ) → Marks text.now (rows count work.old) a b work.old qs before → (logged log.new result ≡ append_all (logged log.old errors) (final_error_at text.now (rows count work.old) declared qs before at)) × Marks text.now (rows count work.old) a b work.new qs (before ++ name_at at (peek (rows count work.old) at))) }
-{
-    if view::is_state(entry::token_at(work, count, at)) {
-        return final_name(text, work, count, a, b, at, declared, log, errors);
-    }
-    errors
-}
-
-// The names of the set in the line at f, as those that F lists; those of the set at q are marked.
-fn final_errors(
-    text: &[u8],
-    work: &mut [u32],
-    count: usize,
-    a: usize,
-    b: usize,
-    q: usize,
-    f: usize,
-    log: &mut [u32],
-    errors: usize,
-) -> usize
-    requires { Laid count a b work.old × Interned text.now (rows count work.old) a work.old × Marks text.now (rows count work.old) a b work.old (names_of (rows count work.old) q) [] × (f < 2 ^ 32) × (errors + count < 2 ^ 64) }
-    ensures { Kept b work.old work.new × (logged log.new result ≡ append_all (logged log.old errors) (final_errors text.now (rows count work.old) (ltb q count) (names_of (rows count work.old) q) [] (names_of (rows count work.old) f))) }
-{
-    let declared = q < count;
-    let mut n = errors;
-    let mut i = f + 1;
-    while i < count {
-        let t = entry::token_at(work, count, i);
-        if t.kind == kind::NEWLINE {
-            return n;
+    // The token at an index, as one of F's line.
+    pub fn final_at(&self, marks: &mut [u32], at: usize, declared: bool, log: &mut Log)
+        requires inside { at < self.now.tokens.count }
+        requires room { (self.now.tokens.count ≤ length marks.old) × (log.old.count + 1 < 2 ^ 64) }
+        ensures same_row { log.new.row.ghost_name ≡ log.old.row.ghost_name }
+        ensures listed { (qs before : List ℕ) → Marked self.now marks.old qs before
+            → Appends log.old log.new (final_error_at self.now.text.now (row_of self.now) declared qs before at)
+            × Marked self.now marks.new qs (before ++ name_at at (peek (row_of self.now) at)) }
+    {
+        if view::is_state(self.tokens.at(at)) {
+            self.final_name(marks, at, declared, log);
         }
-        n = final_at(text, work, count, a, b, i, declared, log, n);
-        i += 1;
     }
-    n
+
+    // The names of the set in the line at f, as those that F lists; those of the set at q are marked.
+    fn final_errors(&self, marks: &mut [u32], q: usize, f: usize, log: &mut Log)
+        requires line { f < 2 ^ 32 }
+        requires room { (self.now.tokens.count ≤ length marks.old) × (log.old.count + self.now.tokens.count < 2 ^ 64) }
+        requires marks { Marked self.now marks.old (names_of (row_of self.now) q) [] }
+        ensures { Appends log.old log.new (final_errors self.now.text.now (row_of self.now) (ltb q self.now.tokens.count)
+            (names_of (row_of self.now) q) [] (names_of (row_of self.now) f)) }
+    {
+        let declared = q < self.tokens.count;
+        for i in f + 1..self.tokens.count {
+            if self.tokens.at(i).kind == kind::NEWLINE {
+                return;
+            }
+            self.final_at(marks, i, declared, log);
+        }
+    }
+
+    // The diagnostics of F, of the first declarations; the marks may be any before.
+    pub fn finals(&self, marks: &mut [u32], first: &[u32; 11], log: &mut Log)
+        requires room { (self.now.tokens.count ≤ length marks.old) × (log.old.count + self.now.tokens.count < 2 ^ 64) }
+        ensures { Appends log.old log.new (finals_errors self.now.text.now (row_of self.now) first.now) }
+    {
+        let q = first[ItemKind::States as usize] as usize;
+        let f = first[ItemKind::Final as usize] as usize;
+        self.mark_states(marks, q);
+        self.final_errors(marks, q, f, log);
+    }
 }
 
-// The diagnostics of F by marks, which are put at b.
-fn marked(
-    text: &[u8],
-    work: &mut [u32],
-    count: usize,
-    a: usize,
-    b: usize,
-    first: &[u32; 11],
-    log: &mut [u32],
-    errors: usize,
-) -> usize
-    requires { Laid count a b work.old × Interned text.now (rows count work.old) a work.old × (errors + count < 2 ^ 64) }
-    ensures { Kept b work.old work.new × (logged log.new result ≡ append_all (logged log.old errors) (finals_errors text.now (rows count work.old) first.now)) }
-{
-    let q = entry::wide(first[5]);
-    let f = entry::wide(first[10]);
-    clear_marks(text, work, count, a, b);
-    mark_states(text, work, count, a, b, q);
-    final_errors(text, work, count, a, b, q, f, log, errors)
-}
-
-// The diagnostics of F, of the first declarations; the row of first equal words stands at a where there is F, and b is free for marks. Without F there is none.
+// The diagnostics of F, of the first declarations; without F there is none, and nobody looks at the row of first equal words or at the marks.
 pub fn finals(
     text: &[u8],
-    work: &mut [u32],
-    count: usize,
-    a: usize,
-    b: usize,
+    tokens: &Tokens,
+    firsts: &[u32],
+    marks: &mut [u32],
     first: &[u32; 11],
-    log: &mut [u32],
-    errors: usize,
-) -> usize
-    requires { Laid count a b work.old × (get_or first.now 10 0 < count → Interned text.now (rows count work.old) a work.old) × (errors + count < 2 ^ 64) }
-    ensures { Kept b work.old work.new × (logged log.new result ≡ append_all (logged log.old errors) (finals_errors text.now (rows count work.old) first.now)) }
+    log: &mut Log,
+)
+    requires few { tokens.now.count < 2 ^ 31 }
+    requires room { (tokens.now.count ≤ length firsts.now) × (tokens.now.count ≤ length marks.old)
+        × (log.old.count + tokens.now.count < 2 ^ 64) }
+    requires interned { get_or first.now 10 0 < tokens.now.count
+        → FirstsOf text.now (tokens_of tokens.now) tokens.now.count firsts.now }
+    ensures { Appends log.old log.new (finals_errors text.now (tokens_of tokens.now) first.now) }
 {
-    if count <= entry::wide(first[10]) {
-        return errors;
+    if (first[ItemKind::Final as usize] as usize) < tokens.count {
+        Names::new(text, *tokens, firsts).finals(marks, first, log);
     }
-    marked(text, work, count, a, b, first, log, errors)
 }

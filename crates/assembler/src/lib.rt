@@ -2,14 +2,14 @@
 // the lines finds the declarations and the number of rules, and passes over them append the diagnostics.
 #![tactic(auto)]
 
-ghost use Rattle.std.specs.Prelude.{◌≡◌, ◌+◌, ◌*◌, ◌≤◌, ◌<◌, ◌^◌, length};
-ghost use Rattle.diag.specs.Log.{logged};
+ghost use Rattle.std.specs.Prelude.{◌≡◌, ◌++◌, ◌+◌, ◌*◌, ◌≤◌, ◌<◌, ◌^◌, length};
+ghost use Rattle.diag.specs.Appends.{Appends};
 ghost use Rattle.assembler.specs.Rows.{rows};
 ghost use Rattle.assembler.specs.Entries.{entries};
 ghost use Rattle.assembler.specs.Feeds.{Fed};
-ghost use Rattle.assembler.specs.Finals.{Laid, Kept};
+ghost use Rattle.assembler.specs.Finals.{Laid, Kept, finals_errors};
 ghost use Rattle.assembler.specs.Rules.{rule_errors, no_rules};
-ghost use Rattle.assembler.specs.Assembled.{Tokenized, has_states, Named, FinalsAndRules, Diagnosed, Outcome, words_from, marks_from};
+ghost use Rattle.assembler.specs.Assembled.{Tokenized, has_states, Named, Diagnosed, Outcome, words_from, marks_from};
 
 pub mod declarations;
 pub mod entry;
@@ -18,17 +18,17 @@ pub mod finals;
 pub mod lines;
 pub mod pass;
 pub mod rules;
+pub mod seek;
+pub mod sets;
 pub mod survey;
 
-// The numbers of items.
-const STATES: usize = 5;
+use diag::Log;
+use parser::ItemKind;
+use tokens::Tokens;
 
-const START: usize = 9;
-
-const FINAL: usize = 10;
-
-// What assembly finds: the entry of the first declaration of each name, a value that is no index for none; the number of rules; and the number of diagnostics.
-#[derive(Clone, Copy)]
+// What assembly finds: the entry of the first declaration of each name, a value that is no index for none; the number of rules; and the number of
+// diagnostics. No Option says that there is none: past the last token stands a line feed, so that a walk over such a line finds nothing without a test.
+#[derive(Clone, Copy, Debug, PartialEq, Eq)]
 pub struct Assembled {
     pub first: [u32; 11],
     pub rules: usize,
@@ -39,37 +39,30 @@ pub struct Assembled {
 pub fn has_states(count: usize, first: &[u32; 11], rules: usize) -> bool
     ensures { result ≡ has_states count first.now rules }
 {
-    if entry::wide(first[STATES]) < count {
-        return true;
-    }
-    if entry::wide(first[START]) < count {
-        return true;
-    }
-    if entry::wide(first[FINAL]) < count {
-        return true;
-    }
-    0 < rules
+    (first[ItemKind::States as usize] as usize) < count
+        || (first[ItemKind::Start as usize] as usize) < count
+        || (first[ItemKind::Final as usize] as usize) < count
+        || 0 < rules
 }
 
 // Puts the row of first equal words behind the tokens, where it is looked at: F lists names, or there is none of `wrong` diagnostics, so that a machine
-// follows, and it may have states.
+// follows, and it may have states. Here and below the words are written, so that the row and the number of tokens stay apart: Tokens lends them to be
+// read alone. What was found goes on one by one, since an Assembled has the number of all diagnostics, which is not known yet.
 fn names(text: &[u8], work: &mut [u32], count: usize, first: &[u32; 11], wrong: usize, rules: usize)
-    requires { Laid count (words_from (length text.now)) (marks_from (length text.now)) work.old × (6 * length text.now + 6 ≤ length work.old) }
+    requires { Laid count (words_from (length text.now)) (marks_from (length text.now)) work.old
+        × (6 * length text.now + 6 ≤ length work.old) }
     ensures { Kept (words_from (length text.now)) work.old work.new × Named text.now count work.new first.now wrong rules }
 {
-    if count <= entry::wide(first[FINAL]) {
-        if 0 < wrong {
-            return;
-        }
-        if !has_states(count, first, rules) {
-            return;
-        }
+    let listed = (first[ItemKind::Final as usize] as usize) < count;
+    if !listed && (0 < wrong || !has_states(count, first, rules)) {
+        return;
     }
     let base = text.len() + 1;
     equal_names::intern(text, work, count, 4 * base, 5 * base, base);
 }
 
-// The diagnostics of F and those of the rules, of which there are `wrong`, behind m others; `rules` is how many rules there are.
+// The diagnostics of F and those of the rules, of which there are `wrong`, behind others; `rules` is how many rules there are. The words are the tokens,
+// the row of first equal words and the marks.
 fn finals_and_rules(
     text: &[u8],
     work: &mut [u32],
@@ -77,33 +70,45 @@ fn finals_and_rules(
     first: &[u32; 11],
     wrong: usize,
     rules: usize,
-    log: &mut [u32],
-    m: usize,
-) -> usize
-    requires { Laid count (words_from (length text.now)) (marks_from (length text.now)) work.old × (6 * length text.now + 6 ≤ length work.old) × (m + 2 * count < 2 ^ 64) × Fed (rows count work.old) × (wrong ≡ length (rule_errors no_rules (entries (rows count work.old)))) }
-    ensures { FinalsAndRules text.now count work.old work.new first.now rules (logged log.old m) log.new result }
+    log: &mut Log,
+)
+    requires laid { Laid count (words_from (length text.now)) (marks_from (length text.now)) work.old
+        × (6 * length text.now + 6 ≤ length work.old) }
+    requires room { log.old.count + 2 * count < 2 ^ 64 }
+    requires fed { Fed (rows count work.old) }
+    requires wrong { wrong ≡ length (rule_errors no_rules (entries (rows count work.old))) }
+    ensures kept { Kept (words_from (length text.now)) work.old work.new }
+    ensures named { Named text.now count work.new first.now log.new.count rules }
+    ensures log { Appends log.old log.new
+        (finals_errors text.now (rows count work.old) first.now ++ rule_errors no_rules (entries (rows count work.old))) }
 {
-    names(text, work, count, first, m + wrong, rules);
+    names(text, work, count, first, log.count() + wrong, rules);
     let base = text.len() + 1;
-    let n = finals::finals(text, work, count, 4 * base, 5 * base, first, log, m);
-    pass::ruled(work, count, wrong, log, n)
+    let (front, marks) = work.split_at_mut(5 * base);
+    let (words, firsts) = front.split_at(4 * base);
+    let tokens = Tokens { words, count };
+    finals::finals(text, &tokens, firsts, marks, first, log);
+    pass::ruled(&tokens, wrong, log);
 }
 
 // The lines that were entered: one walk counts, and the passes that have diagnostics follow.
-fn diagnose(text: &[u8], work: &mut [u32], count: usize, log: &mut [u32]) -> Assembled
-    requires { Laid count (words_from (length text.now)) (marks_from (length text.now)) work.old × (6 * length text.now + 6 ≤ length work.old) × Fed (rows count work.old) }
-    ensures { Diagnosed text.now count work.old work.new log.old log.new result }
+fn diagnose(text: &[u8], work: &mut [u32], count: usize, row: &mut [u32]) -> Assembled
+    requires { Laid count (words_from (length text.now)) (marks_from (length text.now)) work.old
+        × (6 * length text.now + 6 ≤ length work.old) × Fed (rows count work.old) }
+    ensures { Diagnosed text.now count work.old work.new row.old row.new result }
 {
     let mut first = [0xffff_ffffu32; 11];
-    let s = survey::survey(work, count, &mut first);
-    let n = pass::failed(work, count, s.failures, log, 0);
-    let m = pass::declared(work, count, s.names, log, n);
-    let rules = s.rules;
-    let errors = finals_and_rules(text, work, count, &first, s.wrong, rules, log, m);
+    let mut log = Log::new(row);
+    let tokens = Tokens { words: work, count };
+    let counts = survey::survey(&tokens, &mut first);
+    pass::failed(&tokens, counts.failures, &mut log);
+    pass::declared(&tokens, counts.names, &mut log);
+    let rules = counts.rules;
+    finals_and_rules(text, work, count, &first, counts.wrong, rules, &mut log);
     Assembled {
         first,
         rules,
-        errors,
+        errors: log.count(),
     }
 }
 

@@ -1,20 +1,22 @@
-// Parses the lines, once, and enters the result of each in its first token.
+// Parses the lines, once, and enters the result of each in its first token. The tokens are written here, so that they are no Tokens, which lends them to be
+// read alone: the row, their number and an index go to each function that writes. Of a struct that is lent to be written each contract would also say that
+// it holds the same row and number.
 ghost use Rattle.std.specs.Prelude.{◌≡◌, ◌+◌, ◌*◌, ◌<◌, ◌≤◌, ◌^◌, length, drop, set, Err};
 ghost use Rattle.std.proofs.lemmas.List.Edits.{sets};
 ghost use Rattle.lexer.specs.Words.{onto};
+ghost use Rattle.tokens.specs.Row.{tokens_in};
+ghost use Rattle.tokens.specs.Listed.{tokens_of};
 ghost use Rattle.parser.specs.Lines.{Read, line, line_end};
 ghost use Rattle.assembler.specs.Rows.{rows};
-ghost use Rattle.assembler.specs.Entered.{words_of, flat, item_number, item_entry, PartsFit, counts_of, parts_of, enter_at, entered};
+ghost use Rattle.assembler.specs.Entered.{words_of, flat, item_number, item_entry, PartsFit, counts_of, parts_of};
+ghost use Rattle.assembler.specs.Entered.{enter_at, entered};
 
 use crate::entry;
 use lexer::kind;
 use parser::{Failure, Item, ItemKind, Line, Parts, items};
-use tokens::Token;
+use tokens::{Token, Tokens};
 
-// The number of a rule's item.
-const TRANSITION: u32 = 11;
-
-// The number of an item, in the source's order.
+// The number of an item, in the source's order. ItemKind is declared in parser, so that no From can stand here, and machine's numbers another table.
 #[tactic(auto, unfolding(crate::specs::Entered::item_number))]
 pub fn item_number(k: ItemKind) -> u32
     ensures { result ≡ item_number k }
@@ -22,7 +24,7 @@ pub fn item_number(k: ItemKind) -> u32
     k as u32
 }
 
-// A token at an index.
+// A token at an index. Lexer's `push` stores four numbers in this way: Token is declared above it.
 fn put(work: &mut [u32], at: usize, t: Token)
     requires { 4 * at + 4 ≤ length work.old }
     ensures { work.new ≡ sets work.old (4 * at) (words_of t) }
@@ -34,30 +36,36 @@ fn put(work: &mut [u32], at: usize, t: Token)
     work[o + 3] = t.value;
 }
 
-// The line at an index, or why it is refused.
-fn line_at(work: &[u32], count: usize, at: usize) -> Result<Line, Failure>
-    requires { (4 * count ≤ length work.now) × (at < count) }
-    ensures { result ≡ line (drop at (rows count work.now)) 0 }
+// The words of the tokens from an index on.
+fn rest<'a>(tokens: &Tokens<'a>, at: usize) -> &'a [u32]
+    requires { at < tokens.now.count }
+    ensures { tokens_in result.now ≡ drop at (tokens_of tokens.now) }
 {
-    let a = 4 * at;
-    let b = 4 * count;
-    items::line(&work[a..b], 0)
+    &tokens.words[4 * at..4 * tokens.count]
+}
+
+// The line at an index, or why it is refused.
+fn line_at(tokens: &Tokens, at: usize) -> Result<Line, Failure>
+    requires { at < tokens.now.count }
+    ensures { result ≡ line (drop at (tokens_of tokens.now)) 0 }
+{
+    items::line(rest(tokens, at), 0)
 }
 
 // The number of tokens in front of the line feed of the line at an index.
-fn size_of(work: &[u32], count: usize, at: usize) -> usize
-    requires { (4 * count ≤ length work.now) × (at < count) }
-    ensures { result ≡ line_end (drop at (rows count work.now)) 0 }
+fn size_of(tokens: &Tokens, at: usize) -> usize
+    requires { at < tokens.now.count }
+    ensures { result ≡ line_end (drop at (tokens_of tokens.now)) 0 }
 {
-    let a = 4 * at;
-    let b = 4 * count;
-    items::line_end(&work[a..b], 0)
+    items::line_end(rest(tokens, at), 0)
 }
 
 // The parts of a rule, in its `(` and in the comma behind its state.
+#[tactic(auto, using(crate::proofs::LineLaws::parts_put))]
 fn put_parts(work: &mut [u32], count: usize, at: usize, q: Parts)
     requires { (4 * count ≤ length work.old) × (at + 3 < count) × PartsFit at q }
-    ensures { work.new ≡ onto (flat (set (set (rows count work.old) (at + 1) (counts_of q)) (at + 3) (parts_of at q))) work.old }
+    ensures { work.new
+        ≡ onto (flat (set (set (rows count work.old) (at + 1) (counts_of q)) (at + 3) (parts_of at q))) work.old }
 {
     let counts = Token {
         kind: kind::L_PAREN,
@@ -76,6 +84,7 @@ fn put_parts(work: &mut [u32], count: usize, at: usize, q: Parts)
 }
 
 // The entry of an item of the line at an index.
+#[tactic(auto, using(crate::proofs::LineLaws::items))]
 fn put_item(work: &mut [u32], at: usize, x: Item)
     requires { (4 * at + 4 ≤ length work.old) × (at + x.newline < 2 ^ 32) }
     ensures { work.new ≡ sets work.old (4 * at) (words_of (item_entry at x)) }
@@ -93,24 +102,26 @@ fn put_item(work: &mut [u32], at: usize, x: Item)
 
 // An item of the line at an index, entered.
 fn enter_item(work: &mut [u32], count: usize, at: usize, x: Item)
-    requires { (4 * count ≤ length work.old) × (at < count) × (count < 2 ^ 31) × (line (drop at (rows count work.old)) 0 ≡ Read x) }
+    requires room { 4 * count ≤ length work.old }
+    requires inside { (at < count) × (count < 2 ^ 31) }
+    requires read { line (drop at (rows count work.old)) 0 ≡ Read x }
     ensures { work.new ≡ onto (flat (enter_at at (rows count work.old))) work.old }
 {
     put_item(work, at, x);
-    let k = x.kind;
-    if item_number(k) != TRANSITION {
-        return;
+    if let ItemKind::Transition = x.kind {
+        put_parts(work, count, at, x.parts);
     }
-    let q = x.parts;
-    put_parts(work, count, at, q);
 }
 
 // A failure of the line at an index, entered.
+#[tactic(auto, using(crate::proofs::LineLaws::failures))]
 fn enter_failed(work: &mut [u32], count: usize, at: usize, failure: Failure)
-    requires { (4 * count ≤ length work.old) × (at < count) × (count < 2 ^ 31) × (line (drop at (rows count work.old)) 0 ≡ Err failure) }
+    requires room { 4 * count ≤ length work.old }
+    requires inside { (at < count) × (count < 2 ^ 31) }
+    requires failed { line (drop at (rows count work.old)) 0 ≡ Err failure }
     ensures { work.new ≡ onto (flat (enter_at at (rows count work.old))) work.old }
 {
-    let n = size_of(work, count, at);
+    let n = size_of(&Tokens { words: work, count }, at);
     let span = failure.span;
     let t = Token {
         kind: entry::FAILED + failure.code.number(),
@@ -122,11 +133,12 @@ fn enter_failed(work: &mut [u32], count: usize, at: usize, failure: Failure)
 }
 
 // The line at an index, entered.
+#[tactic(auto, using(crate::proofs::LineLaws::nothing))]
 fn enter(work: &mut [u32], count: usize, at: usize)
     requires { (4 * count ≤ length work.old) × (at < count) × (count < 2 ^ 31) }
     ensures { work.new ≡ onto (flat (enter_at at (rows count work.old))) work.old }
 {
-    match line_at(work, count, at) {
+    match line_at(&Tokens { words: work, count }, at) {
         Ok(Line::Blank) => {}
         Ok(Line::Comment(_)) => {}
         Ok(Line::Item(x)) => enter_item(work, count, at, x),
@@ -134,7 +146,7 @@ fn enter(work: &mut [u32], count: usize, at: usize)
     }
 }
 
-// All lines, entered.
+// All lines, entered. Where a line ends stands in its entry, so that no `for` counts the steps.
 pub fn lines(work: &mut [u32], count: usize)
     requires { (4 * count ≤ length work.old) × (count < 2 ^ 31) }
     ensures { work.new ≡ onto (flat (entered (rows count work.old))) work.old }
@@ -142,6 +154,6 @@ pub fn lines(work: &mut [u32], count: usize)
     let mut at = 0;
     while at < count {
         enter(work, count, at);
-        at = entry::next_line(entry::token_at(work, count, at), at);
+        at = entry::next_line(tokens::token_at(work, at), at);
     }
 }

@@ -1,4 +1,6 @@
 // Characters of a text: UTF-8 (RFC 3629), the set that a description may use, and the classes of code points.
+// A text and a place in it are two parameters: what a function answers is a place of the whole text, which a slice from the place on would have to be counted
+// back to, and a cursor would make each contract say that it keeps the text.
 #![tactic(auto)]
 
 ghost use Rattle.std.specs.Prelude.{◌≡◌, true, ◌+◌, ◌*◌, ◌^◌, ◌<◌, ◌≤◌, length, get_or, drop, IfSome, IfNone, Some, nat_le, position, unwrap_or};
@@ -235,6 +237,8 @@ fn ascii_two(text: &[u8], at: usize) -> usize
 }
 
 // A place before which all bytes are ASCII, from one on: blocks of eight are passed over; where the third byte says that there is none, two bytes.
+// A `while` and no `chunks_exact`: `take_while` and `count` would give a number of blocks, of which the place and what the contract says of it would be
+// counted once more.
 fn ascii_blocks(text: &[u8], at: usize) -> usize
     requires { at ≤ length text.now }
     ensures { Passes text.now at result }
@@ -321,6 +325,7 @@ fn plain_run(text: &[u8], at: usize) -> usize
 pub fn plain_up_to(text: &[u8]) -> usize
     ensures { result ≡ plain_up_to text.now }
 {
+    // How far a turn goes depends on the bytes, so that no `for` counts it.
     let mut at = 0;
     while at < text.len() {
         if text[at] < 0x80 {

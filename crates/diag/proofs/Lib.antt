@@ -2,6 +2,7 @@ pub mod Cases
 pub mod Words
 pub mod Records
 pub mod Appended
+pub mod Appending
 pub mod Sorting
 pub mod Runs
 pub mod Scans

@@ -1,4 +1,6 @@
+pub mod Codes
 pub mod Sort
 pub mod Log
 pub mod Runs
 pub mod Paired
+pub mod Appends

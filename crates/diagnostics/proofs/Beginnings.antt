@@ -1,8 +1,8 @@
 -- The beginning of a search: what it finds is what assembly finds, the diagnostics of the text.
-use mathlib.Core.Path.{◌≡◌, refl, sym, ap, subst, ◌∙◌}
-use mathlib.Core.Bool.{true, false}
-use mathlib.Core.List.{List, [], ◌∷◌, ◌++◌, map}
-use Prim.Native.Nat.{ℕ, zero, suc, ◌+◌, ◌-◌, ◌*◌, ◌≤◌, ◌<◌, ◌^◌}
+use mathlib.Core.Path.{◌≡◌, refl, sym, ap, ◌∙◌}
+use mathlib.Core.Bool.{false}
+use mathlib.Core.List.{List, ◌++◌, map}
+use Prim.Native.Nat.{ℕ, ◌≤◌}
 use native.Mathlib.Omega.{arith}
 use lib.ListN.{length, length-map}
 use Rattle.chars.specs.Utf8.{decode}
@@ -17,7 +17,7 @@ use Rattle.assembler.specs.Rows.{rows}
 use Rattle.assembler.specs.Entries.{Entry, entries}
 use Rattle.assembler.specs.Entered.{entered}
 use Rattle.assembler.specs.Failures.{line_errors}
-use Rattle.assembler.specs.Declarations.{undeclared, declarations, declaration_errors}
+use Rattle.assembler.specs.Declarations.{undeclared, declarations}
 use Rattle.assembler.specs.Finals.{finals_errors, Laid}
 use Rattle.assembler.specs.Rules.{no_rules, rule_errors}
 use Rattle.assembler.specs.Records.{record_of, records_of}
@@ -28,12 +28,12 @@ use Rattle.diagnostics.specs.declared.Pass.TheVariants.{Failures}
 use Rattle.diagnostics.specs.declared.Search.{Search}
 use Rattle.diagnostics.specs.Repeats.{name_errors}
 use Rattle.diagnostics.specs.Pending.{pending_in, pending, passes_left}
-use Rattle.diagnostics.specs.Stands.{Stands, Started}
+use Rattle.diagnostics.specs.Stands.{Started}
 use Rattle.diagnostics.proofs.RepeatLaws.{repeats}
 
 -- the search at its beginning
 abbrev beginning : ℕ → Assembled → Search
-beginning count r = record { count = count; first = r.first; errors = r.errors; rules = r.rules; pass = Failures; at = 0; tally = 0; cut = false }
+beginning count r = record { count = count; first = r.first; errors = r.errors; rules = r.rules; pass = Failures; at = 0; tally = record { rules = 0; cut = false } }
 
 -- what it finds in a row
 row_found : (text : List ℕ) (ts : List Token) (count : ℕ) (r : Assembled) → length ts ≡ count → count ≤ 0xffffffff → r.first ≡ declarations count undeclared (entries ts)
@@ -48,7 +48,7 @@ row_found text ts count r size few e =
     ∙ ap (λ (ds : List Diagnostic). line_errors es ++ (ds ++ (finals_errors text ts all ++ rules))) (sym (repeats ts (omega arith)))
 
 pub started : (text : List ℕ) (count : ℕ) (w₀ w log₀ log : List ℕ) (r : Assembled) → Tokenized text count w₀ → Outcome text count w₀ w log₀ log r
-    → Started text count w₀ w (record { count = count; first = r.first; errors = r.errors; rules = r.rules; pass = Failures; at = 0; tally = 0; cut = false })
+    → Started text count w₀ w (record { count = count; first = r.first; errors = r.errors; rules = r.rules; pass = Failures; at = 0; tally = record { rules = 0; cut = false } })
 started text count w₀ w log₀ log r p o =
     let laid : Laid count (words_from (length text)) (marks_from (length text)) w = passes_laid text count w₀ w p o.entered in
     let size : length (rows count w) ≡ count = length-rows count w (omega (arith, laid.tokens, laid.words, laid.marks)) in

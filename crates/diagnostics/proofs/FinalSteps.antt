@@ -1,8 +1,8 @@
 -- Laws of the steps of the pass over F: the names that it has come by are those that are marked.
 use mathlib.Core.Path.{◌≡◌, refl, sym, ap, subst, ◌∙◌}
-use mathlib.Core.Bool.{Bool, true, false, cond}
+use mathlib.Core.Bool.{Bool}
 use mathlib.Core.List.{List, [], ◌∷◌, ◌++◌, append-nil, append_assoc}
-use Prim.Native.Nat.{ℕ, zero, suc, ◌+◌, ◌-◌, ◌*◌, ◌≤◌, ◌<◌, ◌^◌}
+use Prim.Native.Nat.{ℕ, zero, suc, ◌+◌, ◌-◌, ◌*◌, ◌≤◌, ◌<◌}
 use native.Mathlib.Omega.{arith}
 use native.Mathlib.Numerals.{add-one}
 use lib.Dec.{ltb}
@@ -14,15 +14,15 @@ use Rattle.parser.specs.Row.{peek, ended}
 use Rattle.assembler.specs.Rows.{rows}
 use Rattle.assembler.specs.Entries.{entries}
 use Rattle.assembler.specs.Assembled.{words_from, marks_from}
-use Rattle.assembler.specs.Finals.{name_at, names_from, names_of, final_error_at, final_errors, finals_errors, Marks, Interned, Laid, Kept}
+use Rattle.assembler.specs.Finals.{name_at, names_from, names_of, final_error_at, final_errors, finals_errors, Marks, Interned, Kept}
 use Rattle.assembler.specs.Rules.{rule_errors}
-use Rattle.assembler.proofs.MarkLaws.{kept_laid, kept_row, kept_interned, kept_trans}
-use Rattle.assembler.proofs.FinalLaws.{errors_on, names_stop, names-on, names-end, kept_marks}
+use Rattle.assembler.proofs.MarkLaws.{kept_laid, kept_row, kept_interned}
+use Rattle.assembler.proofs.FinalLaws.{errors_on, names_stop, names-on, names-end}
 use Rattle.diagnostics.specs.declared.Pass.{Pass}
 use Rattle.diagnostics.specs.declared.Pass.TheVariants.{Names, Finals, Rules}
 use Rattle.diagnostics.specs.declared.Search.{Search}
 use Rattle.diagnostics.specs.declared.Step.{Step}
-use Rattle.diagnostics.specs.Cursor.{moved, tally_of, onward, taken}
+use Rattle.diagnostics.specs.Cursor.{moved, onward, taken}
 use Rattle.diagnostics.specs.Pending.{names_in, names_before, finals_at, pending_in, pending, passes_left, left}
 use Rattle.diagnostics.specs.Stands.{Stands, Stepped}
 use Rattle.diagnostics.proofs.Steps.{here, stepped_by, stepped-on, stands_moved, stands_size, names_done, less-on}
@@ -119,7 +119,7 @@ module _ (text w₀ : List ℕ) (s : Search) (st : Stands text w₀ s) where
       let ts : List Token = rows c w₀ in
       let none : names_from (suc f) (drop (suc f) ts) ≡ [] = names-end ts (suc f) (omega (arith, stands_size text w₀ s st)) in
       let found : pending text w₀ s ≡ pending text w₀ (moved s Rules 0) =
-      names_done text w₀ s st one h ∙ ap (λ (ds : List Diagnostic). ds ++ rule_errors (tally_of s) (entries ts)) (sym (finals-first text ts s.first) ∙ finals-none text ts s.first (suc f) none) in
+      names_done text w₀ s st one h ∙ ap (λ (ds : List Diagnostic). ds ++ rule_errors s.tally (entries ts)) (sym (finals-first text ts s.first) ∙ finals-none text ts s.first (suc f) none) in
       stepped-on text w₀ w₀ s r Rules 0 e (stands_moved text w₀ s Rules 0 st (λ e. absurd (let z : 0 ≡ 1 = ap passes_left e in omega arith))) found
       (subst (λ (p : Pass). 0 * (c + 1) + (c - 0) < passes_left p * (c + 1) + (c - s.at)) (sym one) (omega arith)) refl
 
@@ -130,34 +130,20 @@ module _ (text w₀ : List ℕ) (s : Search) (st : Stands text w₀ s) where
   pub listed-names : s.pass ≡ Finals → s.at < s.count → Interned text (rows s.count w₀) (words_from (length text)) w₀
   listed-names two h = st.names (omega (arith, st.behind two))
 
-  module _ (w₁ : List ℕ) (kept : Kept (marks_from (length text)) w₀ w₁)
-      (cleared : Marks text (rows s.count w₀) (words_from (length text)) (marks_from (length text)) w₁ [] []) where
-    pub cleared_laid : Laid s.count (words_from (length text)) (marks_from (length text)) w₁
-    cleared_laid = kept_laid c a b w₀ w₁ st.laid kept
-
-    pub cleared_names : get_or s.first 10 0 < s.count → Interned text (rows s.count w₁) (words_from (length text)) w₁
-    cleared_names h = kept_interned c a b w₀ w₁ st.laid kept text (st.names h)
-
-    pub cleared_marks : Marks text (rows s.count w₁) (words_from (length text)) (marks_from (length text)) w₁ [] []
-    cleared_marks = kept_marks c a b w₀ w₁ st.laid kept text [] [] cleared
-
-    pub finals-entered : (w : List ℕ) (r : Step) (x y : ℕ) → s.pass ≡ Names → s.count ≤ s.at → x ≡ get_or s.first 5 0 → y ≡ get_or s.first 10 0
-        → Kept (marks_from (length text)) w₁ w → Marks text (rows s.count w₁) (words_from (length text)) (marks_from (length text)) w (names_of (rows s.count w₁) x) []
-        → r ≡ onward s Finals (y + 1) → Stepped text w₀ w s r
-    unfolding pending_in left
-    finals-entered w r x y one h ex ey k m e =
-        let i : ℕ = suc f in
-        let j : y + 1 ≡ i = add-one y ∙ ap suc ey in
-        let ts : List Token = rows c w₀ in
-        let k' : Kept b w₀ w = kept_trans b w₀ w₁ w kept k in
-        let row₁ : rows c w₁ ≡ ts = kept_row c a b w₀ w₁ st.laid kept in
-        let m₁ : Marks text ts a b w (names_of ts x) [] = subst (λ (r : List Token). Marks text r a b w (names_of r x) []) row₁ m in
-        let m₂ : Marks text ts a b w (names_of ts q) [] = subst (λ (x : ℕ). Marks text ts a b w (names_of ts x) []) ex m₁ in
-        let m₃ : Marks text ts a b w (names_of ts q) (names_before ts f i) = subst (λ (l : List ℕ). Marks text ts a b w (names_of ts q) l) (sym (before-first ts f)) m₂ in
-        let found : pending text w₀ s ≡ pending text w (moved s Finals i) =
-        names_done text w₀ s st one h ∙ ap (λ (ds : List Diagnostic). ds ++ rule_errors (tally_of s) (entries ts)) (sym (finals-first text ts s.first)) ∙ pending-kept w i k' in
-        stepped-on text w₀ w s r Finals i (e ∙ ap (onward s Finals) j) (stands_finals w i k' (omega arith) m₃) found
-        (subst (λ (p : Pass). 1 * (c + 1) + (c - i) < passes_left p * (c + 1) + (c - s.at)) (sym one) (omega arith)) k'.size
+  pub finals-entered : (w : List ℕ) (r : Step) (x y : ℕ) → s.pass ≡ Names → s.count ≤ s.at → x ≡ get_or s.first 5 0 → y ≡ get_or s.first 10 0
+      → Kept (marks_from (length text)) w₀ w → Marks text (rows s.count w₀) (words_from (length text)) (marks_from (length text)) w (names_of (rows s.count w₀) x) []
+      → r ≡ onward s Finals (y + 1) → Stepped text w₀ w s r
+  unfolding pending_in left
+  finals-entered w r x y one h ex ey k m e =
+      let i : ℕ = suc f in
+      let j : y + 1 ≡ i = add-one y ∙ ap suc ey in
+      let ts : List Token = rows c w₀ in
+      let m₂ : Marks text ts a b w (names_of ts q) [] = subst (λ (x : ℕ). Marks text ts a b w (names_of ts x) []) ex m in
+      let m₃ : Marks text ts a b w (names_of ts q) (names_before ts f i) = subst (λ (l : List ℕ). Marks text ts a b w (names_of ts q) l) (sym (before-first ts f)) m₂ in
+      let found : pending text w₀ s ≡ pending text w (moved s Finals i) =
+      names_done text w₀ s st one h ∙ ap (λ (ds : List Diagnostic). ds ++ rule_errors s.tally (entries ts)) (sym (finals-first text ts s.first)) ∙ pending-kept w i k in
+      stepped-on text w₀ w s r Finals i (e ∙ ap (onward s Finals) j) (stands_finals w i k (omega arith) m₃) found
+      (subst (λ (p : Pass). 1 * (c + 1) + (c - i) < passes_left p * (c + 1) + (c - s.at)) (sym one) (omega arith)) k.size
 
   -- ---- in the pass
   module _ (two : s.pass ≡ Finals) where
@@ -166,7 +152,7 @@ module _ (text w₀ : List ℕ) (s : Search) (st : Stands text w₀ s) where
     ended-stepped r none e =
         let ts : List Token = rows c w₀ in
         let found : pending text w₀ s ≡ pending text w₀ (moved s Rules 0) =
-        ap (pending text w₀) (sym (here s Finals two)) ∙ ap (λ (ds : List Diagnostic). ds ++ rule_errors (tally_of s) (entries ts)) (finals-none text ts s.first s.at none) in
+        ap (pending text w₀) (sym (here s Finals two)) ∙ ap (λ (ds : List Diagnostic). ds ++ rule_errors s.tally (entries ts)) (finals-none text ts s.first s.at none) in
         stepped-on text w₀ w₀ s r Rules 0 e (stands_moved text w₀ s Rules 0 st (λ e. absurd (let z : 0 ≡ 1 = ap passes_left e in omega arith))) found
         (subst (λ (p : Pass). 0 * (c + 1) + (c - 0) < passes_left p * (c + 1) + (c - s.at)) (sym two) (omega arith)) refl
 
@@ -195,7 +181,7 @@ module _ (text w₀ : List ℕ) (s : Search) (st : Stands text w₀ s) where
         let same : ltb x c ≡ d = ap (λ (x : ℕ). ltb x c) ex ∙ ap (ltb q) (sym size) in
         let took : taken r ≡ ds = p.0 ∙ ap (λ (d : Bool). final_error_at text ts d (names_of ts q) before s.at) same in
         let m : Marks text ts a b w (names_of ts q) (names_before ts f i) = subst (λ (l : List ℕ). Marks text ts a b w (names_of ts q) l) (sym (before_on ts f s.at (st.behind two) low)) p.1 in
-        let rest : List Diagnostic = rule_errors (tally_of s) (entries ts) in
+        let rest : List Diagnostic = rule_errors s.tally (entries ts) in
         let found : pending text w₀ s ≡ ds ++ pending text w (moved s Finals i) =
         ap (pending text w₀) (sym (here s Finals two))
         ∙ ap (λ (l : List Diagnostic). l ++ rest) (finals-on text ts s.first s.at (st.behind two) low (λ z. k (ap (λ (t : Token). t.kind) et ∙ z)))

@@ -3,6 +3,7 @@ pub mod NameLaws
 pub mod LineSteps
 pub mod Steps
 pub mod FinalSteps
+pub mod Parts
 pub mod Going
 pub mod RepeatLaws
 pub mod Beginnings

@@ -1,19 +1,22 @@
 -- Laws of a step over one line: what it took is the line's diagnostic, and the search goes on behind the line.
-use mathlib.Core.Path.{◌≡◌, refl, sym, ap, subst, ◌∙◌}
-use mathlib.Core.Bool.{Bool, true, false, cond}
-use mathlib.Core.List.{List, [], ◌∷◌, ◌++◌}
-use Prim.Native.Nat.{ℕ, ◌+◌, ◌-◌, ◌*◌, ◌≤◌, ◌<◌}
-use native.Mathlib.Omega.{arith}
+use mathlib.Core.Path.{◌≡◌, ap, ◌∙◌}
+use mathlib.Core.Bool.{Bool}
+use mathlib.Core.List.{List, ◌++◌}
+use Prim.Native.Nat.{ℕ, ◌+◌, ◌≤◌}
 use lib.ListN.{length, replicate}
 use Rattle.diag.specs.declared.Span.{Span}
 use Rattle.diag.specs.declared.Diagnostic.{Diagnostic}
-use Rattle.diag.specs.Log.{Log, logged, append_all}
+use Rattle.diag.specs.declared.log.Log as D
+use Rattle.diag.specs.Log.{logged, append_all}
+use Rattle.diag.specs.Appends.{Appends}
 use Rattle.tokens.specs.declared.Token.{Token}
 use Rattle.parser.specs.Row.{peek}
-use Rattle.assembler.specs.Rows.{rows, place_of}
+use Rattle.assembler.specs.Rows.{place_of}
 use Rattle.assembler.specs.Entries.{Entry, entry_at, behind}
 use Rattle.assembler.specs.Failures.{line_error}
-use Rattle.assembler.specs.Finals.{Marks, name_at, final_error_at}
+use Rattle.assembler.specs.Finals.{name_at, final_error_at}
+use Rattle.assembler.specs.declared.finals.Names.{Names}
+use Rattle.assembler.specs.Marked.{row_of, Marked}
 use Rattle.assembler.specs.Rules.{verdict, after, rule_error}
 use Rattle.assembler.specs.declared.rules.Tally.{Tally}
 use Rattle.assembler.specs.declared.rules.Verdict.{Verdict}
@@ -24,9 +27,9 @@ use Rattle.diagnostics.specs.declared.Pass.{Pass}
 use Rattle.diagnostics.specs.declared.Pass.TheVariants.{Rules}
 use Rattle.diagnostics.specs.declared.Search.{Search}
 use Rattle.diagnostics.specs.declared.Step.{Step}
-use Rattle.diagnostics.specs.Cursor.{moved, tallied, tally_of, next_line, ruled, stepped, taken}
+use Rattle.diagnostics.specs.Cursor.{moved, tallied, next_line, ruled, stepped, taken}
 use Rattle.diagnostics.specs.Repeats.{name_error}
-use Rattle.diagnostics.proofs.Taken.{taken_is}
+use Rattle.diagnostics.proofs.Taken.{taken_is, given_log}
 use Rattle.diagnostics.proofs.NameLaws.{one_name}
 
 module _ (r : Step) (q : Search) (g : List ℕ) (n : ℕ) (made : r ≡ stepped q g n) where
@@ -48,25 +51,27 @@ module _ (r : Step) (q : Search) (g : List ℕ) (n : ℕ) (made : r ≡ stepped 
     search_line ts i t at e = search_at ∙ ap (moved s p) (e ∙ ap (λ (t : Token). i + 1 + behind i t) at)
 
   -- of a token of F's line
-  pub took_listed : (text : List ℕ) (ts : List Token) (a b : ℕ) (w v : List ℕ) (d : Bool) (i : ℕ)
-      → ((qs before : List ℕ) → Marks text ts a b w qs before
-      → (logged g n ≡ append_all (logged (replicate 5 0) 0) (final_error_at text ts d qs before i)) × Marks text ts a b v qs (before ++ name_at i (peek ts i)))
-      → (qs before : List ℕ) → Marks text ts a b w qs before → (taken r ≡ final_error_at text ts d qs before i) × Marks text ts a b v qs (before ++ name_at i (peek ts i))
-  took_listed text ts a b w v d i f qs before m =
+  pub took_listed : (names : Names) (marks v : List ℕ) (d : Bool) (i : ℕ) (l₀ l : D.Log) → logged l₀.row.now l₀.count ≡ logged (replicate 5 0) 0 → g ≡ l.row.now → n ≡ l.count
+      → ((qs before : List ℕ) → Marked names marks qs before
+      → Appends l₀ l (final_error_at names.text.now (row_of names) d qs before i) × Marked names v qs (before ++ name_at i (peek (row_of names) i)))
+      → (qs before : List ℕ) → Marked names marks qs before
+      → (taken r ≡ final_error_at names.text.now (row_of names) d qs before i) × Marked names v qs (before ++ name_at i (peek (row_of names) i))
+  took_listed names marks v d i l₀ l b eg en f qs before m =
       let x = f qs before m in
-      (took (final_error_at text ts d qs before i) x.0 (at_most_final text ts d qs before i), x.1)
+      let ds : List Diagnostic = final_error_at names.text.now (row_of names) d qs before i in
+      (took ds (given_log l₀ l ds g n b x.0 eg en) (at_most_final names.text.now (row_of names) d qs before i), x.1)
 
   -- of a rule
-  module _ (ts : List Token) (s : Search) (t : Token) (v : Verdict) (et : t ≡ peek ts s.at) (ev : v ≡ verdict s.tally (entry_at ts s.at)) where
-    pub took_rule : (p : Span) → p ≡ place_of t → logged g n ≡ append_all (logged (replicate 5 0) 0) (rule_error v s.cut p)
-        → taken r ≡ rule_error (verdict s.tally (entry_at ts s.at)) s.cut (place_of (peek ts s.at))
+  module _ (ts : List Token) (s : Search) (t : Token) (v : Verdict) (et : t ≡ peek ts s.at) (ev : v ≡ verdict s.tally.rules (entry_at ts s.at)) where
+    pub took_rule : (p : Span) → p ≡ place_of t → logged g n ≡ append_all (logged (replicate 5 0) 0) (rule_error v s.tally.cut p)
+        → taken r ≡ rule_error (verdict s.tally.rules (entry_at ts s.at)) s.tally.cut (place_of (peek ts s.at))
     took_rule p ep eg =
-        took (rule_error v s.cut p) eg (one-rule v s.cut p) ∙ ap (λ (p : Span). rule_error v s.cut p) (ep ∙ ap place_of et)
-        ∙ ap (λ (v : Verdict). rule_error v s.cut (place_of (peek ts s.at))) ev
+        took (rule_error v s.tally.cut p) eg (one-rule v s.tally.cut p) ∙ ap (λ (p : Span). rule_error v s.tally.cut p) (ep ∙ ap place_of et)
+        ∙ ap (λ (v : Verdict). rule_error v s.tally.cut (place_of (peek ts s.at))) ev
 
-pub search_rule : (x q : Search) → x ≡ q → (ts : List Token) (s : Search) (t : Token) (v : Verdict) → t ≡ peek ts s.at → v ≡ verdict s.tally (entry_at ts s.at)
-    → (c : Tally) (j : ℕ) (o : Search) → c ≡ after (tally_of s) v → j ≡ s.at + 1 + behind s.at t → o ≡ moved s Rules j → q ≡ tallied o c.rules c.cut → x ≡ ruled ts s
+pub search_rule : (x q : Search) → x ≡ q → (ts : List Token) (s : Search) (t : Token) (v : Verdict) → t ≡ peek ts s.at → v ≡ verdict s.tally.rules (entry_at ts s.at)
+    → (c : Tally) (j : ℕ) (o : Search) → c ≡ after s.tally v → j ≡ s.at + 1 + behind s.at t → o ≡ moved s Rules j → q ≡ tallied o c → x ≡ ruled ts s
 search_rule x q made ts s t v et ev c j o ec ej eo eq =
-    made ∙ eq ∙ ap (λ (o : Search). tallied o c.rules c.cut) eo
-    ∙ ap (λ (j : ℕ). tallied (moved s Rules j) c.rules c.cut) (ej ∙ ap (λ (t : Token). s.at + 1 + behind s.at t) et)
-    ∙ ap (λ (c : Tally). tallied (moved s Rules (next_line ts s.at)) c.rules c.cut) (ec ∙ ap (after (tally_of s)) ev)
+    made ∙ eq ∙ ap (λ (o : Search). tallied o c) eo
+    ∙ ap (λ (j : ℕ). tallied (moved s Rules j) c) (ej ∙ ap (λ (t : Token). s.at + 1 + behind s.at t) et)
+    ∙ ap (λ (c : Tally). tallied (moved s Rules (next_line ts s.at)) c) (ec ∙ ap (after s.tally) ev)

@@ -1,29 +1,28 @@
 -- Laws of a step of each pass: what it took and what is left is what was to be found.
 use mathlib.Core.Path.{◌≡◌, refl, sym, ap, subst, ◌∙◌}
-use mathlib.Core.Bool.{Bool, true, false, cond}
+use mathlib.Core.Bool.{Bool, true, false}
 use mathlib.Core.List.{List, [], ◌∷◌, ◌++◌, append_assoc}
-use Prim.Native.Nat.{ℕ, zero, suc, ◌+◌, ◌-◌, ◌*◌, ◌≤◌, ◌<◌, ◌^◌}
+use Prim.Native.Nat.{ℕ, ◌+◌, ◌-◌, ◌*◌, ◌≤◌, ◌<◌, ◌^◌}
 use native.Mathlib.Omega.{arith}
 use borrow.Author.Tests.{ltb-true, ltb-false}
 use lib.Dec.{ltb}
-use lib.ListN.{length, get_or}
+use lib.ListN.{length}
 use Rattle.diag.specs.declared.Diagnostic.{Diagnostic}
 use Rattle.tokens.specs.declared.Token.{Token}
 use Rattle.parser.specs.Row.{peek}
 use Rattle.assembler.specs.Rows.{rows, place_of}
-use Rattle.assembler.specs.declared.rules.Tally.{Tally}
 use Rattle.assembler.specs.declared.rules.Verdict.{Verdict}
-use Rattle.assembler.specs.Entries.{Entry, entry_at, behind, entries}
+use Rattle.assembler.specs.Entries.{Entry, entry_at, entries}
 use Rattle.assembler.specs.Failures.{line_error, line_errors}
 use Rattle.assembler.specs.Finals.{finals_errors}
-use Rattle.assembler.specs.Rules.{verdict, after, rule_error, rule_errors}
+use Rattle.assembler.specs.Rules.{verdict, rule_error, rule_errors}
 use Rattle.assembler.proofs.Rows.{length-rows, entries-step, entries-end}
 use Rattle.assembler.proofs.RuleLaws.{verdict-within, after-within}
 use Rattle.diagnostics.specs.declared.Pass.{Pass}
 use Rattle.diagnostics.specs.declared.Pass.TheVariants.{Failures, Names, Finals, Rules}
 use Rattle.diagnostics.specs.declared.Search.{Search}
 use Rattle.diagnostics.specs.declared.Step.{Step}
-use Rattle.diagnostics.specs.Cursor.{moved, tallied, tally_of, next_line, ruled, onward, taken}
+use Rattle.diagnostics.specs.Cursor.{moved, next_line, ruled, onward, taken}
 use Rattle.diagnostics.specs.Repeats.{name_error, name_errors}
 use Rattle.diagnostics.specs.Pending.{lines_at, pending_in, pending, passes_left, left}
 use Rattle.diagnostics.specs.Stands.{Stands, Stepped}
@@ -97,7 +96,7 @@ module _ (text w : List ℕ) (s : Search) (st : Stands text w s) where
     failure-stepped r h took to =
         let q : Search = moved s Failures (next_line ts s.at) in
         let x : List Diagnostic = line_error (peek ts s.at) in
-        let rest : List Diagnostic = name_errors ts s.first (entries ts) ++ (finals_errors text ts s.first ++ rule_errors (tally_of s) (entries ts)) in
+        let rest : List Diagnostic = name_errors ts s.first (entries ts) ++ (finals_errors text ts s.first ++ rule_errors s.tally (entries ts)) in
         let found : pending text w s ≡ x ++ pending text w q =
         ap (pending text w) (sym (here s Failures zero-pass)) ∙ ap (λ (es : List Entry). line_errors es ++ rest) (lines-on h)
         ∙ append_assoc x (line_errors (lines_at ts (next_line ts s.at))) rest in
@@ -107,7 +106,7 @@ module _ (text w : List ℕ) (s : Search) (st : Stands text w s) where
     pub failures_stepped : (r : Step) → s.count ≤ s.at → r ≡ onward s Names 0 → Stepped text w w s r
     unfolding pending_in line_errors left entries
     failures_stepped r h e =
-        let rest : List Diagnostic = name_errors ts s.first (entries ts) ++ (finals_errors text ts s.first ++ rule_errors (tally_of s) (entries ts)) in
+        let rest : List Diagnostic = name_errors ts s.first (entries ts) ++ (finals_errors text ts s.first ++ rule_errors s.tally (entries ts)) in
         let found : pending text w s ≡ pending text w (moved s Names 0) =
         ap (pending text w) (sym (here s Failures zero-pass)) ∙ ap (λ (es : List Entry). line_errors es ++ rest) (lines_end h) in
         stepped-on text w w s r Names 0 e (stands_moved text w s Names 0 st (λ e. absurd (let z : 2 ≡ 1 = ap passes_left e in omega arith))) found
@@ -121,18 +120,18 @@ module _ (text w : List ℕ) (s : Search) (st : Stands text w s) where
     name-stepped r h took to =
         let q : Search = moved s Names (next_line ts s.at) in
         let x : List Diagnostic = name_error ts s.first (entry_at ts s.at) in
-        let rest : List Diagnostic = finals_errors text ts s.first ++ rule_errors (tally_of s) (entries ts) in
+        let rest : List Diagnostic = finals_errors text ts s.first ++ rule_errors s.tally (entries ts) in
         let found : pending text w s ≡ x ++ pending text w q =
         ap (pending text w) (sym (here s Names one-pass)) ∙ ap (λ (es : List Entry). name_errors ts s.first es ++ rest) (lines-on h)
         ∙ append_assoc x (name_errors ts s.first (lines_at ts (next_line ts s.at))) rest in
         stepped_by text w w s r q x took to (stands_moved text w s Names (next_line ts s.at) st (λ e. absurd (let z : 2 ≡ 1 = ap passes_left e in omega arith))) found
         (less-on Names (next_line ts s.at) one-pass h (next_high s.at)) refl
 
-    pub names_done : s.count ≤ s.at → pending text w s ≡ finals_errors text (rows s.count w) s.first ++ rule_errors (tally_of s) (entries (rows s.count w))
+    pub names_done : s.count ≤ s.at → pending text w s ≡ finals_errors text (rows s.count w) s.first ++ rule_errors s.tally (entries (rows s.count w))
     unfolding pending_in name_errors
     names_done h =
         ap (pending text w) (sym (here s Names one-pass))
-        ∙ ap (λ (es : List Entry). name_errors ts s.first es ++ (finals_errors text ts s.first ++ rule_errors (tally_of s) (entries ts))) (lines_end h)
+        ∙ ap (λ (es : List Entry). name_errors ts s.first es ++ (finals_errors text ts s.first ++ rule_errors s.tally (entries ts))) (lines_end h)
 
   -- ---- the pass over rules
   module _ (three : s.pass ≡ Rules) where
@@ -143,25 +142,25 @@ module _ (text w : List ℕ) (s : Search) (st : Stands text w s) where
         go : (b : Bool) → ltb s.at s.count ≡ b → s.at < s.count
         go true e = ltb-true s.at s.count e
         go false e =
-            let none : pending text w s ≡ [] = ap (pending text w) (sym (here s Rules three)) ∙ ap (λ (es : List Entry). rule_errors (tally_of s) es) (lines_end (ltb-false s.at s.count e)) in
+            let none : pending text w s ≡ [] = ap (pending text w) (sym (here s Rules three)) ∙ ap (λ (es : List Entry). rule_errors s.tally es) (lines_end (ltb-false s.at s.count e)) in
             absurd (omega (arith, ap length none))
 
     pub rule-stepped : (r : Step) → s.at < s.count
-        → taken r ≡ rule_error (verdict s.tally (entry_at (rows s.count w) s.at)) s.cut (place_of (peek (rows s.count w) s.at))
+        → taken r ≡ rule_error (verdict s.tally.rules (entry_at (rows s.count w) s.at)) s.tally.cut (place_of (peek (rows s.count w) s.at))
         → r.search ≡ ruled (rows s.count w) s → Stepped text w w s r
     unfolding pending_in rule_errors left
     rule-stepped r h took to =
         let e : Entry = entry_at ts s.at in
-        let v : Verdict = verdict s.tally e in
-        let x : List Diagnostic = rule_error v s.cut (place_of (peek ts s.at)) in
+        let v : Verdict = verdict s.tally.rules e in
+        let x : List Diagnostic = rule_error v s.tally.cut (place_of (peek ts s.at)) in
         let found : pending text w s ≡ x ++ pending text w (ruled ts s) =
-        ap (pending text w) (sym (here s Rules three)) ∙ ap (λ (es : List Entry). rule_errors (tally_of s) es) (lines-on h) in
+        ap (pending text w) (sym (here s Rules three)) ∙ ap (λ (es : List Entry). rule_errors s.tally es) (lines-on h) in
         let m = stands_moved text w s Rules (next_line ts s.at) st (λ e. absurd (let z : 0 ≡ 1 = ap passes_left e in omega arith)) in
         stepped_by text w w s r (ruled ts s) x took to
         (record {
           laid = m.laid;
           names = m.names;
-          tally = after-within (tally_of s) v st.tally (λ m h. verdict-within s.tally m e h);
+          tally = after-within s.tally v st.tally (λ m h. verdict-within s.tally.rules m e h);
           behind = m.behind;
           marks = m.marks;
         }) found (less-on Rules (next_line ts s.at) three h (next_high s.at)) refl

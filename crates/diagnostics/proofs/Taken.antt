@@ -1,14 +1,15 @@
 -- Laws of a log of one record: what it was given is what the step that reads it took.
-use mathlib.Core.Path.{◌≡◌, refl, sym, ap, ◌∙◌}
-use mathlib.Core.Bool.{Bool, true, false, cond}
-use mathlib.Core.List.{List, [], ◌∷◌, ◌++◌}
-use Prim.Native.Nat.{ℕ, suc, ◌+◌, ◌*◌, ◌≤◌}
+use mathlib.Core.Path.{◌≡◌, ap, ◌∙◌}
+use mathlib.Core.List.{List, [], ◌∷◌}
+use Prim.Native.Nat.{ℕ, ◌*◌, ◌≤◌}
 use native.Mathlib.Omega.{arith}
 use borrow.Author.Tests.{eq-eqb, ne_eqb}
 use Rattle.std.specs.Prelude.{None, Some}
 use lib.ListN.{length, replicate}
 use Rattle.diag.specs.declared.Diagnostic.{Diagnostic}
+use Rattle.diag.specs.declared.log.Log as D
 use Rattle.diag.specs.Log.{record_from, Log, logged, appended, append_all}
+use Rattle.diag.specs.Appends.{Appends}
 use Rattle.diagnostics.specs.declared.Search.{Search}
 use Rattle.diagnostics.specs.declared.Step.{Step}
 use Rattle.diagnostics.specs.Cursor.{stepped, taken}
@@ -34,3 +35,8 @@ unfolding append_all
 taken_is s g n [] e h = log-none g n e s
 taken_is s g n (d ∷ []) e h = log-one g n d e s
 taken_is s g n (d ∷ x ∷ ds) e h = absurd (omega arith)
+
+-- what a log on a row of no record was given
+pub given_log : (l₀ l : D.Log) (ds : List Diagnostic) (g : List ℕ) (n : ℕ) → logged l₀.row.now l₀.count ≡ logged (replicate 5 0) 0 → Appends l₀ l ds → g ≡ l.row.now → n ≡ l.count
+    → logged g n ≡ append_all (logged (replicate 5 0) 0) ds
+given_log l₀ l ds g n b a eg en = ap (λ (w : List ℕ). logged w n) eg ∙ ap (logged l.row.now) en ∙ a.written ∙ ap (λ (x : Log). append_all x ds) b

@@ -1,5 +1,5 @@
 -- A search's cursor, and one step of it.
-use Rattle.std.specs.Prelude.{ℕ, ◌+◌, Bool, cond, List, [], ◌∷◌, eqb, Option, None, Some}
+use Rattle.std.specs.Prelude.{ℕ, ◌+◌, cond, List, [], ◌∷◌, eqb, Option, None, Some}
 use Rattle.tokens.specs.declared.Token.{Token}
 use Rattle.parser.specs.Row.{peek}
 use Rattle.diag.specs.declared.Diagnostic.{Diagnostic}
@@ -14,15 +14,11 @@ use Rattle.diagnostics.specs.declared.Step.{Step}
 
 -- the search at a token of a pass
 abbrev pub moved : Search → Pass → ℕ → Search
-moved s p i = record { count = s.count; first = s.first; errors = s.errors; rules = s.rules; pass = p; at = i; tally = s.tally; cut = s.cut }
+moved s p i = record { count = s.count; first = s.first; errors = s.errors; rules = s.rules; pass = p; at = i; tally = s.tally }
 
 -- the search with the rules so far
-abbrev pub tallied : Search → ℕ → Bool → Search
-tallied s n c = record { count = s.count; first = s.first; errors = s.errors; rules = s.rules; pass = s.pass; at = s.at; tally = n; cut = c }
-
--- the rules so far
-abbrev pub tally_of : Search → Tally
-tally_of s = record { rules = s.tally; cut = s.cut }
+abbrev pub tallied : Search → Tally → Search
+tallied s c = record { count = s.count; first = s.first; errors = s.errors; rules = s.rules; pass = s.pass; at = s.at; tally = c }
 
 -- where the line behind the one at an index begins
 abbrev pub next_line : List Token → ℕ → ℕ
@@ -30,7 +26,7 @@ next_line ts i = i + 1 + behind i (peek ts i)
 
 -- the search behind a line, with the rules that it stands for
 abbrev pub ruled : List Token → Search → Search
-ruled ts s = let c = after (tally_of s) (verdict s.tally (entry_at ts s.at)) in tallied (moved s Rules (next_line ts s.at)) c.rules c.cut
+ruled ts s = tallied (moved s Rules (next_line ts s.at)) (after s.tally (verdict s.tally.rules (entry_at ts s.at)))
 
 -- a step, with what a log of one record, given n diagnostics, took
 abbrev pub stepped : Search → List ℕ → ℕ → Step

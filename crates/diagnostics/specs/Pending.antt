@@ -1,5 +1,5 @@
 -- What a search still finds.
-use Rattle.std.specs.Prelude.{ℕ, suc, ◌+◌, ◌-◌, ◌*◌, cond, List, [], ◌∷◌, ◌++◌, eqb, ltb, length, get_or, take, drop}
+use Rattle.std.specs.Prelude.{ℕ, suc, ◌+◌, ◌-◌, ◌*◌, List, [], ◌∷◌, ◌++◌, ltb, length, get_or, take, drop}
 use Rattle.tokens.specs.declared.Token.{Token}
 use Rattle.diag.specs.declared.Diagnostic.{Diagnostic}
 use Rattle.assembler.specs.Rows.{rows}
@@ -10,7 +10,6 @@ use Rattle.assembler.specs.Rules.{rule_errors}
 use Rattle.diagnostics.specs.declared.Pass.{Pass}
 use Rattle.diagnostics.specs.declared.Pass.TheVariants.{Failures, Names, Finals, Rules}
 use Rattle.diagnostics.specs.declared.Search.{Search}
-use Rattle.diagnostics.specs.Cursor.{tally_of}
 use Rattle.diagnostics.specs.Repeats.{name_errors}
 
 -- the lines from an index on
@@ -39,7 +38,7 @@ finals_at text ts first i =
 unfoldable pub pending_in : List ℕ → List Token → Search → List Diagnostic
 unfolding entries line_errors name_errors finals_at finals_errors rule_errors
 pending_in text ts s =
-    let rules = rule_errors (tally_of s) in
+    let rules = rule_errors s.tally in
     let finals = finals_errors text ts s.first ++ rules (entries ts) in
     elim s.pass [
       | Failures ↦ line_errors (lines_at ts s.at) ++ (name_errors ts s.first (entries ts) ++ finals)

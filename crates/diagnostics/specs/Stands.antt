@@ -21,7 +21,7 @@ use Rattle.diagnostics.specs.Pending.{names_before, pending, left}
 pub record Stands (text w : List ℕ) (s : Search) : Type 0 where
   pub laid : Laid s.count (words_from (length text)) (marks_from (length text)) w
   pub names : get_or s.first 10 0 < s.count → Interned text (rows s.count w) (words_from (length text)) w
-  pub tally : s.tally ≤ 262144
+  pub tally : s.tally.rules ≤ 262144
   pub behind : s.pass ≡ Finals → get_or s.first 10 0 < s.at
   pub marks : s.pass ≡ Finals
       → Marks text (rows s.count w) (words_from (length text)) (marks_from (length text)) w (names_of (rows s.count w) (get_or s.first 5 0)) (names_before (rows s.count w) (get_or s.first 10 0) s.at)

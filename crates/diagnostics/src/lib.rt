@@ -7,6 +7,7 @@ ghost use Rattle.diagnostics.specs.Cursor.{moved, tallied};
 ghost use Rattle.diagnostics.specs.Pending.{pending};
 ghost use Rattle.diagnostics.specs.Stands.{Stands, Started};
 
+use assembler::rules::Tally;
 use diag::Diagnostic;
 
 pub mod lines;
@@ -21,8 +22,8 @@ pub enum Pass {
     Rules,
 }
 
-// How far a search has come: what assembly found, the pass, the index of the token to look at, the rules so far and whether one was
-// dropped for the limit.
+// How far a search has come: what assembly found, the pass, the index of the token to look at, and the rules so far. What assembly found is no Assembled
+// here, since the steps and their contracts look at its parts one by one.
 #[derive(Clone, Copy)]
 pub struct Search {
     pub count: usize,
@@ -31,8 +32,7 @@ pub struct Search {
     pub rules: usize,
     pub pass: Pass,
     pub at: usize,
-    pub tally: usize,
-    pub cut: bool,
+    pub tally: Tally,
 }
 
 // A diagnostic, and the search behind it.
@@ -60,16 +60,16 @@ impl Search {
     }
 
     // The search with the rules so far.
-    pub fn tallied(mut self, tally: usize, cut: bool) -> Self
-        ensures { result ≡ tallied self tally cut }
+    pub fn tallied(mut self, tally: Tally) -> Self
+        ensures { result ≡ tallied self tally }
     {
         self.tally = tally;
-        self.cut = cut;
         self
     }
 }
 
 // Assembles the description whose tokens stand in work; the search at its beginning.
+// The tokens are no `Tokens`, since work is lent whole: for the row of first equal words and the marks behind them too.
 pub fn start(text: &[u8], work: &mut [u32], count: usize) -> Search
     requires { Tokenized text.now count work.old }
     ensures { Started text.now count work.old work.new result }
@@ -84,15 +84,18 @@ pub fn start(text: &[u8], work: &mut [u32], count: usize) -> Search
         rules: a.rules,
         pass: Pass::Failures,
         at: 0,
-        tally: 0,
-        cut: false,
+        tally: Tally {
+            rules: 0,
+            cut: false,
+        },
     }
 }
 
-// The next diagnostic.
+// The next diagnostic. How many steps find nothing on the way to it is not known before: no range counts them.
 pub fn next(text: &[u8], work: &mut [u32], s: Search) -> Found
     requires { Stands text.now work.old s × (1 ≤ length (pending text.now work.old s)) }
-    ensures { (pending text.now work.old s ≡ result.diagnostic ∷ pending text.now work.new result.search) × Stands text.now work.new result.search × (length work.new ≡ length work.old) }
+    ensures { (pending text.now work.old s ≡ result.diagnostic ∷ pending text.now work.new result.search)
+        × Stands text.now work.new result.search × (length work.new ≡ length work.old) }
 {
     let mut search = s;
     loop {

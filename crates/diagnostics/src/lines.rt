@@ -1,25 +1,30 @@
 // One line of a pass, or one token of F's line: its diagnostic by a log of one record, and the search behind it.
-ghost use Rattle.std.specs.Prelude.{◌≡◌, List, ◌++◌, ℕ, ◌+◌, ◌*◌, ◌≤◌, ◌<◌, ◌^◌, length};
-ghost use Rattle.diag.specs.Log.{logged, append_all};
-ghost use Rattle.parser.specs.Row.{peek};
-ghost use Rattle.assembler.specs.Rows.{rows, place_of};
+// Tokens and search stay two parameters: the search is handed on by value, and the tokens are a part of work that is borrowed for one step.
+ghost use Rattle.std.specs.Prelude.{◌≡◌, List, ◌++◌, ℕ, ◌+◌, ◌≤◌, ◌<◌, ◌^◌, length};
+ghost use Rattle.diag.specs.Appends.{Appends};
+ghost use Rattle.tokens.specs.Row.{peek};
+ghost use Rattle.tokens.specs.Listed.{tokens_of};
+ghost use Rattle.assembler.specs.Rows.{place_of};
 ghost use Rattle.assembler.specs.Entries.{entry_at};
 ghost use Rattle.assembler.specs.Failures.{line_error};
-ghost use Rattle.assembler.specs.Finals.{Laid, Interned, Kept, Marks, name_at, final_error_at};
+ghost use Rattle.assembler.specs.Finals.{name_at, final_error_at};
+ghost use Rattle.assembler.specs.Marked.{row_of, Marked};
 ghost use Rattle.assembler.specs.Rules.{verdict, rule_error};
 ghost use Rattle.diagnostics.specs.Cursor.{moved, ruled, stepped, taken, next_line};
 ghost use Rattle.diagnostics.specs.Repeats.{name_error};
 
 use crate::{Pass, Search, Step};
-use assembler::rules::Tally;
-use assembler::{declarations, entry, failures, finals, rules};
+use assembler::finals::Names;
+use assembler::{declarations, entry, failures, rules};
+use diag::Log;
+use tokens::{Tokens, span_of};
 
-// A step to a search, with what a log of one record took.
-fn stepped(search: Search, log: &[u32; 5], n: usize) -> Step
-    ensures { result ≡ stepped search log.now n }
+// A step to a search, with what a log of one record took: n says whether it took one, and not how much of the row is used.
+fn stepped(search: Search, row: &[u32; 5], n: usize) -> Step
+    ensures { result ≡ stepped search row.now n }
 {
     let found = if n == 1 {
-        Some(diag::record_at(log, 0))
+        Some(diag::record_at(row, 0))
     } else {
         None
     };
@@ -27,74 +32,84 @@ fn stepped(search: Search, log: &[u32; 5], n: usize) -> Step
 }
 
 // A line, as one that may have failed.
-pub fn failure(work: &[u32], s: Search) -> Step
-    requires { (4 * s.count ≤ length work.now) × (s.at + 2 < 2 ^ 64) }
-    ensures { (taken result ≡ line_error (peek (rows s.count work.now) s.at)) × (result.search ≡ moved s Pass.Failures (next_line (rows s.count work.now) s.at)) }
+pub fn failure(tokens: &Tokens, s: Search) -> Step
+    requires { s.at + 2 < 2 ^ 64 }
+    ensures taken { taken result ≡ line_error (peek (tokens_of tokens.now) s.at) }
+    ensures search { result.search ≡ moved s Pass.Failures (next_line (tokens_of tokens.now) s.at) }
 {
-    let mut log = [0u32; 5];
-    let t = entry::token_at(work, s.count, s.at);
-    let n = failures::line_error(t, &mut log, 0);
-    stepped(s.moved(Pass::Failures, entry::next_line(t, s.at)), &log, n)
+    let mut row = [0u32; 5];
+    let mut log = Log::new(&mut row);
+    let t = tokens.at(s.at);
+    failures::line_error(t, &mut log);
+    let n = log.count();
+    stepped(s.moved(Pass::Failures, entry::next_line(t, s.at)), &row, n)
 }
 
-// The diagnostic of a line that declares a name, given the first declarations.
-fn name_error(work: &[u32], count: usize, at: usize, first: &[u32; 11], log: &mut [u32]) -> usize
-    requires { (4 * count ≤ length work.now) × (at < count) }
-    ensures { logged log.new result ≡ append_all (logged log.old 0) (name_error (rows count work.now) first.now (entry_at (rows count work.now) at)) }
+// The diagnostic of the line at an index that declares a name, given the first declarations.
+fn name_error(tokens: &Tokens, at: usize, first: &[u32; 11], log: &mut Log)
+    requires { (at < tokens.now.count) × (log.old.count + 1 < 2 ^ 64) }
+    ensures { Appends log.old log.new (name_error (tokens_of tokens.now) first.now (entry_at (tokens_of tokens.now) at)) }
 {
-    let t = entry::token_at(work, count, at);
+    let t = tokens.at(at);
     if t.kind < entry::ITEM {
-        return 0;
+        return;
     }
-    let k = entry::wide(t.kind - entry::ITEM);
+    let k = (t.kind - entry::ITEM) as usize;
     if declarations::NAMES <= k {
-        return 0;
+        return;
     }
-    let f = entry::wide(first[k]);
+    let f = first[k] as usize;
     if f == at {
-        return declarations::tapes_error(work, count, at, log, 0);
+        declarations::tapes_error(tokens, at, log);
+    } else {
+        declarations::duplicate(tokens, f, t, log);
     }
-    declarations::duplicate(work, count, f, t, log, 0)
 }
 
 // A line, as one that may declare a name.
-pub fn name(work: &[u32], s: Search) -> Step
-    requires { (4 * s.count ≤ length work.now) × (s.at < s.count) × (s.at + 2 < 2 ^ 64) }
-    ensures { (taken result ≡ name_error (rows s.count work.now) s.first (entry_at (rows s.count work.now) s.at)) × (result.search ≡ moved s Pass.Names (next_line (rows s.count work.now) s.at)) }
+pub fn name(tokens: &Tokens, s: Search) -> Step
+    requires { (s.at < tokens.now.count) × (s.at + 2 < 2 ^ 64) }
+    ensures taken { taken result ≡ name_error (tokens_of tokens.now) s.first (entry_at (tokens_of tokens.now) s.at) }
+    ensures search { result.search ≡ moved s Pass.Names (next_line (tokens_of tokens.now) s.at) }
 {
-    let mut log = [0u32; 5];
+    let mut row = [0u32; 5];
+    let mut log = Log::new(&mut row);
     let first = s.first;
-    let t = entry::token_at(work, s.count, s.at);
-    let n = name_error(work, s.count, s.at, &first, &mut log);
-    stepped(s.moved(Pass::Names, entry::next_line(t, s.at)), &log, n)
+    let t = tokens.at(s.at);
+    name_error(tokens, s.at, &first, &mut log);
+    let n = log.count();
+    stepped(s.moved(Pass::Names, entry::next_line(t, s.at)), &row, n)
 }
 
 // A token of F's line.
-pub fn listed(text: &[u8], work: &mut [u32], a: usize, b: usize, s: Search, declared: bool) -> Step
-    requires { Laid s.count a b work.old × Interned text.now (rows s.count work.old) a work.old × (s.at < s.count) }
-    ensures { Kept b work.old work.new × (result.search ≡ moved s Pass.Finals (s.at + 1)) × ((qs before : List ℕ) → Marks text.now (rows s.count work.old) a b work.old qs before → (taken result ≡ final_error_at text.now (rows s.count work.old) declared qs before s.at) × Marks text.now (rows s.count work.old) a b work.new qs (before ++ name_at s.at (peek (rows s.count work.old) s.at))) }
+pub fn listed(names: &Names, marks: &mut [u32], s: Search, declared: bool) -> Step
+    requires { (s.at < names.now.tokens.count) × (names.now.tokens.count ≤ length marks.old) }
+    ensures search { result.search ≡ moved s Pass.Finals (s.at + 1) }
+    ensures taken { (qs before : List ℕ) → Marked names.now marks.old qs before
+        → (taken result ≡ final_error_at names.now.text.now (row_of names.now) declared qs before s.at)
+        × Marked names.now marks.new qs (before ++ name_at s.at (peek (row_of names.now) s.at)) }
 {
-    let mut log = [0u32; 5];
-    let n = finals::final_at(text, work, s.count, a, b, s.at, declared, &mut log, 0);
-    stepped(s.moved(Pass::Finals, s.at + 1), &log, n)
+    let mut row = [0u32; 5];
+    let mut log = Log::new(&mut row);
+    names.final_at(marks, s.at, declared, &mut log);
+    let n = log.count();
+    stepped(s.moved(Pass::Finals, s.at + 1), &row, n)
 }
 
 // A line, as one that may be a rule.
-pub fn rule(work: &[u32], s: Search) -> Step
-    requires { (4 * s.count ≤ length work.now) × (s.count < 2 ^ 31) × (s.at < s.count) × (s.tally ≤ 262144) }
-    ensures { (taken result ≡ rule_error (verdict s.tally (entry_at (rows s.count work.now) s.at)) s.cut (place_of (peek (rows s.count work.now) s.at))) × (result.search ≡ ruled (rows s.count work.now) s) }
+pub fn rule(tokens: &Tokens, s: Search) -> Step
+    requires { (tokens.now.count < 2 ^ 31) × (s.at < tokens.now.count) × (s.tally.rules ≤ 262144) }
+    ensures taken { taken result
+        ≡ rule_error (verdict s.tally.rules (entry_at (tokens_of tokens.now) s.at)) s.tally.cut
+        (place_of (peek (tokens_of tokens.now) s.at)) }
+    ensures search { result.search ≡ ruled (tokens_of tokens.now) s }
 {
-    let mut log = [0u32; 5];
-    let t = entry::token_at(work, s.count, s.at);
-    let v = rules::verdict_at(work, s.count, s.at, s.tally);
-    let n = rules::rule_error(v, s.cut, entry::place_of(t), &mut log, 0);
-    let c = rules::after(
-        Tally {
-            rules: s.tally,
-            cut: s.cut,
-        },
-        v,
-    );
+    let mut row = [0u32; 5];
+    let mut log = Log::new(&mut row);
+    let t = tokens.at(s.at);
+    let v = rules::verdict_at(tokens, s.at, s.tally.rules);
+    rules::rule_error(v, s.tally.cut, span_of(t), &mut log);
+    let n = log.count();
     let next = s.moved(Pass::Rules, entry::next_line(t, s.at));
-    stepped(next.tallied(c.rules, c.cut), &log, n)
+    stepped(next.tallied(s.tally.after(v)), &row, n)
 }

@@ -1,12 +1,16 @@
 // One step of a search: over a line of a pass, or on to the next pass.
+// Text, work and search stay three parameters: of a struct with all of them, lent to be written, each contract would also say that it keeps the text
+// and the loan of work. So what holds while a search runs, `Stands`, is said of the three.
 ghost use Rattle.std.specs.Prelude.{◌≤◌, ◌<◌, ◌≡◌, length, get_or};
 ghost use Rattle.diagnostics.specs.Cursor.{onward};
 ghost use Rattle.diagnostics.specs.Pending.{pending};
 ghost use Rattle.diagnostics.specs.Stands.{Stands, Stepped};
 
 use crate::{Pass, Search, Step, lines};
-use assembler::{entry, finals};
+use assembler::finals::Names;
 use lexer::kind;
+use parser::ItemKind;
+use tokens::Tokens;
 
 // The step to the beginning of another pass.
 fn onward(s: Search, pass: Pass, at: usize) -> Step
@@ -24,7 +28,11 @@ fn at_failures(text: &[u8], work: &[u32], s: Search) -> Step
     ensures { Stepped text.now work.now work.now s result }
 {
     if s.at < s.count {
-        return lines::failure(work, s);
+        let tokens = Tokens {
+            words: work,
+            count: s.count,
+        };
+        return lines::failure(&tokens, s);
     }
     onward(s, Pass::Names, 0)
 }
@@ -36,10 +44,15 @@ fn enter_finals(text: &[u8], work: &mut [u32], s: Search) -> Step
 {
     let base = text.len() + 1;
     let first = s.first;
-    let q = entry::wide(first[5]);
-    let f = entry::wide(first[10]);
-    finals::clear_marks(text, work, s.count, 4 * base, 5 * base);
-    finals::mark_states(text, work, s.count, 4 * base, 5 * base, q);
+    let q = first[ItemKind::States as usize] as usize;
+    let f = first[ItemKind::Final as usize] as usize;
+    let (front, marks) = work.split_at_mut(5 * base);
+    let (words, firsts) = front.split_at(4 * base);
+    let tokens = Tokens {
+        words,
+        count: s.count,
+    };
+    Names::new(text, tokens, firsts).mark_states(marks, q);
     onward(s, Pass::Finals, f + 1)
 }
 
@@ -49,7 +62,7 @@ fn behind_names(text: &[u8], work: &mut [u32], s: Search) -> Step
     ensures { Stepped text.now work.old work.new s result }
 {
     let first = s.first;
-    if s.count <= entry::wide(first[10]) {
+    if s.count <= first[ItemKind::Final as usize] as usize {
         return onward(s, Pass::Rules, 0);
     }
     enter_finals(text, work, s)
@@ -61,7 +74,11 @@ fn at_names(text: &[u8], work: &mut [u32], s: Search) -> Step
     ensures { Stepped text.now work.old work.new s result }
 {
     if s.at < s.count {
-        return lines::name(work, s);
+        let tokens = Tokens {
+            words: work,
+            count: s.count,
+        };
+        return lines::name(&tokens, s);
     }
     behind_names(text, work, s)
 }
@@ -71,14 +88,23 @@ fn at_listed(text: &[u8], work: &mut [u32], s: Search) -> Step
     requires { Stands text.now work.old s × (s.pass ≡ Pass.Finals) × (s.at < s.count) }
     ensures { Stepped text.now work.old work.new s result }
 {
-    let base = text.len() + 1;
-    let first = s.first;
-    let q = entry::wide(first[5]);
-    let t = entry::token_at(work, s.count, s.at);
-    if t.kind == kind::NEWLINE {
+    let ahead = Tokens {
+        words: work,
+        count: s.count,
+    };
+    if ahead.at(s.at).kind == kind::NEWLINE {
         return onward(s, Pass::Rules, 0);
     }
-    lines::listed(text, work, 4 * base, 5 * base, s, q < s.count)
+    let base = text.len() + 1;
+    let first = s.first;
+    let q = first[ItemKind::States as usize] as usize;
+    let (front, marks) = work.split_at_mut(5 * base);
+    let (words, firsts) = front.split_at(4 * base);
+    let tokens = Tokens {
+        words,
+        count: s.count,
+    };
+    lines::listed(&Names::new(text, tokens, firsts), marks, s, q < s.count)
 }
 
 // Of F.
@@ -101,6 +127,12 @@ pub fn step(text: &[u8], work: &mut [u32], s: Search) -> Step
         Pass::Failures => at_failures(text, work, s),
         Pass::Names => at_names(text, work, s),
         Pass::Finals => at_finals(text, work, s),
-        Pass::Rules => lines::rule(work, s),
+        Pass::Rules => {
+            let tokens = Tokens {
+                words: work,
+                count: s.count,
+            };
+            lines::rule(&tokens, s)
+        }
     }
 }

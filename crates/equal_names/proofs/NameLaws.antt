@@ -9,28 +9,18 @@ use borrow.Author.Tests.{eq-eqb, ne_eqb}
 use lib.Dec.{eqb}
 use lib.Pointwise.{pointwise}
 use Rattle.std.specs.Prelude.{nat_eq}
-use lib.ListN.{length, take, length-take, get_or-eq_default}
-use lib.Seq.{get_or-take, take-take}
+use lib.ListN.{length, take}
+use lib.Seq.{take-take}
 use Rattle.diag.proofs.Cases.{by_test_lem}
 use Rattle.lexer.specs.Text.{same}
 use Rattle.lexer.specs.Places.{part}
 use Rattle.lexer.proofs.Keywords.{same_true, same_refl}
 use Rattle.tokens.specs.declared.Token.{Token}
-use Rattle.tokens.specs.View.{token_in}
-use Rattle.parser.specs.Row.{tokens_in, peek, ended}
-use Rattle.parser.proofs.Laws.{length-tokens, peek-read}
+use Rattle.parser.specs.Row.{tokens_in, peek}
 use Rattle.equal_names.specs.Rows.{rows, Kept}
 use Rattle.equal_names.specs.Names.{same_name, is_word, same_word, has_name, first_equal}
-
 -- ---- the row
-pub length-rows : (n : ℕ) (w : List ℕ) → 4 * n ≤ length w → length (rows n w) ≡ n
-length-rows n w h = omega (arith, length-tokens w, length-take n (tokens_in w))
-
-pub row_read : (n : ℕ) (w : List ℕ) (i : ℕ) (t : Token) → 4 * n ≤ length w → i < n → t ≡ token_in w i → t ≡ peek (rows n w) i
-row_read n w i t h l e = peek-read w i t e (omega arith) ∙ sym (get_or-take n (tokens_in w) i ended l)
-
-pub row_past : (n : ℕ) (w : List ℕ) (i : ℕ) → n ≤ i → ended ≡ peek (rows n w) i
-row_past n w i l = sym (get_or-eq_default (rows n w) ended {n = i} (omega (arith, length-take n (tokens_in w))))
+pub use Rattle.tokens.proofs.Rows.{length-rows, row_read, row_past}
 
 -- the tokens depend on their words only
 four : (n : ℕ) → 4 * suc n ≡ suc (suc (suc (suc (4 * n))))

@@ -11,9 +11,6 @@ use Rattle.equal_names.specs.Rows.{rows, Kept}
 use Rattle.equal_names.specs.Names.{FirstsOf, Interned}
 use Rattle.equal_names.proofs.NameLaws.{length-rows, tokens-take}
 
-pub count_is : (n : ℕ) (w : List ℕ) → 4 * n ≤ length w → length (tokens_in (take (4 * n) w)) ≡ n
-count_is n w h = ap length (tokens-take n w) ∙ length-rows n w h
-
 module _ (count a b : ℕ) (w front tokens : List ℕ) (low : 4 * count ≤ a) (words : a + count ≤ b) (room : b ≤ length w) (f : front ≡ take b w) (t : tokens ≡ take a front) where
   tokens_are : tokens ≡ take a w
   tokens_are = t ∙ ap (take a) f ∙ take-take a b w (omega arith)
@@ -21,11 +18,11 @@ module _ (count a b : ℕ) (w front tokens : List ℕ) (low : 4 * count ≤ a) (
   size : length tokens ≡ a
   size = ap length tokens_are ∙ omega (arith, length-take a w)
 
-  pub part_count : length (tokens_in (take (4 * count) tokens)) ≡ count
-  part_count = count_is count tokens (omega (arith, size))
+  pub part_count : length (rows count tokens) ≡ count
+  part_count = length-rows count tokens (omega (arith, size))
 
-  rows_are : tokens_in (take (4 * count) tokens) ≡ rows count w
-  rows_are = ap (λ (l : List ℕ). tokens_in (take (4 * count) l)) tokens_are ∙ ap tokens_in (take-take (4 * count) a w low) ∙ tokens-take count w
+  rows_are : rows count tokens ≡ rows count w
+  rows_are = sym (tokens-take count tokens) ∙ ap (λ (l : List ℕ). tokens_in (take (4 * count) l)) tokens_are ∙ ap tokens_in (take-take (4 * count) a w low) ∙ tokens-take count w
 
   module _ (row behind : List ℕ) (long : length row + a ≡ b) (rest : length behind + b ≡ length w) where
     pub parts_kept : Kept a w (tokens ++ row ++ behind)
@@ -34,7 +31,7 @@ module _ (count a b : ℕ) (w front tokens : List ℕ) (low : 4 * count ≤ a) (
       size = length-append (tokens ++ row) behind ∙ omega (arith, length-append tokens row, size);
     }
 
-    pub parts_interned : (text : List ℕ) → FirstsOf text (tokens_in (take (4 * count) tokens)) (length (tokens_in (take (4 * count) tokens))) row → Interned text (rows count w) a (tokens ++ row ++ behind)
+    pub parts_interned : (text : List ℕ) → FirstsOf text (rows count tokens) (length (rows count tokens)) row → Interned text (rows count w) a (tokens ++ row ++ behind)
     parts_interned text g = record {
       interned = λ x h e.
           let all : FirstsOf text (rows count w) (length (rows count w)) row = subst (λ (ts : List Token). FirstsOf text ts (length ts) row) rows_are g in

@@ -1,14 +1,14 @@
 -- What a text and its tokens are to the definitions.
 use Rattle.std.specs.Prelude.{ℕ, List, length}
 use Rattle.tokens.specs.declared.Token.{Token}
-use Rattle.parser.specs.Row.{tokens_in}
+use Rattle.tokens.specs.Listed as listed
 use Rattle.equal_names.specs.declared.words.Words.{Words}
 use Rattle.equal_names.specs.Names.{FirstsOf}
 use Rattle.equal_names.specs.Order.{key_in, words_from}
 
 -- the tokens
 abbrev pub tokens_of : Words → List Token
-tokens_of w = tokens_in w.tokens.now
+tokens_of w = listed.tokens_of w.tokens
 
 -- how many they are
 abbrev pub count_of : Words → ℕ

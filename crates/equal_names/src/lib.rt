@@ -1,8 +1,10 @@
 // Equal names: for each word the first that equals it, found by an index of the names.
+// The words and the row of first equal words are two parameters: in one struct the words would be lent to be written as the row is, and each store could
+// change them.
 #![tactic(auto)]
 
 ghost use Rattle.std.specs.Prelude.{◌≡◌, ◌+◌, ◌*◌, ◌<◌, ◌≤◌, ◌^◌, length, OnOk};
-ghost use Rattle.parser.specs.Row.{tokens_in};
+ghost use Rattle.tokens.specs.Listed.{tokens_of};
 ghost use Rattle.equal_names.specs.Rows.{rows, Kept};
 ghost use Rattle.equal_names.specs.Names.{Interned, FirstsOf};
 ghost use Rattle.equal_names.specs.Words.{count_of, AllFirsts};
@@ -12,11 +14,12 @@ mod table;
 mod words;
 
 use table::{Full, Layout};
+use tokens::Tokens;
 use words::Words;
 
 // The least number of free words with which a table is made.
 const LEAST: usize = 128;
-// How many slots the small table has to begin in, and in how many a name is looked for there.
+// Sizes: how many slots the small table has to begin in, and in how many a name is looked for there.
 const SMALL: usize = 8192;
 
 const SMALL_WINDOW: usize = 32;
@@ -59,26 +62,29 @@ fn by_tables(words: &Words, row: &mut [u32], slots: &mut [u32]) -> Result<(), Fu
     by_table(words, row, slots, 2 * count + SMALL, WINDOW)
 }
 
-// The row of first equal words of the tokens that stand in words, four for each: where there are few free words, or a window of each table is full, the
-// words are sorted.
-fn give(text: &[u8], tokens: &[u32], row: &mut [u32], free: &mut [u32])
-    requires few { length tokens.now < 2 ^ 33 }
-    requires row { length (tokens_in tokens.now) ≤ length row.old }
-    requires free { length (tokens_in tokens.now) ≤ length free.old }
-    ensures { FirstsOf text.now (tokens_in tokens.now) (length (tokens_in tokens.now)) row.new }
+// The row of first equal words of the tokens: where there are few free words, or a window of each table is full, the words are sorted.
+fn give(text: &[u8], tokens: &Tokens, row: &mut [u32], free: &mut [u32])
+    requires few { tokens.now.count < 2 ^ 31 }
+    requires row { length (tokens_of tokens.now) ≤ length row.old }
+    requires free { length (tokens_of tokens.now) ≤ length free.old }
+    ensures { FirstsOf text.now (tokens_of tokens.now) (length (tokens_of tokens.now)) row.new }
 {
-    let words = Words { text, tokens };
+    let words = Words {
+        text,
+        tokens: *tokens,
+    };
     if free.len() < LEAST || by_tables(&words, row, free).is_err() {
         order::by_order(&words, row, free);
     }
 }
 
-// The row of first equal words, from the word a on; `size` words from b on are free.
+// The row of first equal words, from the word a on; `size` words from b on are free. A row and offsets, since tokens, firsts and
+// free words are parts of one lent row.
 pub fn intern(text: &[u8], work: &mut [u32], count: usize, a: usize, b: usize, size: usize)
     requires { (4 * count ≤ a) × (a + count ≤ b) × (b + size ≤ length work.old) × (count ≤ size) × (count < 2 ^ 31) }
     ensures { Kept a work.old work.new × Interned text.now (rows count work.old) a work.new }
 {
     let (front, free) = work.split_at_mut(b);
-    let (tokens, row) = front.split_at_mut(a);
-    give(text, &tokens[..4 * count], row, &mut free[..size]);
+    let (words, row) = front.split_at_mut(a);
+    give(text, &Tokens { words, count }, row, &mut free[..size]);
 }

@@ -15,7 +15,7 @@ const PRIME: usize = 1073741789;
 const FACTOR: usize = 663608941;
 // What a hash is below: 2 to the 30th.
 const SCALE: usize = 1073741824;
-// In how many slots names that differ only in their last byte begin: such names often follow one another.
+// A size: in how many slots names that differ only in their last byte begin, since such names often follow one another.
 const NEAR: usize = 32;
 // How many slots at most are kept for names of one byte.
 const LETTERS: usize = 128;
@@ -61,7 +61,8 @@ fn hash(name: &[u8]) -> usize
     step(h, rest(left))
 }
 
-// Whether the search for a name ends at a slot that holds v.
+// Whether the search for a name ends at a slot that holds v. A slot is a word of the lent work, and so a number: 0 where it is empty, else 1 more than the
+// index of a token.
 fn stops(words: &Words, name: &[u8], v: u32) -> bool
     ensures { result ≡ stops words.now.text.now (tokens_of words.now) name.now v }
 {

@@ -36,7 +36,8 @@ fn write_form(
     Ok(WriteAnswer::Written(m))
 }
 
-// The answer of a reading call handed on, but for a machine: its form is written. The log, which stays as reading left it, plays no part.
+// The answer of a reading call handed on, but for a machine: its form is written.
+// The log, which stays as reading left it, plays no part.
 pub fn write_answer(
     answer: Result<Answer, Refusal>,
     text: &[u8],
@@ -44,7 +45,8 @@ pub fn write_answer(
     output: &mut [u8],
 ) -> Result<WriteAnswer, WriteRefusal>
     requires { (h : Head) → answer ≡ Ok (Machine h) → ReadAs text.now (head_in h) sheet.now }
-    ensures outcome { (l : List ℕ) → write_in result l sheet.now output.new ≡ write_with (read_in answer l sheet.now) (form_of text.now) output.old }
+    ensures outcome { (l : List ℕ) → write_in result l sheet.now output.new
+        ≡ write_with (read_in answer l sheet.now) (form_of text.now) output.old }
     ensures touches { leaves_work (write_reply_in result) ≡ true → read_leaves answer ≡ true }
 {
     let read = answer?;

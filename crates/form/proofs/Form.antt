@@ -1,9 +1,8 @@
 -- The whole form: its sections stand one after the other, each from its words of the sheet.
 use mathlib.Core.Path.{◌≡◌, refl, sym, ap, subst, ◌∙◌}
-use Prim.Native.Nat.{ℕ, ◌+◌, ◌*◌, ◌<◌}
+use Prim.Native.Nat.{ℕ, ◌<◌}
 use mathlib.Core.Bool.{Bool, true, false}
 use mathlib.Core.List.{List, [], map, map-map}
-use lib.ListN.{drop}
 use Rattle.chars.specs.Utf8.{scalar, encode}
 use Rattle.language.specs.Layout.{Counts, Head}
 use Rattle.language.specs.Plain.{Piece, ◌⨾◌, say, end, only, each, name_set, comment_line, rule_lines, pieces, plain}
@@ -44,53 +43,37 @@ unfolding state_in text_in
 states-same true text gs rest = ap (λ l. say "Q = " (name_set l (end rest))) (map-map (λ s. s.name) (state_in text) gs)
 states-same false text gs rest = refl
 
--- the sections as the code cuts them
+-- the sections make the form
 module _ (a : Answer) where
   abbrev n : Counts
   n = a.head.counts
 
-  module _ (sigma gamma header trailing rows : List ℕ) (e₁ : sigma ≡ drop (3 * n.states) a.sheet) (e₂ : gamma ≡ drop (3 * n.sigma) sigma)
-      (e₃ : header ≡ drop (3 * n.gamma + 2 * n.finals) gamma) (e₄ : trailing ≡ drop (2 * n.header) header) (e₅ : rows ≡ drop (2 * n.trailing) trailing) where
-    gamma_is : gamma ≡ gamma_from a
-    gamma_is = e₂ ∙ ap (drop (3 * n.sigma)) e₁
+  abbrev sections : Piece
+  sections =
+      each comment_line (map (text_in a.text) (groups 2 n.header (header_from a)))
+      ⨾ head_lines a.text a.head
+      ⨾ declared_lines a.text a.head a.sheet (sigma_from a) (gamma_from a)
+      ⨾ each rule_lines (map (rule_in a.text) (records n.rules (rules_from a)))
+      ⨾ each comment_line (map (text_in a.text) (groups 2 n.trailing (trailing_from a)))
 
-    header_is : header ≡ header_from a
-    header_is = e₃ ∙ ap (drop (3 * n.gamma + 2 * n.finals)) gamma_is
+  pieces-same : (rest : List ℕ) → pieces (content_of_answer a) rest ≡ sections rest
+  unfolding pieces content_of_answer head_lines declared_lines
+  pieces-same rest =
+      ap (λ r. each comment_line (map (text_in a.text) (groups 2 n.header (header_from a))) (head_lines a.text a.head r))
+      (states-same a.head.declared.states a.text (groups 3 n.states a.sheet) _)
 
-    trailing_is : trailing ≡ trailing_from a
-    trailing_is = e₄ ∙ ap (drop (2 * n.header)) header_is
-
-    rows_is : rows ≡ rules_from a
-    rows_is = e₅ ∙ ap (drop (2 * n.trailing)) trailing_is
-
-    -- the sections make the form
-    abbrev sections : Piece
-    sections =
-        each comment_line (map (text_in a.text) (groups 2 n.header (header_from a)))
-        ⨾ head_lines a.text a.head
-        ⨾ declared_lines a.text a.head a.sheet (sigma_from a) (gamma_from a)
-        ⨾ each rule_lines (map (rule_in a.text) (records n.rules (rules_from a)))
-        ⨾ each comment_line (map (text_in a.text) (groups 2 n.trailing (trailing_from a)))
-
-    pieces-same : (rest : List ℕ) → pieces (content_of_answer a) rest ≡ sections rest
-    unfolding pieces content_of_answer head_lines declared_lines
-    pieces-same rest =
-        ap (λ r. each comment_line (map (text_in a.text) (groups 2 n.header (header_from a))) (head_lines a.text a.head r))
-        (states-same a.head.declared.states a.text (groups 3 n.states a.sheet) _)
-
-    pub form-written : (o b c d x r : Output)
-        → Writes (each comment_line (map (text_in a.text) (groups 2 n.header header))) o b
-        → Writes (head_lines a.text a.head) b c
-        → Writes (declared_lines a.text a.head a.sheet sigma gamma) c d
-        → Writes (each rule_lines (map (rule_in a.text) (records n.rules rows))) d x
-        → Writes (each comment_line (map (text_in a.text) (groups 2 n.trailing trailing))) x r
-        → Writes (pieces (content_of_answer a)) o r
-    form-written o b c d x r w₁ w₂ w₃ w₄ w₅ =
-        let v₁ = subst (λ l. Writes (each comment_line (map (text_in a.text) (groups 2 n.header l))) o b) header_is w₁ in
-        let v₃ = subst (λ l. Writes (declared_lines a.text a.head a.sheet (sigma_from a) l) c d) gamma_is (subst (λ l. Writes (declared_lines a.text a.head a.sheet l gamma) c d) e₁ w₃) in
-        let v₄ = subst (λ l. Writes (each rule_lines (map (rule_in a.text) (records n.rules l))) d x) rows_is w₄ in
-        let v₅ = subst (λ l. Writes (each comment_line (map (text_in a.text) (groups 2 n.trailing l))) x r) trailing_is w₅ in
-        same pieces-same (v₁ ▹ w₂ ▹ v₃ ▹ v₄ ▹ v₅)
+  pub form-written : (header trailing rows : List ℕ) (o b c d x r : Output) → header ≡ header_from a → trailing ≡ trailing_from a → rows ≡ rules_from a
+      → Writes (each comment_line (map (text_in a.text) (groups 2 n.header header))) o b
+      → Writes (head_lines a.text a.head) b c
+      → Writes (declared_lines a.text a.head a.sheet (sigma_from a) (gamma_from a)) c d
+      → Writes (each rule_lines (map (rule_in a.text) (records n.rules rows))) d x
+      → Writes (each comment_line (map (text_in a.text) (groups 2 n.trailing trailing))) x r
+      → Writes (pieces (content_of_answer a)) o r
+  form-written header trailing rows o b c d x r e₁ e₂ e₃ w₁ w₂ w₃ w₄ w₅ =
+      let v₁ = subst (λ l. Writes (each comment_line (map (text_in a.text) (groups 2 n.header l))) o b) e₁ w₁ in
+      let v₄ = subst (λ l. Writes (each rule_lines (map (rule_in a.text) (records n.rules l))) d x) e₃ w₄ in
+      let v₅ = subst (λ l. Writes (each comment_line (map (text_in a.text) (groups 2 n.trailing l))) x r) e₂ w₅ in
+      same pieces-same (v₁ ▹ w₂ ▹ w₃ ▹ v₄ ▹ v₅)
 
 -- what is lent is the form at the end, and what was counted its length
 pub form-held : (a : Answer) (o r : Output) → r.at < 18446744073709551616 → Writes (pieces (content_of_answer a)) o r → held r ≡ appended (held o) (encode (plain (content_of_answer a)))

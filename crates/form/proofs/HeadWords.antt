@@ -17,13 +17,13 @@ use Rattle.machine.specs.declared.BitOrder.{BitOrder}
 use Rattle.machine.specs.declared.BitOrder.TheVariants.{Lsb, Msb}
 use Rattle.machine.specs.declared.Decoder.{Decoder}
 use Rattle.machine.specs.declared.Decoder.TheVariants.{Word, Unary, Binary}
-use Rattle.machine.specs.declared.Span as D
+use Rattle.diag.specs.declared.Span.{Span}
 use Rattle.emit.specs.declared.Output.{Output}
 use Rattle.emit.specs.Decimal as E
 use Rattle.emit.proofs.Digits.{digits-rest, digits-any}
 use Rattle.emit.specs.Appends.{Appends}
 use Rattle.pieces.specs.Writes.{Writes}
-use Rattle.machine.specs.Head.{span_in, kind_in, decoder_in}
+use Rattle.machine.specs.Head.{kind_in, decoder_in}
 use Rattle.form.specs.Sections.{head_lines, states_line, symbols_line, blank_line, start_line, finals_line}
 use Rattle.form_parts.specs.Places.{column}
 use Rattle.pieces.proofs.Chain.{known, spoken, none, ◌▹◌}
@@ -114,12 +114,12 @@ module _ (d : Bool) (o : Output) where
   unfolding blank_line encode
   blank_written c a b r e w₁ w₂ w₃ = rw e (spoken "blank = " (λ rest. refl) w₁ ▹ w₂ ▹ spoken "\n" (λ rest. refl) w₃)
 
-  pub start_none : (text : List ℕ) (p : D.Span) → d ≡ false → Writes (start_line text d (span_in p)) o o
+  pub start_none : (text : List ℕ) (p : Span) → d ≡ false → Writes (start_line text d p) o o
   unfolding start_line
   start_none text p e = rw e (none o)
 
-  pub start-written : (text : List ℕ) (p : D.Span) (a b r : Output) → d ≡ true → Appends (say "start = " []) o a → Writes (verbatim (characters_at text (span_in p))) a b
-      → Appends (say "\n" []) b r → Writes (start_line text d (span_in p)) o r
+  pub start-written : (text : List ℕ) (p : Span) (a b r : Output) → d ≡ true → Appends (say "start = " []) o a → Writes (verbatim (characters_at text p)) a b
+      → Appends (say "\n" []) b r → Writes (start_line text d p) o r
   unfolding start_line encode
   start-written text p a b r e w₁ w₂ w₃ = rw e (spoken "start = " (λ rest. refl) w₁ ▹ w₂ ▹ spoken "\n" (λ rest. refl) w₃)
 

@@ -1,3 +1,4 @@
 pub mod Answers
 pub mod WellFormed
 pub mod Sections
+pub mod Machines

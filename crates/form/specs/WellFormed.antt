@@ -1,12 +1,14 @@
 -- What the form asks of an answer, and every answer to an admitted text has: symbols are scalar values, names and comments are UTF-8, strings are whole.
-use Rattle.std.specs.Prelude.{ℕ, ◌+◌, ◌*◌, true, List, ◌≡◌, drop}
+use Rattle.std.specs.Prelude.{ℕ, ◌+◌, ◌*◌, true, List, [], ◌∷◌, ◌≡◌, drop}
 use Rattle.chars.specs.Utf8.{scalar, scalars}
 use Rattle.pieces.specs.Strings.{Whole}
 use Rattle.language.specs.Machine.{Decoder, as_word, as_unary, as_binary}
 use Rattle.language.specs.Layout.{Counts, Head}
 use Rattle.language.specs.Agreement.{Answer, groups, records, characters_at}
 use Rattle.form_parts.specs.Places.{Every, Utf8At, NameIn, column}
-use Rattle.rule_form.specs.Formed.{RuleFormed}
+use Rattle.rule_form.specs.Formed.{RuleFormed, formed_one as rule_one, names_one}
+use Rattle.std.specs.Coded.{×_prop, Unit-prop}
+use Rattle.std.proofs.Props.{props}
 
 -- the symbol that a decoder counts
 abbrev pub DecoderFormed : Decoder → Type 0
@@ -59,3 +61,18 @@ pub record WellFormed (a : Answer) : Type 0 where
   pub head_part : HeadFormed a.text a.head
   pub declared_part : DeclaredFormed a.text a.head a.sheet (sigma_from a) (gamma_from a)
   pub body_part : BodyFormed a.text a.head.counts (header_from a) (trailing_from a) (rules_from a)
+
+-- an answer can be well formed in one way only: its decoder
+decoder_one : (d : Decoder) → IsProp (DecoderFormed d)
+decoder_one as_word = Unit-prop
+decoder_one (as_unary c) = hlevel props
+decoder_one (as_binary o) = Unit-prop
+
+-- its rules
+rules_one : (text : List ℕ) (l : List (List ℕ)) → IsProp (Every (RuleFormed text) l)
+rules_one text [] = Unit-prop
+rules_one text (ws ∷ l) = ×_prop (rule_one text ws) (rules_one text l)
+
+-- and all of it
+pub formed_one : (a : Answer) → IsProp (WellFormed a)
+formed_one a = hlevel (props, decoder_one, names_one, rules_one)

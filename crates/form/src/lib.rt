@@ -5,14 +5,15 @@
 ghost use Rattle.std.specs.Prelude.{true, ◌≡◌};
 ghost use Rattle.chars.specs.Utf8.{scalar, scalars, encode};
 ghost use Rattle.language.specs.Plain.{say, decimal, kind_name, decoder, pieces, plain};
-ghost use Rattle.language.specs.Agreement.{groups, records, content_of_answer};
-ghost use Rattle.machine.specs.Head.{span_in, kind_in, decoder_in, head_in};
+ghost use Rattle.language.specs.Agreement.{groups, content_of_answer};
+ghost use Rattle.machine.specs.Head.{kind_in, decoder_in, head_in};
 ghost use Rattle.emit.specs.Output.{output, appended};
 ghost use Rattle.pieces.specs.Writes.{Writes};
 ghost use Rattle.form_parts.specs.Places.{Every, Utf8At, NameIn, column};
 ghost use Rattle.form.specs.Answers.{answer};
 ghost use Rattle.form.specs.Sections.{head_lines, states_line, symbols_line, blank_line, start_line, finals_line, declared_lines};
-ghost use Rattle.form.specs.WellFormed.{DecoderFormed, HeadFormed, DeclaredFormed, WellFormed};
+ghost use Rattle.form.specs.WellFormed.{DecoderFormed, WellFormed, formed_one};
+ghost use Rattle.form.specs.WellFormed.{sigma_from, gamma_from, header_from, trailing_from, rules_from};
 
 use emit::Output;
 use form_parts::{comment_lines, final_names, names, string, symbols, verbatim};
@@ -22,6 +23,9 @@ use rule_form::rules;
 use sheet_words::after;
 
 // ---- the lines before the rules
+
+// These take what a line says, and no machine: a contract of a line then speaks of its own words alone. `declared` is what the line tests;
+// no Option holds it and the value together, since the head has a blank and a start also where none is declared.
 
 // The number of tapes.
 fn number(out: &mut Output, n: u8)
@@ -56,24 +60,6 @@ fn decoder(out: &mut Output, d: Decoder)
         Decoder::Binary(BitOrder::Lsb) => out.bytes(b"binary lsb"),
         Decoder::Binary(BitOrder::Msb) => out.bytes(b"binary msb"),
     }
-}
-
-// `machine`, `kind`, `input`, `output` and `tapes`.
-fn head_lines(out: &mut Output, text: &[u8], head: Head)
-    requires { HeadFormed text.now (head_in head) }
-    ensures { Writes (head_lines text.now (head_in head)) out.old out.new }
-{
-    out.bytes(b"machine ");
-    string(out, text, head.name);
-    out.bytes(b"\nkind ");
-    kind(out, head.kind);
-    out.bytes(b"\ninput ");
-    string(out, text, head.input);
-    out.bytes(b"\noutput ");
-    decoder(out, head.output);
-    out.bytes(b"\ntapes = ");
-    number(out, head.tapes);
-    out.bytes(b"\n");
 }
 
 // `Q`, if declared.
@@ -115,8 +101,8 @@ fn blank_line(out: &mut Output, declared: bool, c: u32)
 
 // `start`, if declared.
 fn start_line(out: &mut Output, text: &[u8], declared: bool, p: Span)
-    requires { Utf8At text.now (span_in p) }
-    ensures { Writes (start_line text.now declared (span_in p)) out.old out.new }
+    requires { Utf8At text.now p }
+    ensures { Writes (start_line text.now declared p) out.old out.new }
 {
     if declared {
         out.bytes(b"start = ");
@@ -135,54 +121,109 @@ fn finals_line(out: &mut Output, text: &[u8], n: u32, words: &[u32])
     out.bytes(b"}\n");
 }
 
-// All that is said only if declared, and the final states.
-fn declared_lines(
-    out: &mut Output,
-    text: &[u8],
-    head: Head,
-    states: &[u32],
-    sigma: &[u32],
-    gamma: &[u32],
-)
-    requires { DeclaredFormed text.now (head_in head) states.now sigma.now gamma.now }
-    ensures { Writes (declared_lines text.now (head_in head) states.now sigma.now gamma.now) out.old out.new }
-{
-    let said = head.declared;
-    let n = head.counts;
-    states_line(out, text, said.states, n.states, states);
-    symbols_line(out, 0x3A3, said.input_alphabet, n.sigma, sigma);
-    symbols_line(out, 0x393, said.tape_alphabet, n.gamma, gamma);
-    blank_line(out, said.blank, head.blank);
-    start_line(out, text, said.start, head.start);
-    finals_line(out, text, n.states, states);
-}
-
 // ---- the whole form
 
-// All lines of the form.
-fn all_lines(out: &mut Output, head: Head, sheet: &[u32], text: &[u8])
-    requires { WellFormed (answer head sheet.now text.now) }
-    ensures { Writes (pieces (content_of_answer (answer head sheet.now text.now))) out.old out.new }
-{
-    let n = head.counts;
-    let sigma = after(sheet, 3 * n.states as usize);
-    let gamma = after(sigma, 3 * n.sigma as usize);
-    let header = after(gamma, 3 * n.gamma as usize + 2 * n.finals as usize);
-    let trailing = after(header, 2 * n.header as usize);
-    let records = after(trailing, 2 * n.trailing as usize);
-    comment_lines(out, text, header, n.header);
-    head_lines(out, text, head);
-    declared_lines(out, text, head, sheet, sigma, gamma);
-    rules(out, text, records, n.rules);
-    comment_lines(out, text, trailing, n.trailing);
+// The machine that a reading call answered with: its head, its sheet, and the text that was read.
+#[derive(Clone, Copy)]
+struct Machine<'a> {
+    head: Head,
+    sheet: &'a [u32],
+    text: &'a [u8],
+    ghost formed: { WellFormed (answer head sheet.now text.now) } by { formed_one (answer head sheet.now text.now) },
+}
+
+impl Machine<'_> {
+    ghost use Rattle.form.specs.Machines.{answer_of};
+
+    // The words of Σ, and all that follow.
+    fn sigma(&self) -> &[u32]
+        ensures { result.now ≡ sigma_from (answer_of self.now) }
+    {
+        after(self.sheet, 3 * self.head.counts.states as usize)
+    }
+
+    // Those of Γ.
+    fn gamma(&self) -> &[u32]
+        ensures { result.now ≡ gamma_from (answer_of self.now) }
+    {
+        after(self.sigma(), 3 * self.head.counts.sigma as usize)
+    }
+
+    // Those of the header's comments.
+    fn header(&self) -> &[u32]
+        ensures { result.now ≡ header_from (answer_of self.now) }
+    {
+        let n = self.head.counts;
+        after(self.gamma(), 3 * n.gamma as usize + 2 * n.finals as usize)
+    }
+
+    // Those of the trailing comments.
+    fn trailing(&self) -> &[u32]
+        ensures { result.now ≡ trailing_from (answer_of self.now) }
+    {
+        after(self.header(), 2 * self.head.counts.header as usize)
+    }
+
+    // Those of the rules.
+    fn rules(&self) -> &[u32]
+        ensures { result.now ≡ rules_from (answer_of self.now) }
+    {
+        after(self.trailing(), 2 * self.head.counts.trailing as usize)
+    }
+
+    // `machine`, `kind`, `input`, `output` and `tapes`.
+    fn head_lines(&self, out: &mut Output)
+        ensures { Writes (head_lines self.now.text.now (head_in self.now.head)) out.old out.new }
+    {
+        out.bytes(b"machine ");
+        string(out, self.text, self.head.name);
+        out.bytes(b"\nkind ");
+        kind(out, self.head.kind);
+        out.bytes(b"\ninput ");
+        string(out, self.text, self.head.input);
+        out.bytes(b"\noutput ");
+        decoder(out, self.head.output);
+        out.bytes(b"\ntapes = ");
+        number(out, self.head.tapes);
+        out.bytes(b"\n");
+    }
+
+    // All that is said only if declared, and the final states.
+    fn declared_lines(&self, out: &mut Output)
+        ensures { Writes (declared_lines self.now.text.now (head_in self.now.head)
+            self.now.sheet.now (sigma_from (answer_of self.now)) (gamma_from (answer_of self.now))) out.old out.new }
+    {
+        let said = self.head.declared;
+        let n = self.head.counts;
+        states_line(out, self.text, said.states, n.states, self.sheet);
+        symbols_line(out, 0x3A3, said.input_alphabet, n.sigma, self.sigma());
+        symbols_line(out, 0x393, said.tape_alphabet, n.gamma, self.gamma());
+        blank_line(out, said.blank, self.head.blank);
+        start_line(out, self.text, said.start, self.head.start);
+        finals_line(out, self.text, n.states, self.sheet);
+    }
+
+    // All lines of the form.
+    fn lines(&self, out: &mut Output)
+        ensures { Writes (pieces (content_of_answer (answer_of self.now))) out.old out.new }
+    {
+        let n = self.head.counts;
+        comment_lines(out, self.text, self.header(), n.header);
+        self.head_lines(out);
+        self.declared_lines(out);
+        rules(out, self.text, self.rules(), n.rules);
+        comment_lines(out, self.text, self.trailing(), n.trailing);
+    }
 }
 
 // The plain form of the machine that a reading call answered with, at the front of `out` as far as there is room; its length.
 pub fn plain_form(head: Head, sheet: &[u32], text: &[u8], out: &mut [u8]) -> usize
     requires { WellFormed (answer head sheet.now text.now) }
-    ensures { output out.new result ≡ appended (output out.old 0) (encode (plain (content_of_answer (answer head sheet.now text.now)))) }
+    ensures { output out.new result
+        ≡ appended (output out.old 0) (encode (plain (content_of_answer (answer head sheet.now text.now)))) }
 {
+    let machine = Machine { head, sheet, text };
     let mut form = Output::new(out);
-    all_lines(&mut form, head, sheet, text);
+    machine.lines(&mut form);
     form.count()
 }

@@ -9,8 +9,7 @@ use lib.ListN.{get_or}
 use borrow.Author.Tests.{eq-eqb, ne_eqb}
 use Rattle.language.specs.Plain.{Piece, say, only, commas, verbatim, final_names}
 use Rattle.language.specs.Agreement.{groups, place_at, characters_at, state_in}
-use Rattle.machine.specs.declared.Span as D
-use Rattle.machine.specs.Head.{span_of, span_in}
+use Rattle.diag.specs.declared.Span.{Span}
 use Rattle.emit.specs.declared.Output.{Output}
 use Rattle.pieces.specs.Writes.{Writes}
 use Rattle.pieces.proofs.Chain.{Goes, goes_start, goes_end}
@@ -56,9 +55,9 @@ module _ (text : List ℕ) (n : ℕ) (ws : List ℕ) where
       unfolding others
       finals-not q = subst (λ l. Goes (more verbatim k l) o p₀ o₀) (finals-next false (ne_eqb w 1 q)) g
 
-      pub finals-on : (q : D.Span) (a r : Output) → w ≡ 1 → q ≡ span_of (place_at ws (3 * i)) → Writes (only (ltb 0 k) (say ", ")) o a
-          → Writes (verbatim (characters_at text (span_in q))) a r → Goes (more verbatim (k + 1) (finals text n (i + 1) ws)) r p₀ o₀
+      pub finals-on : (q : Span) (a r : Output) → w ≡ 1 → q ≡ place_at ws (3 * i) → Writes (only (ltb 0 k) (say ", ")) o a
+          → Writes (verbatim (characters_at text q)) a r → Goes (more verbatim (k + 1) (finals text n (i + 1) ws)) r p₀ o₀
       unfolding others name
       finals-on q a r f p u v =
           more_on verbatim k name others (finals text n i ws) (finals-next true (eq-eqb w 1 f)) g u
-          (subst (λ s. Writes (verbatim (characters_at text s)) a r) (ap span_in p) v)
+          (subst (λ s. Writes (verbatim (characters_at text s)) a r) p v)

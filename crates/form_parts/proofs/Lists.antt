@@ -12,8 +12,7 @@ use Rattle.chars.specs.Utf8.{scalar, scalars, encode}
 use Rattle.chars.proofs.Tests.{and_both}
 use Rattle.language.specs.Plain.{Piece, ◌⨾◌, say, only, each, commas, verbatim, symbol, direction, end, comment, comment_line}
 use Rattle.language.specs.Agreement.{groups, place_at, dir_of, characters_at, text_in}
-use Rattle.machine.specs.declared.Span as D
-use Rattle.machine.specs.Head.{span_of, span_in}
+use Rattle.diag.specs.declared.Span.{Span}
 use Rattle.emit.specs.declared.Output.{Output}
 use Rattle.emit.specs.Appends.{Appends}
 use Rattle.pieces.specs.Writes.{Writes}
@@ -98,26 +97,26 @@ module _ (text : List ℕ) (k n : ℕ) (ws : List ℕ) where
     pub names-next : Names text k n i ws → Names text k n (i + 1) ws
     names-next e = record { names = (subst (Every (NameIn text)) (rest_of k n i ws h) e.names).1 }
 
-    module _ (wide : 1 < k) (q : D.Span) (at : q ≡ span_of (place_at ws (k * i))) where
-      here : place_at (take k (drop (k * i) ws)) 0 ≡ span_in q
-      here = place_in k (k * i) ws wide ∙ sym (ap span_in at)
+    module _ (wide : 1 < k) (q : Span) (at : q ≡ place_at ws (k * i)) where
+      here : place_at (take k (drop (k * i) ws)) 0 ≡ q
+      here = place_in k (k * i) ws wide ∙ sym at
 
-      pub names_here : Names text k n i ws → Utf8At text (span_in q)
+      pub names_here : Names text k n i ws → Utf8At text q
       names_here e = subst (Utf8At text) here (subst (Every (NameIn text)) (rest_of k n i ws h) e.names).0
 
-      texts_next : texts text k n i ws ≡ characters_at text (span_in q) ∷ texts text k n (i + 1) ws
+      texts_next : texts text k n i ws ≡ characters_at text q ∷ texts text k n (i + 1) ws
       unfolding texts text_in
       texts_next = ap (map (text_in text)) (rest_of k n i ws h) ∙ ap (λ p. characters_at text p ∷ texts text k n (i + 1) ws) here
 
       module _ (o a : Output) (p₀ : Piece) (o₀ : Output) where
-        pub lines-on : (r : Output) → Goes (each comment_line (texts text k n i ws)) o p₀ o₀ → Writes (comment (characters_at text (span_in q))) o a → Appends (10 ∷ []) a r
+        pub lines-on : (r : Output) → Goes (each comment_line (texts text k n i ws)) o p₀ o₀ → Writes (comment (characters_at text q)) o a → Appends (10 ∷ []) a r
             → Goes (each comment_line (texts text k n (i + 1) ws)) r p₀ o₀
         unfolding each encode
         lines-on r g u v = goes_on (λ rest. ap (λ l. each comment_line l rest) texts_next) g (u ▹ known {p = end} (10 ∷ []) (λ rest. refl) v)
 
         pub list_on : (r : Output) → Goes (more verbatim i (texts text k n i ws)) o p₀ o₀ → Writes (only (ltb 0 i) (say ", ")) o a
-            → Writes (verbatim (characters_at text (span_in q))) a r → Goes (more verbatim (i + 1) (texts text k n (i + 1) ws)) r p₀ o₀
-        list_on r g u v = more_on verbatim i (characters_at text (span_in q)) (texts text k n (i + 1) ws) (texts text k n i ws) texts_next g u v
+            → Writes (verbatim (characters_at text q)) a r → Goes (more verbatim (i + 1) (texts text k n (i + 1) ws)) r p₀ o₀
+        list_on r g u v = more_on verbatim i (characters_at text q) (texts text k n (i + 1) ws) (texts text k n i ws) texts_next g u v
 
   pub lines_start : (o : Output) → Goes (each comment_line (texts text k n 0 ws)) o (each comment_line (map (text_in text) (groups k n ws))) o
   lines_start o = goes_start (λ rest. ap (λ l. each comment_line l rest) texts_all)

@@ -1,12 +1,14 @@
 // What stands at the places and in the lists of an answer: names, strings, comments, symbols and moves (paper 01, "Plain form").
 // Each function appends a piece of the form to a lent output, as crate `emit` does: stored where there is room, counted in any case.
+// Text and output stay two parameters: of a struct with both, lent to be written, each contract would also say that its text stays. That a place
+// holds UTF-8 is asked of each place: the `str` there would be checked again, and `string` takes a place of which more is known.
 #![tactic(auto)]
 
-ghost use Rattle.std.specs.Prelude.{true, ◌&&◌, ◌≡◌, map, ◌<◌, ◌≤◌, eqb};
+ghost use Rattle.std.specs.Prelude.{true, ◌≡◌, map, ◌<◌, ◌≤◌};
 ghost use Rattle.chars.specs.Utf8.{scalars};
-ghost use Rattle.language.specs.Plain.{each, commas, verbatim, symbol, direction, string, comment_line, comment, own_comment, final_names};
+ghost use Rattle.language.specs.Plain.{each, commas, verbatim, symbol, direction, string};
+ghost use Rattle.language.specs.Plain.{comment_line, comment, own_comment, final_names};
 ghost use Rattle.language.specs.Agreement.{groups, dir_of, characters_at, string_at, comment_at, state_in, text_in};
-ghost use Rattle.machine.specs.Head.{span_in};
 ghost use Rattle.pieces.specs.Writes.{Writes};
 ghost use Rattle.pieces.specs.Strings.{Whole};
 ghost use Rattle.form_parts.specs.Places.{Every, bytes_at, Utf8At, NameIn, column};
@@ -20,7 +22,7 @@ use sheet_words::{place_at, word};
 
 // The bytes at a place.
 fn part(text: &[u8], p: Span) -> &[u8]
-    ensures { result.now ≡ bytes_at text.now (span_in p) }
+    ensures { result.now ≡ bytes_at text.now p }
 {
     let end = text.len().min(p.end as usize);
     let start = end.min(p.start as usize);
@@ -31,16 +33,16 @@ fn part(text: &[u8], p: Span) -> &[u8]
 
 // The characters at a place.
 pub fn verbatim(out: &mut Output, text: &[u8], p: Span)
-    requires { Utf8At text.now (span_in p) }
-    ensures { Writes (verbatim (characters_at text.now (span_in p))) out.old out.new }
+    requires { Utf8At text.now p }
+    ensures { Writes (verbatim (characters_at text.now p)) out.old out.new }
 {
     out.bytes(part(text, p));
 }
 
 // The string at a place, in quotes.
 pub fn string(out: &mut Output, text: &[u8], p: Span)
-    requires { Whole (characters_at text.now (span_in p)) }
-    ensures { Writes (string (string_at text.now (span_in p))) out.old out.new }
+    requires { Whole (characters_at text.now p) }
+    ensures { Writes (string (string_at text.now p)) out.old out.new }
 {
     out.bytes(b"\"");
     string_text(out, part(text, p));
@@ -51,8 +53,8 @@ pub fn string(out: &mut Output, text: &[u8], p: Span)
 
 // The comment at a place; a space parts the slashes from its text.
 pub fn comment(out: &mut Output, text: &[u8], p: Span)
-    requires { Utf8At text.now (span_in p) }
-    ensures { Writes (comment (characters_at text.now (span_in p))) out.old out.new }
+    requires { Utf8At text.now p }
+    ensures { Writes (comment (characters_at text.now p)) out.old out.new }
 {
     let t = part(text, p);
     if t.is_empty() {
@@ -62,19 +64,12 @@ pub fn comment(out: &mut Output, text: &[u8], p: Span)
     out.bytes(t);
 }
 
-// Whether a place says that there is none.
-fn is_none(p: Span) -> bool
-    ensures { result ≡ (eqb p.start 4294967295 && eqb p.end 4294967295) }
-{
-    p.start == u32::MAX && p.end == u32::MAX
-}
-
 // A rule's own comment, if it has one.
 pub fn own_comment(out: &mut Output, text: &[u8], p: Span)
-    requires { Utf8At text.now (span_in p) }
-    ensures { Writes (own_comment (comment_at text.now (span_in p))) out.old out.new }
+    requires { Utf8At text.now p }
+    ensures { Writes (own_comment (comment_at text.now p)) out.old out.new }
 {
-    if !is_none(p) {
+    if p != Span::NONE {
         out.bytes(b" ");
         comment(out, text, p);
     }
@@ -106,7 +101,7 @@ pub fn names(out: &mut Output, text: &[u8], words: &[u32], n: u32)
     }
 }
 
-// The symbols in word o of n records of k words.
+// The symbols in word o of n records of k words. A struct of words and n would be made for each call, of sections that have their own record length.
 pub fn symbols(out: &mut Output, words: &[u32], k: usize, o: usize, n: u32)
     requires { (o < k) × (k ≤ 7) × (scalars (column k o n words.now) ≡ true) }
     ensures { Writes (commas symbol (column k o n words.now)) out.old out.new }
@@ -117,7 +112,7 @@ pub fn symbols(out: &mut Output, words: &[u32], k: usize, o: usize, n: u32)
     }
 }
 
-// The move of a head.
+// The move of a head, by its number in the sheet, which C reads too.
 fn direction(out: &mut Output, d: u32)
     ensures { Writes (direction (dir_of d)) out.old out.new }
 {
@@ -128,7 +123,7 @@ fn direction(out: &mut Output, d: u32)
     }
 }
 
-// The moves of n actions.
+// The moves of n actions. One function for this and `symbols` would take what writes a word, its piece and what it asks: it is no shorter than both.
 pub fn directions(out: &mut Output, words: &[u32], n: u32)
     ensures { Writes (commas direction (map dir_of (column 7 6 n words.now))) out.old out.new }
 {

@@ -9,8 +9,10 @@ use diag::Diagnostic;
 use diagnostics::Search;
 
 // Stores the diagnostics that a search has yet to find, `errors` of them, at the front of the log.
+// The log is not cut to `errors` records, since the contract says what stands behind them.
 pub fn gather(text: &[u8], work: &mut [u32], search: Search, log: &mut [Diagnostic], errors: usize)
-    requires { Stands text.now work.old search × (errors ≡ length (pending text.now work.old search)) × (errors ≤ length log.old) }
+    requires { Stands text.now work.old search
+        × (errors ≡ length (pending text.now work.old search)) × (errors ≤ length log.old) }
     ensures { log.new ≡ pending text.now work.old search ++ drop errors log.old }
 {
     let mut search = search;

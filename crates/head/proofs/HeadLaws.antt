@@ -1,10 +1,9 @@
 -- What closes a return of a function of the head: whether a line is declared is whether its index is that of a token.
-use Rattle.std.proofs.Common.{◌≡◌, refl, ℕ, ◌+◌, ◌-◌, ◌*◌, ◌%◌, ◌^◌, ◌<◌, ◌≤◌, Bool, true, false, cond, ltb, Option, Some, None, List, length, get_or, sym, ap, ◌∙◌, arith, le-ltb, lt-ltb, le-leb}
+use Rattle.std.proofs.Common.{◌≡◌, refl, ℕ, ◌+◌, ◌-◌, ◌%◌, ◌^◌, ◌<◌, ◌≤◌, Bool, true, false, cond, ltb, Option, Some, None, List, length, get_or, sym, ap, ◌∙◌, le-leb}
 use borrow.Author.Tests.{lt-leb}
-use Rattle.chars.proofs.Tests.{tests}
 use Rattle.tokens.specs.declared.Token.{Token}
 use Rattle.parser.specs.Row.{peek}
-use Rattle.machine.specs.declared.Span.{Span}
+use Rattle.diag.specs.declared.Span.{Span}
 use Rattle.machine.specs.declared.Kind.{Kind}
 use Rattle.machine.specs.declared.Kind.TheVariants.{Transducer}
 use Rattle.machine.specs.declared.Decoder.TheVariants.{Word}
@@ -13,18 +12,8 @@ use Rattle.machine.specs.declared.Declared.{Declared}
 use Rattle.machine.specs.declared.SourceMap.{SourceMap}
 use Rattle.machine.specs.declared.Counts.{Counts}
 use Rattle.machine.specs.declared.Head.{Head}
-use Rattle.assembler.specs.Rows.{rows}
-use Rattle.assembler.proofs.Rows.{length-rows}
-use Rattle.sheet.specs.Rules.{resolve}
-use Rattle.head.specs.Heads.{said, no_span, place_at, text_of, text_at, kind_of, kind_at, decoder_of, decoder_at, tapes_at, blank_at, start_at, declared_in, map_in, head_at}
-
-pub declared : (n : ℕ) (w : List ℕ) (f : ℕ) → 4 * n ≤ length w → f < n → ltb f (length (rows n w)) ≡ true
-declared n w f h l = lt-ltb f (length (rows n w)) (omega (arith, length-rows n w h))
-
-pub undeclared : (n : ℕ) (w : List ℕ) (f : ℕ) → 4 * n ≤ length w → n ≤ f → ltb f (length (rows n w)) ≡ false
-undeclared n w f h l = le-ltb f (length (rows n w)) (omega (arith, length-rows n w h))
-
-pub ruleset heads = (tests, declared, undeclared)
+use Rattle.sheet.specs.Rules.{no_span, resolve}
+use Rattle.head.specs.Heads.{said, place_at, text_of, text_at, kind_of, kind_at, decoder_of, decoder_at, tapes_at, blank_at, start_at, declared_in, map_in, head_at}
 
 -- the place between quotes, from its two offsets
 pub text_of_lem : (t : Token) (a b : ℕ) → a ≡ (t.start + t.value) % 2 ^ 32 → b ≡ t.end - 1 → ◌≡◌ {A = Span} (record { start = a; end = b }) (text_of t)
@@ -134,19 +123,20 @@ pub map_in_lem : (ts : List Token) (first : List ℕ) (a b c d e : Span) → a �
 unfolding map_in
 map_in_lem ts first a b c d e p q r s t = rw (p, q, r, s, t)
 
-module _ (n : ℕ) (w first : List ℕ) (h : 4 * n ≤ length w) where
-  pub head_in : (s : Span) (k : Counts) (b t : ℕ) (o : Decoder) (name input start : Span) (kind : Kind) (d : Declared) (m : SourceMap)
-      → b ≡ blank_at (rows n w) (get_or first 8 0)
+module _ (ts : List Token) (first : List ℕ) where
+  pub head_in : (s : Span) (k : Counts) (b t n : ℕ) (o : Decoder) (name input start : Span) (kind : Kind) (d : Declared) (m : SourceMap)
+      → n ≡ length ts
+      → b ≡ blank_at ts (get_or first 8 0)
       → d ≡ declared_in n first
-      → m ≡ map_in (rows n w) first
-      → o ≡ decoder_at b (rows n w) (get_or first 3 0)
-      → name ≡ text_at (rows n w) (get_or first 0 0)
-      → input ≡ text_at (rows n w) (get_or first 2 0)
-      → kind ≡ kind_at (rows n w) (get_or first 1 0)
-      → t ≡ tapes_at (rows n w) (get_or first 4 0)
-      → start ≡ start_at (rows n w) (get_or first 9 0) s
-      → ◌≡◌ {A = Head} (record { output = o; name = name; input = input; kind = kind; tapes = t; blank = b; declared = d; start = start; map = m; counts = k }) (head_at (rows n w) first s k)
+      → m ≡ map_in ts first
+      → o ≡ decoder_at b ts (get_or first 3 0)
+      → name ≡ text_at ts (get_or first 0 0)
+      → input ≡ text_at ts (get_or first 2 0)
+      → kind ≡ kind_at ts (get_or first 1 0)
+      → t ≡ tapes_at ts (get_or first 4 0)
+      → start ≡ start_at ts (get_or first 9 0) s
+      → ◌≡◌ {A = Head} (record { output = o; name = name; input = input; kind = kind; tapes = t; blank = b; declared = d; start = start; map = m; counts = k }) (head_at ts first s k)
   unfolding head_at
-  head_in s k b t o name input start kind d m e₁ e₂ e₃ e₄ e₅ e₆ e₇ e₈ e₉ =
-      let e : d ≡ declared_in (length (rows n w)) first = e₂ ∙ ap (λ (j : ℕ). declared_in j first) (sym (length-rows n w h)) in
+  head_in s k b t n o name input start kind d m e₀ e₁ e₂ e₃ e₄ e₅ e₆ e₇ e₈ e₉ =
+      let e : d ≡ declared_in (length ts) first = e₂ ∙ ap (λ (j : ℕ). declared_in j first) e₀ in
       rw (e₄, e, e₃, e₅, e₆, e₇, e₈, e₉, e₁)

@@ -1,7 +1,6 @@
 -- The head over the row is that of the machine which the lines stand for, if the tokens behind each entry say what its item declares.
 use Rattle.std.proofs.Common.{◌≡◌, ℕ, suc, ◌+◌, ◌≤◌, cond, ltb, leb, List, ◌++◌, length, get_or, sym, ap, ◌∙◌, arith, get_or-drop}
 use mathlib.Core.Option.{Option, none, some}
-use Rattle.lexer.specs.declared.Span.{Span as Place}
 use Rattle.tokens.specs.declared.Token.{Token}
 use Rattle.parser.specs.Row.{ended, peek}
 use Rattle.language.specs.Machine.{Located, Kind, transducer}
@@ -9,35 +8,26 @@ use Rattle.language.specs.Lines.{RawSymbol, raw_blank, RawDecoder, raw_word, Tex
 use Rattle.language.specs.Assembly as A
 use Rattle.language.specs.Infer.{is_some, place_of, head, resolve_decoder, tapes_of, between, machine_of}
 use Rattle.language.specs.Layout as L
-use Rattle.diag.specs.declared.Span as D
 use Rattle.assembler.specs.Rows as R
 use Rattle.assembler.specs.Entries.{Entry, entry_at}
 use Rattle.assembler.specs.Declarations.{undeclared, declarations}
-use Rattle.assembler.specs.Records.{place_in}
 use Rattle.assembler.proofs.Means.{AllMean}
 use Rattle.sheet.specs.Rules.{resolve}
-use Rattle.machine.specs.declared.Span.{Span}
+use Rattle.diag.specs.declared.Span.{Span}
 use Rattle.machine.specs.declared.Counts.{Counts}
-use Rattle.machine.specs.Meaning.{span_in, kind_in, decoder_in, counts_in, head_in}
+use Rattle.machine.specs.Meaning.{kind_in, decoder_in, counts_in, head_in}
 use Rattle.head.specs.Heads.{place_at, text_of, text_at, kind_of, kind_at, decoder_of, decoder_at, tapes_at, blank_at, start_at, declared_in, map_in, head_at}
 use Rattle.shown.proofs.Declared.{fills, Declared, absent, present, declared-part}
 
--- a token's place
-abbrev pub at : Token → Place
-at t = record { start = t.start; end = t.end }
-
-abbrev placed : D.Span → Place
-placed s = record { start = s.start; end = s.end }
-
 -- what the tokens behind an entry say of the parts that its item has
-pub record Says (e : Entry) (p : A.Parts Place) : Type 0 where
-  pub machine : (x : Text Place) → p.machine ≡ some x → span_in (text_of (peek e.rest 0)) ≡ x.value.place
+pub record Says (e : Entry) (p : A.Parts Span) : Type 0 where
+  pub machine : (x : Text Span) → p.machine ≡ some x → text_of (peek e.rest 0) ≡ x.value.place
   pub kind : (x : Kind) → p.kind ≡ some x → kind_in (kind_of (peek e.rest 0).value) ≡ x
-  pub input : (x : Text Place) → p.input ≡ some x → (span_in (text_of (peek e.rest 0)) ≡ x.value.place) × (at (peek e.rest 0) ≡ x.place)
+  pub input : (x : Text Span) → p.input ≡ some x → (text_of (peek e.rest 0) ≡ x.value.place) × (R.place_of (peek e.rest 0) ≡ x.place)
   pub output : (x : RawDecoder) → p.output ≡ some x → (b : ℕ) → decoder_in (decoder_of b (peek e.rest 0).value (peek e.rest 1)) ≡ resolve_decoder b x
-  pub tapes : (x : Located Place ℕ) → p.tapes ≡ some x → (cond (leb (peek e.rest 1).value 255) (peek e.rest 1).value 1 ≡ tapes_of (some x)) × (at (peek e.rest 1) ≡ x.place)
+  pub tapes : (x : Located Span ℕ) → p.tapes ≡ some x → (cond (leb (peek e.rest 1).value 255) (peek e.rest 1).value 1 ≡ tapes_of (some x)) × (R.place_of (peek e.rest 1) ≡ x.place)
   pub blank : (x : RawSymbol) → p.blank ≡ some x → resolve 0x2423 (peek e.rest 1) ≡ A.resolve 0x2423 x
-  pub start : (x : Located Place (List ℕ)) → p.start ≡ some x → at (peek e.rest 1) ≡ x.place
+  pub start : (x : Located Span (List ℕ)) → p.start ≡ some x → R.place_of (peek e.rest 1) ≡ x.place
 
 -- the tokens behind the first of the line at f
 module _ (ts : List Token) (f : ℕ) (e : Entry) (q : e ≡ entry_at ts f) where
@@ -51,31 +41,31 @@ module _ (ts : List Token) (f : ℕ) (e : Entry) (q : e ≡ entry_at ts f) where
       let n : suc f + 1 ≡ f + 2 = omega arith in
       ap (λ (e : Entry). peek e.rest 1) q ∙ get_or-drop (suc f) ts 1 ended ∙ ap (peek ts) n
 
-module _ (X : Entry → Item Place → Type 0) (says : (e : Entry) (i : Item Place) → X e i → Says e (A.parts i)) (ts : List Token) (is : List (Located Place (Item Place))) (f : ℕ) where
+module _ (X : Entry → Item Span → Type 0) (says : (e : Entry) (i : Item Span) → X e i → Says e (A.parts i)) (ts : List Token) (is : List (Located Span (Item Span))) (f : ℕ) where
   -- whether a part is declared
-  flag : {B : Type 0} (part : A.Parts Place → Option B) → Declared X ts part f is → ltb f (length ts) ≡ is_some (A.first part is)
+  flag : {B : Type 0} (part : A.Parts Span → Option B) → Declared X ts part f is → ltb f (length ts) ≡ is_some (A.first part is)
   unfolding is_some
   flag part (absent h g) = rw (h, g)
   flag part (present e i p a h q m o g) = rw (h, g)
 
-  flag-found : {B : Type 0} (part : A.Parts Place → Option B) → Declared X ts part f is → ltb f (length ts) ≡ is_some (A.found (A.first part is))
+  flag-found : {B : Type 0} (part : A.Parts Span → Option B) → Declared X ts part f is → ltb f (length ts) ≡ is_some (A.found (A.first part is))
   unfolding is_some A.found
   flag-found part (absent h g) = rw (h, g)
   flag-found part (present e i p a h q m o g) = rw (h, g)
 
   -- the place of a whole declaration
-  whole : {B : Type 0} (part : A.Parts Place → Option B) → Declared X ts part f is → span_in (place_at ts f 0) ≡ L.or_none (place_of (A.first part is))
+  whole : {B : Type 0} (part : A.Parts Span → Option B) → Declared X ts part f is → place_at ts f 0 ≡ L.or_none (place_of (A.first part is))
   unfolding place_at L.or_none place_of
   whole part (absent h g) = rw (place_at, h, g)
   whole part (present e i p a h q m o g) =
       let n : f + 0 ≡ f = omega arith in
-      let here : R.place_of (peek ts f) ≡ place_in p = ap (λ (e : Entry). R.place_of e.first) (sym q) ∙ m.place in
-      rw (place_at, h, g, n) (ap (λ (s : D.Span). placed s) here)
+      let here : R.place_of (peek ts f) ≡ p = ap (λ (e : Entry). R.place_of e.first) (sym q) ∙ m.place in
+      rw (place_at, h, g, n) here
 
   -- the place between a string's quotes
-  text : (part : A.Parts Place → Option (Text Place))
-      → ((e : Entry) (p : A.Parts Place) (x : Text Place) → Says e p → part p ≡ some x → span_in (text_of (peek e.rest 0)) ≡ x.value.place)
-      → Declared X ts part f is → span_in (text_at ts f) ≡ L.place_or_none (between (A.found (A.first part is)))
+  text : (part : A.Parts Span → Option (Text Span))
+      → ((e : Entry) (p : A.Parts Span) (x : Text Span) → Says e p → part p ≡ some x → text_of (peek e.rest 0) ≡ x.value.place)
+      → Declared X ts part f is → text_at ts f ≡ L.place_or_none (between (A.found (A.first part is)))
   unfolding text_at L.place_or_none between A.found
   text part say (absent h g) = rw (text_at, h, g)
   text part say (present e i p a h q m o g) = rw (text_at, h, g, ← second ts f e q) (say e (A.parts i) a (says e i m.more) o)
@@ -101,37 +91,37 @@ module _ (X : Entry → Item Place → Type 0) (says : (e : Entry) (i : Item Pla
   blank_means (present e i p a h q m o g) = rw (blank_at, h, g, ← third ts f e q) ((says e i m.more).blank a o)
 
   -- the places of values
-  input_place_lem : Declared X ts (λ p. p.input) f is → span_in (place_at ts f 1) ≡ L.or_none (place_of (A.found (A.first (λ p. p.input) is)))
+  input_place_lem : Declared X ts (λ p. p.input) f is → place_at ts f 1 ≡ L.or_none (place_of (A.found (A.first (λ p. p.input) is)))
   unfolding place_at L.or_none place_of A.found
   input_place_lem (absent h g) = rw (place_at, h, g)
   input_place_lem (present e i p a h q m o g) = rw (place_at, h, g, ← second ts f e q) ((says e i m.more).input a o).1
 
-  tapes-place : Declared X ts (λ p. p.tapes) f is → span_in (place_at ts f 2) ≡ L.or_none (place_of (A.found (A.first (λ p. p.tapes) is)))
+  tapes-place : Declared X ts (λ p. p.tapes) f is → place_at ts f 2 ≡ L.or_none (place_of (A.found (A.first (λ p. p.tapes) is)))
   unfolding place_at L.or_none place_of A.found
   tapes-place (absent h g) = rw (place_at, h, g)
   tapes-place (present e i p a h q m o g) = rw (place_at, h, g, ← third ts f e q) ((says e i m.more).tapes a o).1
 
-  start-place : Declared X ts (λ p. p.start) f is → span_in (place_at ts f 2) ≡ L.or_none (place_of (A.found (A.first (λ p. p.start) is)))
+  start-place : Declared X ts (λ p. p.start) f is → place_at ts f 2 ≡ L.or_none (place_of (A.found (A.first (λ p. p.start) is)))
   unfolding place_at L.or_none place_of A.found
   start-place (absent h g) = rw (place_at, h, g)
   start-place (present e i p a h q m o g) = rw (place_at, h, g, ← third ts f e q) ((says e i m.more).start a o)
 
   -- the start's name, or that of the first state
-  start-means : (s : Span) (names : List (Located Place (List ℕ))) → (A.first (λ p. p.start) is ≡ none → span_in s ≡ L.place_or_none (head (A.of_option (A.found (A.first (λ p. p.start) is)) ++ names)))
-      → Declared X ts (λ p. p.start) f is → span_in (start_at ts f s) ≡ L.place_or_none (head (A.of_option (A.found (A.first (λ p. p.start) is)) ++ names))
+  start-means : (s : Span) (names : List (Located Span (List ℕ))) → (A.first (λ p. p.start) is ≡ none → s ≡ L.place_or_none (head (A.of_option (A.found (A.first (λ p. p.start) is)) ++ names)))
+      → Declared X ts (λ p. p.start) f is → start_at ts f s ≡ L.place_or_none (head (A.of_option (A.found (A.first (λ p. p.start) is)) ++ names))
   unfolding start_at place_at L.place_or_none head A.of_option A.found
   start-means s names z (absent h g) = rw (start_at, h) (z g)
   start-means s names z (present e i p a h q m o g) = rw (start_at, place_at, h, g, ← third ts f e q) ((says e i m.more).start a o)
 
 -- ---- all of it
-module _ (X : Entry → Item Place → Type 0) (says : (e : Entry) (i : Item Place) → X e i → Says e (A.parts i)) (ts : List Token) (few : length ts ≤ 0xffffffff) (es : List Entry)
-    (ls : List (Line Place)) (all : AllMean X ts es ls) where
+module _ (X : Entry → Item Span → Type 0) (says : (e : Entry) (i : Item Span) → X e i → Says e (A.parts i)) (ts : List Token) (few : length ts ≤ 0xffffffff) (es : List Entry)
+    (ls : List (Line Span)) (all : AllMean X ts es ls) where
   abbrev firsts : List ℕ
   firsts = declarations (length ts) undeclared es
 
   -- given the place of the first state, where no start is declared, and the section counts
   pub head-means : (s : Span) (n : Counts)
-      → (A.first (λ p. p.start) (A.items ls) ≡ none → span_in s ≡ (L.head_of (machine_of ls)).start)
+      → (A.first (λ p. p.start) (A.items ls) ≡ none → s ≡ (L.head_of (machine_of ls)).start)
       → counts_in n ≡ (L.head_of (machine_of ls)).counts
       → head_in (head_at ts firsts s n) ≡ L.head_of (machine_of ls)
   unfolding head_in head_at declared_in map_in L.head_of machine_of A.blank_of A.states_in
@@ -148,8 +138,8 @@ module _ (X : Entry → Item Place → Type 0) (says : (e : Entry) (i : Item Pla
       let b = declared-part X ts (λ p. p.blank) 8 (omega arith) (λ i. (fills i).8) few es ls all in
       let st = declared-part X ts (λ p. p.start) 9 (omega arith) (λ i. (fills i).9) few es ls all in
       let blank : blank_at ts (get_or firsts 8 0) ≡ A.blank_of is = blank_means X says ts is (get_or firsts 8 0) b in
-      let e₁ : span_in (text_at ts (get_or firsts 0 0)) ≡ (L.head_of (machine_of ls)).name = text X says ts is (get_or firsts 0 0) (λ p. p.machine) (λ e p x y h. y.machine x h) m in
-      let e₂ : span_in (text_at ts (get_or firsts 2 0)) ≡ (L.head_of (machine_of ls)).input = text X says ts is (get_or firsts 2 0) (λ p. p.input) (λ e p x y h. (y.input x h).0) x in
+      let e₁ : text_at ts (get_or firsts 0 0) ≡ (L.head_of (machine_of ls)).name = text X says ts is (get_or firsts 0 0) (λ p. p.machine) (λ e p x y h. y.machine x h) m in
+      let e₂ : text_at ts (get_or firsts 2 0) ≡ (L.head_of (machine_of ls)).input = text X says ts is (get_or firsts 2 0) (λ p. p.input) (λ e p x y h. (y.input x h).0) x in
       let e₃ : kind_in (kind_at ts (get_or firsts 1 0)) ≡ (L.head_of (machine_of ls)).kind = kind-means X says ts is (get_or firsts 1 0) k in
       let e₄ : decoder_in (decoder_at (blank_at ts (get_or firsts 8 0)) ts (get_or firsts 3 0)) ≡ (L.head_of (machine_of ls)).output =
       ap (λ (b : ℕ). decoder_in (decoder_at b ts (get_or firsts 3 0))) blank ∙ output-means X says ts is (get_or firsts 3 0) (A.blank_of is) o in
@@ -159,12 +149,12 @@ module _ (X : Entry → Item Place → Type 0) (says : (e : Entry) (i : Item Pla
       let e₈ : ltb (get_or firsts 7 0) (length ts) ≡ (L.head_of (machine_of ls)).declared.tape_alphabet = flag-found X says ts is (get_or firsts 7 0) (λ p. p.gamma) gam in
       let e₉ : ltb (get_or firsts 9 0) (length ts) ≡ (L.head_of (machine_of ls)).declared.start = flag-found X says ts is (get_or firsts 9 0) (λ p. p.start) st in
       let f₁ : ltb (get_or firsts 8 0) (length ts) ≡ (L.head_of (machine_of ls)).declared.blank = flag X says ts is (get_or firsts 8 0) (λ p. p.blank) b in
-      let f₂ : span_in (start_at ts (get_or firsts 9 0) s) ≡ (L.head_of (machine_of ls)).start = start-means X says ts is (get_or firsts 9 0) s _ z st in
-      let f₃ : span_in (place_at ts (get_or firsts 1 0) 0) ≡ (L.head_of (machine_of ls)).kind_place = whole X says ts is (get_or firsts 1 0) (λ p. p.kind) k in
-      let f₄ : span_in (place_at ts (get_or firsts 2 0) 1) ≡ (L.head_of (machine_of ls)).input_place = input_place_lem X says ts is (get_or firsts 2 0) x in
-      let f₅ : span_in (place_at ts (get_or firsts 4 0) 2) ≡ (L.head_of (machine_of ls)).tapes_place = tapes-place X says ts is (get_or firsts 4 0) t in
-      let f₆ : span_in (place_at ts (get_or firsts 9 0) 2) ≡ (L.head_of (machine_of ls)).start_place = start-place X says ts is (get_or firsts 9 0) st in
-      let f₇ : span_in (place_at ts (get_or firsts 5 0) 0) ≡ (L.head_of (machine_of ls)).states_place = whole X says ts is (get_or firsts 5 0) (λ p. p.states) q in
+      let f₂ : start_at ts (get_or firsts 9 0) s ≡ (L.head_of (machine_of ls)).start = start-means X says ts is (get_or firsts 9 0) s _ z st in
+      let f₃ : place_at ts (get_or firsts 1 0) 0 ≡ (L.head_of (machine_of ls)).kind_place = whole X says ts is (get_or firsts 1 0) (λ p. p.kind) k in
+      let f₄ : place_at ts (get_or firsts 2 0) 1 ≡ (L.head_of (machine_of ls)).input_place = input_place_lem X says ts is (get_or firsts 2 0) x in
+      let f₅ : place_at ts (get_or firsts 4 0) 2 ≡ (L.head_of (machine_of ls)).tapes_place = tapes-place X says ts is (get_or firsts 4 0) t in
+      let f₆ : place_at ts (get_or firsts 9 0) 2 ≡ (L.head_of (machine_of ls)).start_place = start-place X says ts is (get_or firsts 9 0) st in
+      let f₇ : place_at ts (get_or firsts 5 0) 0 ≡ (L.head_of (machine_of ls)).states_place = whole X says ts is (get_or firsts 5 0) (λ p. p.states) q in
       λ j. record {
         name = e₁ j;
         input = e₂ j;

@@ -4,7 +4,7 @@ use Rattle.parser.specs.Lines.{Done, Read}
 use Rattle.std.proofs.Common.{◌≡◌, ℕ, suc, ◌+◌, ◌^◌, ◌<◌, ◌≤◌, min, Bool, true, false, cond, eqb, leb, List, [], map, length, sym, refl, ap, ◌∙◌, subst, arith, get_or-drop}
 use mathlib.Core.Option.{Option, none, some}
 use Rattle.diag.proofs.Cases.{by_test_lem}
-use Rattle.lexer.specs.declared.Span.{Span as Place}
+use Rattle.diag.specs.declared.Span.{Span as Place}
 use Rattle.lexer.specs.Tokens.{TokenKind, word, number, quoted, str, sign, comment, newline, unterminated_string, unterminated_quote, Token as Lexed}
 use Rattle.lexer.specs.Words.{word_value, value, kind_number, token_value}
 use Rattle.lexer.proofs.Placed.{Placed, All, all-at}
@@ -33,9 +33,10 @@ use Rattle.shown.proofs.Shows.{Said}
 use Rattle.shown.proofs.TokensShow.{symbol-code}
 use Rattle.shown.proofs.ItemTaken.{Taken as ValueTaken, item-taken}
 use Rattle.shown.proofs.LineTokens.{by_rule}
-use Rattle.machine.specs.Meaning.{span_in, kind_in, order_in, decoder_in}
+use Rattle.machine.specs.Meaning.{kind_in, order_in, decoder_in}
 use Rattle.head.specs.Heads as H
 use Rattle.head.specs.Heads.{kind_of, order_of, decoder_of}
+use Rattle.assembler.specs.Rows as R
 use Rattle.head.proofs.HeadMeans as HM
 use Rattle.head.proofs.TokenSays.{string_says, found_row, kind_says, order_says, output_of, output_says, number_says}
 
@@ -181,17 +182,17 @@ module _ (text : List ℕ) (short : length text < 2 ^ 32) (e : Entry) (l : Token
     value_is = ap (at l) t.value
 
   text_taken : Taken W (is_kind 3) 1 x → (y : Text Place) → some (text_of (at l x.value)) ≡ some y
-      → (span_in (H.text_of (peek e.rest 0)) ≡ y.value.place) × (HM.at (peek e.rest 0) ≡ y.place)
+      → (H.text_of (peek e.rest 0) ≡ y.value.place) × (R.place_of (peek e.rest 0) ≡ y.place)
   unfolding token_of
   text_taken t y h =
       let z : text_of (at l x.value) ≡ y = cc in
       let s : is_some (string_in (at l 1).kind) ≡ true = sym (sees_string (at l 1).kind (at l 1).place (at l 1).inner (sound_at l 1 lexed (inside (is_kind 3) 0 t))) ∙ seen (is_kind 3) 0 t in
       let y-is : text_of (at l 1) ≡ y = ap text_of (sym (value_is (is_kind 3) 0 t)) ∙ z in
       with_some (string_in (at l 1).kind) s (λ v q. (
-        ap (λ (w : Token). span_in (H.text_of w)) (token (is_kind 3) 0 t)
+        ap (λ (w : Token). H.text_of w) (token (is_kind 3) 0 t)
             ∙ string_says text (at l 1).kind (at l 1).place (at l 1).inner (all-at (Placed text) l 1 nothing placed (inside (is_kind 3) 0 t)) short v q
             ∙ ap (λ (y : Text Place). y.value.place) y-is,
-        ap HM.at (token (is_kind 3) 0 t) ∙ ap (λ (y : Text Place). y.place) y-is,
+        ap R.place_of (token (is_kind 3) 0 t) ∙ ap (λ (y : Text Place). y.place) y-is,
       ))
 
   kind-taken : Taken W (is_choice 0x110010 0x110013) 1 x → (y : M.Kind) → some (located (word_in kinds) transducer (at l x.value)).value ≡ some y → kind_in (kind_of (peek e.rest 0).value) ≡ y
@@ -206,7 +207,7 @@ module _ (text : List ℕ) (short : length text < 2 ^ 32) (e : Entry) (l : Token
       ∙ sym (ap (or_else transducer) q) ∙ sym (ap (λ (t : Lexed Place). or_else transducer (word_in kinds t.kind)) (value_is c 0 t)) ∙ z)
 
   tapes-taken : Taken W (is_kind 1) 2 x → (y : Located Place ℕ) → some (located number_in 0 (at l x.value)) ≡ some y
-      → (cond (leb (peek e.rest 1).value 255) (peek e.rest 1).value 1 ≡ tapes_of (some y)) × (HM.at (peek e.rest 1) ≡ y.place)
+      → (cond (leb (peek e.rest 1).value 255) (peek e.rest 1).value 1 ≡ tapes_of (some y)) × (R.place_of (peek e.rest 1) ≡ y.place)
   unfolding token_of
   tapes-taken t y h =
       let z : located number_in 0 (at l x.value) ≡ y = cc in
@@ -217,7 +218,7 @@ module _ (text : List ℕ) (short : length text < 2 ^ 32) (e : Entry) (l : Token
         ap (λ (w : Token). cond (leb w.value 255) w.value 1) (token (is_kind 1) 1 t)
             ∙ number_token (at l 2).place (at l 2).inner (at l 2).kind n (at l 2).place q
             ∙ sym (ap (λ (o : Option ℕ). tapes_of (some (record { value = or_else 0 o; place = (at l 2).place }))) q) ∙ ap (λ (y : Located Place ℕ). tapes_of (some y)) y-is,
-        ap HM.at (token (is_kind 1) 1 t) ∙ ap (λ (y : Located Place ℕ). y.place) y-is,
+        ap R.place_of (token (is_kind 1) 1 t) ∙ ap (λ (y : Located Place ℕ). y.place) y-is,
       ))
 
   blank_taken : Taken W is_symbol 2 x → (y : RawSymbol) → some (located symbol_in raw_blank (at l x.value)).value ≡ some y → resolve 0x2423 (peek e.rest 1) ≡ A.resolve 0x2423 y
@@ -230,11 +231,11 @@ module _ (text : List ℕ) (short : length text < 2 ^ 32) (e : Entry) (l : Token
       ∙ symbol-code (at l 2).kind (at l 2).place (at l 2).inner b 0x2423 (all-at (Placed text) l 2 nothing placed i).good q
       ∙ ap (A.resolve 0x2423) (sym (ap (or_else raw_blank) q) ∙ sym (ap (λ (t : Lexed Place). or_else raw_blank (symbol_in t.kind)) (value_is is_symbol 1 t)) ∙ z))
 
-  start-taken : Taken W is_state 2 x → (y : Located Place (List ℕ)) → some (located state_in [] (at l x.value)) ≡ some y → HM.at (peek e.rest 1) ≡ y.place
+  start-taken : Taken W is_state 2 x → (y : Located Place (List ℕ)) → some (located state_in [] (at l x.value)) ≡ some y → R.place_of (peek e.rest 1) ≡ y.place
   unfolding token_of
   start-taken t y h =
       let z : located state_in [] (at l x.value) ≡ y = cc in
-      ap HM.at (token is_state 1 t) ∙ sym (ap (λ (t : Lexed Place). t.place) (value_is is_state 1 t)) ∙ ap (λ (y : Located Place (List ℕ)). y.place) z
+      ap R.place_of (token is_state 1 t) ∙ sym (ap (λ (t : Lexed Place). t.place) (value_is is_state 1 t)) ∙ ap (λ (y : Located Place (List ℕ)). y.place) z
 
   -- the output: a word, and for unary and binary one token more
   module _ (t : OutputTaken W x) (b : ℕ) where

@@ -3,7 +3,7 @@ use Rattle.std.proofs.Common.{◌≡◌, ℕ, ◌+◌, ◌-◌, ◌%◌, ◌^◌
 use mathlib.Core.Option.{none, some}
 use native.Mathlib.Nat.{min-eq_left, min-eq_right}
 use Rattle.diag.proofs.Cases.{by_test_lem}
-use Rattle.lexer.specs.declared.Span.{Span as Place}
+use Rattle.diag.specs.declared.Span.{Span as Place}
 use Rattle.lexer.specs.Tokens.{TokenKind, word, number, quoted, str, sign, comment, newline, unterminated_string, unterminated_quote}
 use Rattle.lexer.specs.Words.{position, keyword, word_value, value, kind_number, token_value}
 use Rattle.lexer.proofs.Placed.{Placed}
@@ -15,7 +15,7 @@ use Rattle.language.specs.Lines.{string_in, meaning_of, kinds, OutputWord, word_
 use Rattle.tokens.specs.declared.Token.{Token as Words}
 use Rattle.sheet.specs.Rules.{resolve}
 use Rattle.language.specs.Infer.{tapes_of}
-use Rattle.machine.specs.Meaning.{span_in, kind_in, order_in, decoder_in}
+use Rattle.machine.specs.Meaning.{kind_in, order_in, decoder_in}
 use Rattle.head.specs.Heads.{text_of, kind_of, order_of, decoder_of}
 
 -- nothing is not something
@@ -24,7 +24,7 @@ none-some b e = absurd (let z : ◌≡◌ {A = ℕ} 0 1 = cc in omega arith)
 
 -- ---- strings
 pub string_says : (t : List ℕ) (k : TokenKind) (p q : Place) → Placed t (record { kind = k; place = p; inner = q }) → length t < 2 ^ 32 → (s : List ℕ) → string_in k ≡ some s
-    → span_in (text_of (token_of (record { kind = k; place = p; inner = q }))) ≡ q
+    → text_of (token_of (record { kind = k; place = p; inner = q })) ≡ q
 unfolding token_of kind_number token_value string_in
 string_says t (str v) p q h l s e =
     let a : p.start + (q.start - p.start) ≡ q.start = omega (arith, h.starts) in

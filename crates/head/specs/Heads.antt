@@ -3,8 +3,8 @@
 use Rattle.std.specs.Prelude.{ℕ, ◌+◌, ◌-◌, ◌%◌, ◌^◌, cond, List, length, ◌==◌, nat_le, nat_lt, slice_index, Option, Some, None}
 use Rattle.tokens.specs.declared.Token.{Token}
 use Rattle.parser.specs.Row.{peek}
-use Rattle.sheet.specs.Rules.{resolve}
-use Rattle.machine.specs.declared.Span.{Span}
+use Rattle.sheet.specs.Rules.{no_span, resolve}
+use Rattle.diag.specs.declared.Span.{Span}
 use Rattle.machine.specs.declared.Kind.{Kind}
 use Rattle.machine.specs.declared.Kind.TheVariants.{Acceptor, Transducer, Enumerator, Beaver}
 use Rattle.machine.specs.declared.BitOrder.{BitOrder}
@@ -15,10 +15,6 @@ use Rattle.machine.specs.declared.Declared.{Declared}
 use Rattle.machine.specs.declared.SourceMap.{SourceMap}
 use Rattle.machine.specs.declared.Counts.{Counts}
 use Rattle.machine.specs.declared.Head.{Head}
-
--- the place that says that there is none
-abbrev pub no_span : Span
-no_span = record { start = 0xffffffff; end = 0xffffffff }
 
 -- the token j behind the first of the line f, if there is such a line
 unfoldable pub said : List Token → ℕ → ℕ → Option Token

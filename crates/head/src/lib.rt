@@ -1,18 +1,19 @@
 // The head of a machine from the first declarations and the tokens in a row of words whose lines have entries.
 #![tactic(auto)]
 
-ghost use Rattle.std.specs.Prelude.{◌≡◌, ◌*◌, ◌≤◌, length};
-ghost use Rattle.assembler.specs.Rows.{rows};
-ghost use Rattle.head.specs.Heads.{said, place_at, text_of, text_at, kind_of, kind_at, order_of, decoder_of, decoder_at, tapes_at, blank_at, start_at, declared_in, map_in, head_at};
+ghost use Rattle.std.specs.Prelude.{◌≡◌, ◌≤◌};
+ghost use Rattle.tokens.specs.Listed.{tokens_of};
+ghost use Rattle.head.specs.Heads.{said, place_at, text_of, text_at, kind_of, kind_at, order_of, decoder_of, decoder_at};
+ghost use Rattle.head.specs.Heads.{tapes_at, blank_at, start_at, declared_in, map_in, head_at};
 
-use assembler::entry;
 use machine::{BitOrder, Counts, Declared, Decoder, Head, Kind, SourceMap, Span};
 use sheet::rules;
-use tokens::Token;
+use tokens::{Token, Tokens};
 
 // The blank unless another is declared.
 pub const BLANK: u32 = 0x2423;
-// The values of words: the kinds of machines, the outputs and the orders of bits.
+// The values of the words that say a kind of machine, an output or an order of bits. They are numbers, and no enum, since a keyword's value stands in a
+// row of words that C lends, and each is looked at in one place.
 const ACCEPTOR: u32 = 0x110010;
 
 const ENUMERATOR: u32 = 0x110012;
@@ -25,127 +26,102 @@ const BINARY: u32 = 0x110016;
 
 const MSB: u32 = 0x110018;
 
-// The place that stands for none.
-pub const NONE: Span = Span {
-    start: 0xffff_ffff,
-    end: 0xffff_ffff,
-};
+// Here and below the tokens and a line's index are two parameters: each part of a head stands in another line, and Tokens is another crate's, so that these
+// are no methods of it.
 
-// The tokens of a text at the front of a row, four words to a token, and how many they are.
-#[derive(Clone, Copy)]
-struct Row<'a> {
-    work: &'a [u32],
-    count: usize,
-    ghost room: { 4 * count ≤ length work.now },
+// The token j behind the first of the line f, if there is such a line.
+#[tactic(auto, using(chars::proofs::Tests::tests), unfolding(crate::specs::Heads::said))]
+fn said(tokens: &Tokens, f: u32, j: usize) -> Option<Token>
+    requires { j ≤ 2 }
+    ensures { result ≡ said (tokens_of tokens.now) f j }
+{
+    let i = f as usize;
+    if i < tokens.len() {
+        Some(tokens.at(i + j))
+    } else {
+        None
+    }
 }
 
-impl Row<'_> {
-    // The token j behind the first of the line f, if there is such a line.
-    #[tactic(auto, using(crate::proofs::HeadLaws::heads), unfolding(crate::specs::Heads::said))]
-    fn said(&self, f: u32, j: usize) -> Option<Token>
-        requires { j ≤ 2 }
-        ensures { result ≡ said (rows self.now.count self.now.work.now) f j }
-    {
-        let i = f as usize;
-        if i < self.count {
-            Some(entry::token_at(self.work, self.count, i + j))
-        } else {
-            None
-        }
+// Its place.
+#[tactic(auto, using(crate::proofs::HeadLaws::parts))]
+fn place_at(tokens: &Tokens, f: u32, j: usize) -> Span
+    requires { j ≤ 2 }
+    ensures { result ≡ place_at (tokens_of tokens.now) f j }
+{
+    match said(tokens, f, j) {
+        Some(Token { start, end, .. }) => Span { start, end },
+        None => Span::NONE,
     }
+}
 
-    // Its place.
-    #[tactic(auto, using(crate::proofs::HeadLaws::parts))]
-    fn place_at(&self, f: u32, j: usize) -> Span
-        requires { j ≤ 2 }
-        ensures { result ≡ place_at (rows self.now.count self.now.work.now) f j }
-    {
-        match self.said(f, j) {
-            Some(Token { start, end, .. }) => Span { start, end },
-            None => NONE,
-        }
+// The place of the string that the line f declares, between its quotes.
+#[tactic(auto, using(crate::proofs::HeadLaws::parts))]
+fn text_at(tokens: &Tokens, f: u32) -> Span
+    ensures { result ≡ text_at (tokens_of tokens.now) f }
+{
+    match said(tokens, f, 1) {
+        Some(t) => text_of(t),
+        None => Span::NONE,
     }
+}
 
-    // The place of the string that the line f declares, between its quotes.
-    #[tactic(auto, using(crate::proofs::HeadLaws::parts))]
-    fn text_at(&self, f: u32) -> Span
-        ensures { result ≡ text_at (rows self.now.count self.now.work.now) f }
-    {
-        match self.said(f, 1) {
-            Some(t) => text_of(t),
-            None => NONE,
-        }
+// The kind that the line f declares.
+#[tactic(auto, using(crate::proofs::HeadLaws::parts))]
+fn kind_at(tokens: &Tokens, f: u32) -> Kind
+    ensures { result ≡ kind_at (tokens_of tokens.now) f }
+{
+    match said(tokens, f, 1) {
+        Some(t) => kind_of(t.value),
+        None => Kind::Transducer,
     }
+}
 
-    // The kind that the line f declares.
-    #[tactic(auto, using(crate::proofs::HeadLaws::parts))]
-    fn kind_at(&self, f: u32) -> Kind
-        ensures { result ≡ kind_at (rows self.now.count self.now.work.now) f }
-    {
-        match self.said(f, 1) {
-            Some(t) => kind_of(t.value),
-            None => Kind::Transducer,
-        }
+// The decoder that the line f declares.
+#[tactic(auto, using(crate::proofs::HeadLaws::parts))]
+fn decoder_at(tokens: &Tokens, f: u32, blank: u32) -> Decoder
+    ensures { result ≡ decoder_at blank (tokens_of tokens.now) f }
+{
+    let Some(t) = said(tokens, f, 1) else {
+        return Decoder::Word;
+    };
+    decoder_of(blank, t.value, tokens.at(f as usize + 2))
+}
+
+// The tapes that the line f declares.
+#[tactic(auto, using(crate::proofs::HeadLaws::parts))]
+fn tapes_at(tokens: &Tokens, f: u32) -> u8
+    ensures { result ≡ tapes_at (tokens_of tokens.now) f }
+{
+    match said(tokens, f, 2) {
+        Some(t) if t.value <= 255 => t.value as u8,
+        Some(_) | None => 1,
     }
+}
 
-    // The decoder that the line f declares.
-    #[tactic(auto, using(crate::proofs::HeadLaws::parts))]
-    fn decoder_at(&self, f: u32, blank: u32) -> Decoder
-        ensures { result ≡ decoder_at blank (rows self.now.count self.now.work.now) f }
-    {
-        let Some(t) = self.said(f, 1) else {
-            return Decoder::Word;
-        };
-        let u = entry::token_at(self.work, self.count, f as usize + 2);
-        decoder_of(blank, t.value, u)
+// The place of the start's name, s where the line f declares none.
+#[tactic(auto, using(chars::proofs::Tests::tests), unfolding(crate::specs::Heads::start_at))]
+fn start_at(tokens: &Tokens, f: u32, s: Span) -> Span
+    ensures { result ≡ start_at (tokens_of tokens.now) f s }
+{
+    if (f as usize) < tokens.len() {
+        place_at(tokens, f, 2)
+    } else {
+        s
     }
+}
 
-    // The tapes that the line f declares.
-    #[tactic(auto, using(crate::proofs::HeadLaws::parts))]
-    fn tapes_at(&self, f: u32) -> u8
-        ensures { result ≡ tapes_at (rows self.now.count self.now.work.now) f }
-    {
-        match self.said(f, 2) {
-            Some(t) if t.value <= 255 => t.value as u8,
-            Some(_) | None => 1,
-        }
-    }
-
-    // The blank that the line f declares.
-    #[tactic(auto, using(crate::proofs::HeadLaws::parts))]
-    fn blank_at(&self, f: u32) -> u32
-        ensures { result ≡ blank_at (rows self.now.count self.now.work.now) f }
-    {
-        match self.said(f, 2) {
-            Some(t) => rules::resolve(BLANK, t),
-            None => BLANK,
-        }
-    }
-
-    // The place of the start's name, s where the line f declares none.
-    #[tactic(auto, using(crate::proofs::HeadLaws::heads), unfolding(crate::specs::Heads::start_at))]
-    fn start_at(&self, f: u32, s: Span) -> Span
-        ensures { result ≡ start_at (rows self.now.count self.now.work.now) f s }
-    {
-        if (f as usize) < self.count {
-            self.place_at(f, 2)
-        } else {
-            s
-        }
-    }
-
-    // Where the parts are declared.
-    #[tactic(auto, using(crate::proofs::HeadLaws::heads), unfolding(crate::specs::Heads::map_in))]
-    fn map_in(&self, first: &[u32; 11]) -> SourceMap
-        ensures { result ≡ map_in (rows self.now.count self.now.work.now) first.now }
-    {
-        SourceMap {
-            kind: self.place_at(first[1], 0),
-            input: self.place_at(first[2], 1),
-            tapes: self.place_at(first[4], 2),
-            start: self.place_at(first[9], 2),
-            states: self.place_at(first[5], 0),
-        }
+// Where the parts are declared.
+#[tactic(auto, using(crate::proofs::HeadLaws::map_in_lem))]
+fn map_in(tokens: &Tokens, first: &[u32; 11]) -> SourceMap
+    ensures { result ≡ map_in (tokens_of tokens.now) first.now }
+{
+    SourceMap {
+        kind: place_at(tokens, first[1], 0),
+        input: place_at(tokens, first[2], 1),
+        tapes: place_at(tokens, first[4], 2),
+        start: place_at(tokens, first[9], 2),
+        states: place_at(tokens, first[5], 0),
     }
 }
 
@@ -211,30 +187,32 @@ fn declared_in(count: usize, first: &[u32; 11]) -> Declared
 }
 
 // The blank that the line f declares.
-pub fn blank_at(work: &[u32], count: usize, f: u32) -> u32
-    requires { 4 * count ≤ length work.now }
-    ensures { result ≡ blank_at (rows count work.now) f }
+#[tactic(auto, using(crate::proofs::HeadLaws::parts))]
+pub fn blank_at(tokens: &Tokens, f: u32) -> u32
+    ensures { result ≡ blank_at (tokens_of tokens.now) f }
 {
-    Row { work, count }.blank_at(f)
+    match said(tokens, f, 2) {
+        Some(t) => rules::resolve(BLANK, t),
+        None => BLANK,
+    }
 }
 
 // The head, given the place of the first state and the section counts.
-pub fn head(work: &[u32], count: usize, first: &[u32; 11], s: Span, n: Counts) -> Head
-    requires { 4 * count ≤ length work.now }
-    ensures { result ≡ head_at (rows count work.now) first.now s n }
+#[tactic(auto, using(crate::proofs::HeadLaws::head_in))]
+pub fn head(tokens: &Tokens, first: &[u32; 11], s: Span, n: Counts) -> Head
+    ensures { result ≡ head_at (tokens_of tokens.now) first.now s n }
 {
-    let row = Row { work, count };
-    let blank = row.blank_at(first[8]);
+    let blank = blank_at(tokens, first[8]);
     Head {
-        output: row.decoder_at(first[3], blank),
-        name: row.text_at(first[0]),
-        input: row.text_at(first[2]),
-        kind: row.kind_at(first[1]),
-        tapes: row.tapes_at(first[4]),
+        output: decoder_at(tokens, first[3], blank),
+        name: text_at(tokens, first[0]),
+        input: text_at(tokens, first[2]),
+        kind: kind_at(tokens, first[1]),
+        tapes: tapes_at(tokens, first[4]),
         blank,
-        declared: declared_in(count, first),
-        start: row.start_at(first[9], s),
-        map: row.map_in(first),
+        declared: declared_in(tokens.len(), first),
+        start: start_at(tokens, first[9], s),
+        map: map_in(tokens, first),
         counts: n,
     }
 }

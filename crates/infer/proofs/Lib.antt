@@ -1,4 +1,5 @@
 pub mod Pages
 pub mod NameLaws
+pub mod WalkLaws
 pub mod SectionLaws
 pub mod Widths

@@ -1,49 +1,29 @@
--- Laws of words kept below an index, of the indices of a line, and of three words stored.
-use mathlib.Core.Path.{◌≡◌, refl, sym, ap, subst, ◌∙◌}
-use mathlib.Core.Bool.{Bool, true, false, cond}
-use mathlib.Core.List.{List, [], ◌∷◌, ◌++◌}
-use Prim.Native.Nat.{ℕ, zero, suc, ◌+◌, ◌-◌, ◌*◌, ◌≤◌, ◌<◌}
+-- Laws of the tokens in a row's front, and of the indices of a line.
+use mathlib.Core.Path.{◌≡◌, sym, ap, ◌∙◌}
+use mathlib.Core.Bool.{Bool, true, false}
+use mathlib.Core.List.{List, [], ◌∷◌}
+use Prim.Native.Nat.{ℕ, ◌+◌, ◌-◌, ◌*◌, ◌≤◌, ◌<◌}
 use native.Mathlib.Omega.{arith}
 use native.Mathlib.Numerals.{add-one}
 use native.Mathlib.Decide.{dec_lt}
 use borrow.Author.Tests.{eq-eqb, ne_eqb}
-use lib.Dec.{eqb}
-use lib.ListN.{length, get_or, take, drop, set, length-set, drop_of_length-le, length-take}
-use lib.Seq.{sets, take-set-le, get_or-take, take-take, drop-cons}
+use lib.ListN.{length, take, drop, drop_of_length-le, length-take}
+use lib.Seq.{take-take, drop-cons}
 use Rattle.tokens.specs.declared.Token.{Token}
 use Rattle.parser.specs.Row.{tokens_in, peek, ended}
 use Rattle.parser.specs.Views.{is_state}
 use Rattle.assembler.specs.Rows.{rows}
-use Rattle.assembler.proofs.Rows.{length-rows, row_past}
+use Rattle.assembler.proofs.Rows.{row_past}
 use Rattle.assembler.proofs.RowWords.{part-tokens}
-use Rattle.infer.specs.Page.{Page, page, Kept, indices_from, indices_in}
+use Rattle.infer.specs.Page.{indices_from, indices_in}
 
--- ---- three words
-pub three-words : (o o₁ o₂ o₃ : List ℕ) (i x y z : ℕ) → o₁ ≡ set o i x → o₂ ≡ set o₁ (i + 1) y → o₃ ≡ set o₂ (i + 2) z → o₃ ≡ sets o i (x ∷ y ∷ z ∷ [])
-three-words o o₁ o₂ o₃ i x y z p q r =
-    let e : i + 2 ≡ suc (suc i) = omega arith in
-    r ∙ ap (λ (k : ℕ). set o₂ k z) e ∙ ap (λ (l : List ℕ). set l (suc (suc i)) z) (q ∙ ap (λ (k : ℕ). set o₁ k y) (add-one i) ∙ ap (λ (l : List ℕ). set l (suc i) y) p)
-
--- ---- what is kept
-pub kept_refl : (b : ℕ) (w : List ℕ) → Kept b w w
-kept_refl b w = record { below = refl; size = refl }
-
-pub kept_on : (b : ℕ) (u v w : List ℕ) → Kept b u v → Kept b v w → Kept b u w
-kept_on b u v w p q = record { below = q.below ∙ p.below; size = q.size ∙ p.size }
-
-pub kept_set : (b : ℕ) (w : List ℕ) (k x : ℕ) → b ≤ k → Kept b w (set w k x)
-kept_set b w k x h = record { below = take-set-le b w k x h; size = length-set w k x }
-
-pub kept_at : (b : ℕ) (w v : List ℕ) (i : ℕ) → Kept b w v → i < b → get_or v i 0 ≡ get_or w i 0
-kept_at b w v i k h = sym (get_or-take b v i 0 h) ∙ ap (λ (l : List ℕ). get_or l i 0) k.below ∙ get_or-take b w i 0 h
-
-pub kept-rows : (n b : ℕ) (w v : List ℕ) → Kept b w v → 4 * n ≤ b → b ≤ length w → rows n v ≡ rows n w
-kept-rows n b w v k h g =
+-- the tokens stand in the row's front
+pub rows_front : (n b : ℕ) (w : List ℕ) → 4 * n ≤ b → b ≤ length w → rows n (take b w) ≡ rows n w
+rows_front n b w h g =
+    let v : List ℕ = take b w in
     let e : 4 * n - 4 * 0 ≡ 4 * n = omega arith in
-    let z : 4 * n ≤ length w = omega arith in
-    let z' : 4 * n ≤ length v = omega (arith, k.size) in
-    let f : take (4 * n) v ≡ take (4 * n) w = sym (take-take (4 * n) b v h) ∙ ap (take (4 * n)) k.below ∙ take-take (4 * n) b w h in
-    sym (part-tokens n 0 v z' (omega arith)) ∙ ap (λ (m : ℕ). tokens_in (take m v)) e ∙ ap tokens_in f ∙ ap (λ (m : ℕ). tokens_in (take m w)) (sym e) ∙ part-tokens n 0 w z (omega arith)
+    sym (part-tokens n 0 v (omega (arith, length-take b w)) (omega arith)) ∙ ap (λ (m : ℕ). tokens_in (take m v)) e ∙ ap tokens_in (take-take (4 * n) b w h)
+    ∙ ap (λ (m : ℕ). tokens_in (take m w)) (sym e) ∙ part-tokens n 0 w (omega arith) (omega arith)
 
 -- ---- the indices of a line
 abbrev pub indices_at : List Token → ℕ → List ℕ

@@ -1,2 +1,4 @@
 pub mod Page
+pub mod Feeds
 pub mod States
+pub mod Names

@@ -1,21 +1,20 @@
 -- The blank and the sections of Σ and Γ are the language's.
 use mathlib.Core.Path.{◌≡◌, refl, sym, ap, ap₂, subst, ◌∙◌}
 use mathlib.Core.Bool.{Bool, true, false, cond, ◌||◌}
-use mathlib.Core.List.{List, [], ◌∷◌, ◌++◌, map, append-nil, append_assoc}
+use mathlib.Core.List.{List, [], ◌∷◌, ◌++◌, map, append-nil}
 use mathlib.Core.Option.{Option, none, some}
-use Prim.Native.Nat.{ℕ, suc, ◌+◌, ◌*◌, ◌≤◌, ◌<◌}
-use native.Mathlib.Omega.{arith}
+use Prim.Native.Nat.{ℕ, ◌+◌, ◌≤◌}
 use borrow.Author.Tests.{eq-eqb}
 use lib.Dec.{eqb, ltb}
 use lib.ListN.{length, get_or, drop}
 use Rattle.diag.proofs.Cases.{by_test_lem}
-use Rattle.lexer.specs.declared.Span.{Span as Place}
+use Rattle.diag.specs.declared.Span.{Span as Place}
 use Rattle.tokens.specs.declared.Token.{Token}
 use Rattle.parser.specs.Row.{peek}
 use Rattle.parser.specs.Views.{is_symbol}
 use Rattle.language.specs.Machine.{Located, Symbol}
 use Rattle.language.specs.Content.{value_or}
-use Rattle.language.specs.Lines.{RawSymbol, raw_blank, Text, Item, Line}
+use Rattle.language.specs.Lines.{RawSymbol, raw_blank, Item, Line}
 use Rattle.language.specs.Assembly as A
 use Rattle.language.specs.Infer as I
 use Rattle.language.specs.Layout as L
@@ -23,17 +22,14 @@ use Rattle.language.proofs.Every.{Every}
 use Rattle.language.proofs.Counts.{Fits, Chosen, kept_fits, flat_append}
 use Rattle.language.proofs.FirstUse as U
 use Rattle.language.proofs.LineUses.{lines_use, candidates_of_lines, candidates_from_lines}
-use Rattle.assembler.specs.Rows.{place_of}
 use Rattle.assembler.specs.Entries.{Entry, entries}
 use Rattle.assembler.proofs.Means.{AllMean}
-use Rattle.sheet.specs.Comments.{span_words}
 use Rattle.sheet.specs.Rules.{resolve}
-use Rattle.alphabet.specs.Symbols.{range, blank_of, symbols, line_range, symbols_in, is_blank, has_blank, rules_symbols, codes_of}
-use Rattle.alphabet.specs.Codes.{noted_all}
+use Rattle.alphabet.specs.Symbols.{range, blank_of, symbols, symbols_in, is_blank, has_blank, rules_symbols, codes_of}
 use Rattle.alphabet.specs.Input.{input_of}
 use Rattle.alphabet.specs.Alphabets.{listed_words, inferred_words, other_words, line_codes, candidates, gamma_codes, declared_gamma, gamma_words, inferred_sigma, sigma_words}
 use Rattle.alphabet.proofs.CodesMean.{codes_mean, less_mean}
-use Rattle.shown.proofs.Shows.{SymbolShows, SymbolsShow, no_symbols, no_symbol, one_symbol, Mentions}
+use Rattle.shown.proofs.Shows.{SymbolsShow, no_symbols, no_symbol, one_symbol, Mentions}
 use Rattle.inferred.proofs.Firsts.{At, nowhere, there, firsts, sigma-at, gamma-at, blank_at_lem}
 use Rattle.inferred.proofs.RuleLines.{RulesAt, rules-at}
 use Rattle.inferred.proofs.RuleSymbols.{rules-fresh}

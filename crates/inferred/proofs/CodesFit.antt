@@ -1,14 +1,14 @@
 -- The codes of an undeclared Γ, each once, fit in the two scratch rows of a text: there are no more than the row's symbols and the input's characters.
-use mathlib.Core.Path.{◌≡◌, refl, sym, ap, ap₂, subst, ◌∙◌}
+use mathlib.Core.Path.{◌≡◌, refl, sym, ap, ◌∙◌}
 use mathlib.Core.Bool.{Bool, true, false, cond, ◌||◌, false≢true}
-use mathlib.Core.List.{List, [], ◌∷◌, ◌++◌, map}
-use Prim.Native.Nat.{ℕ, zero, suc, ◌+◌, ◌-◌, ◌*◌, ◌≤◌, ◌<◌}
+use mathlib.Core.List.{List, [], ◌∷◌, ◌++◌}
+use Prim.Native.Nat.{ℕ, zero, suc, ◌+◌, ◌-◌, ◌*◌, ◌≤◌}
 use native.Mathlib.Omega.{arith}
 use borrow.Author.Tests.{eq-eqb, eqb-true}
 use lib.Dec.{eqb, ltb}
 use lib.ListN.{length, get_or, take, drop, length-append, length-map, length-drop}
 use Rattle.diag.proofs.Cases.{by_test_lem}
-use Rattle.chars.specs.Utf8.{decode, size, sizes, valid_up_to}
+use Rattle.chars.specs.Utf8.{decode, sizes, valid_up_to}
 use Rattle.chars.proofs.Theorems.{valid_le}
 use Rattle.chars.proofs.Encoding.{size-range}
 use Rattle.lexer.specs.Places.{rest}
@@ -18,9 +18,9 @@ use Rattle.parser.specs.Views.{is_symbol}
 use Rattle.language.specs.Infer.{member}
 use Rattle.language.proofs.Every.{Every, or_left, or_right, or_else}
 use Rattle.assembler.specs.Entries.{Entry, entries}
-use Rattle.assembler.specs.Rows.{rows}
 use Rattle.sheet.specs.Rules.{resolve}
 use Rattle.alphabet.specs.declared.glyphs.Walk.{Walk}
+use Rattle.alphabet.specs.declared.glyphs.Walk.TheVariants.{Outside, Open, Behind}
 use Rattle.alphabet.specs.Codes.{noted, noted_all}
 use Rattle.alphabet.specs.Symbols.{range, symbols, line_range, symbols_in, takes, walked, firsts, outside, others, further, rule_symbols, rules_symbols, codes_of}
 use Rattle.alphabet.specs.Input.{ends_at, escape_code, escape_of, spelled_as, escapes_next, spelled, input_of}
@@ -112,11 +112,9 @@ module _ (b : ℕ) (u : List ℕ) where
 
   takes-symbol : (s : Walk) (t : Token) → takes s t ≡ true → is_symbol t ≡ true
   unfolding takes
-  takes-symbol s t e = go s.skip e
-    where
-      go : (x : Bool) → cond x false (is_symbol t) ≡ true → is_symbol t ≡ true
-      go true h = absurd (false≢true h)
-      go false h = h
+  takes-symbol Outside t e = e
+  takes-symbol Open t e = e
+  takes-symbol Behind t e = absurd (false≢true e)
 
   firsts-held : (s : Walk) (ts : List Token) → Every Held ts → Every Of (firsts s ts)
   unfolding firsts

@@ -1,31 +1,30 @@
 -- The input's value that is read from the text is the language's: the characters behind a string's quote, up to its end, give the token's value.
-use mathlib.Core.Path.{◌≡◌, refl, sym, ap, ap₂, subst, ◌∙◌}
-use mathlib.Core.Bool.{Bool, true, false, cond, not, ◌&&◌}
-use mathlib.Core.List.{List, [], ◌∷◌, ◌++◌}
+use mathlib.Core.Path.{◌≡◌, refl, sym, ap, subst, ◌∙◌}
+use mathlib.Core.Bool.{Bool, true, false, not, ◌&&◌}
+use mathlib.Core.List.{List, [], ◌∷◌}
 use mathlib.Core.Option.{Option, none, some}
-use Prim.Native.Nat.{ℕ, zero, suc, ◌+◌, ◌-◌, ◌≤◌, ◌<◌, min}
+use Prim.Native.Nat.{ℕ, zero, suc, ◌+◌, ◌-◌, min}
 use native.Mathlib.Omega.{arith}
 use borrow.Author.Tests.{eqb-true, eqb-false}
-use lib.Dec.{eqb, ltb}
-use lib.ListN.{length, get_or, take, drop}
+use lib.Dec.{eqb}
+use lib.ListN.{length, take, drop}
 use Rattle.diag.proofs.Cases.{by_test_lem}
 use Rattle.chars.specs.declared.Class.{Class}
 use Rattle.chars.specs.declared.Class.TheVariants.{Space, Letter, Digit, Sign, Other}
 use Rattle.chars.specs.Class.{class_of}
 use Rattle.chars.specs.Utf8.{decode, size, sizes}
 use Rattle.chars.proofs.Laws.{points_next}
-use Rattle.lexer.specs.declared.Span.{Span as Place}
-use Rattle.lexer.specs.Tokens.{TokenKind, word, number, quoted, str, sign, comment, newline, unterminated_string, unterminated_quote, Token as Lexed, span, line, trim_end, Inside, closed, unclosed, inside, Step, gap, tok, step, word_step, number_step, string_step, quoted_step, comment_step, slash_step, other_step, emit, token_at, tokens_from, tokens}
+use Rattle.diag.specs.declared.Span.{Span as Place}
+use Rattle.lexer.specs.Tokens.{TokenKind, word, number, quoted, str, sign, comment, newline, unterminated_string, unterminated_quote, Token as Lexed, line, trim_end, Inside, closed, unclosed, inside, Step, gap, tok, step, word_step, number_step, string_step, quoted_step, comment_step, slash_step, other_step, emit, tokens_from, tokens}
 use Rattle.lexer.specs.Places.{rest}
-use Rattle.lexer.specs.Words.{kind_number, word_value, value, token_value}
+use Rattle.lexer.specs.Words.{word_value, value, token_value}
 use Rattle.lexer.proofs.Pieces.{by_class, step_class}
-use Rattle.lexer.proofs.Placed.{Placed}
 use Rattle.tokens.specs.declared.Token.{Token}
 use Rattle.parser.specs.Row.{peek}
 use Rattle.parser.specs.Meaning.{token_of}
 use Rattle.language.specs.Machine.{Located}
 use Rattle.language.specs.Content.{value_or}
-use Rattle.language.specs.Lines.{Text, Item, machine_item, input_item, kind_item, output_item, tapes_item, states_item, final_item, input_alphabet_item, tape_alphabet_item, blank_item, start_item, transition_item, Line, blank_line, comment_line, item_line, error_line, state_in, symbol_in, string_in, Ending, line_feed, goes_by, remark, ending_of, lines, covering, read_lines}
+use Rattle.language.specs.Lines.{Text, Item, machine_item, input_item, kind_item, output_item, tapes_item, states_item, final_item, input_alphabet_item, tape_alphabet_item, blank_item, start_item, transition_item, Line, blank_line, comment_line, item_line, error_line, state_in, symbol_in, string_in, Ending, line_feed, goes_by, remark, ending_of, covering, read_lines}
 use Rattle.language.specs.Assembly as A
 use Rattle.language.specs.Infer as I
 use Rattle.language.proofs.Every.{Every, Maybe}

@@ -1,35 +1,30 @@
 -- Names by their marks: what the walk over names adds to the sheet are the language's states, each marked as final or not.
-use mathlib.Core.Path.{◌≡◌, refl, sym, ap, ap₂, subst, ◌∙◌, fun_ext}
+use mathlib.Core.Path.{◌≡◌, refl, sym, ap, ap₂, subst, ◌∙◌}
 use mathlib.Core.Bool.{Bool, true, false, cond, ◌||◌, ◌&&◌, not, false≢true}
 use mathlib.Core.List.{List, [], ◌∷◌, ◌++◌, append-nil, append_assoc}
-use Prim.Native.Nat.{ℕ, zero, suc, ◌+◌, ◌-◌, ◌*◌, ◌≤◌, ◌<◌, ◌^◌}
+use Prim.Native.Nat.{ℕ, zero, suc, ◌+◌, ◌*◌, ◌≤◌, ◌<◌}
 use native.Mathlib.Omega.{arith}
 use native.Mathlib.Decide.{dec_lt}
-use borrow.Author.Tests.{lt-ltb, le-ltb, eqb-true}
-use lib.Dec.{eqb, ltb}
-use lib.ListN.{length, get_or, take, drop, set, replicate, get_or-append, get_or-replicate, length-replicate, get_or-eq_default}
-use lib.Seq.{get_or-append-add, length-take-le}
+use borrow.Author.Tests.{lt-ltb, le-ltb}
+use lib.Dec.{eqb}
+use lib.ListN.{length, get_or, drop, set, replicate, get_or-append, get_or-replicate, length-replicate, length-set, length-append, get_or-eq_default}
+use lib.Seq.{get_or-set_same, get_or-set_other}
 use Rattle.diag.proofs.Cases.{by_test_lem}
 use Rattle.diag.specs.declared.Span.{Span}
-use Rattle.lexer.specs.declared.Span.{Span as Place}
 use Rattle.lexer.specs.Text.{same}
 use Rattle.tokens.specs.declared.Token.{Token}
 use Rattle.parser.specs.Row.{peek, ended}
 use Rattle.parser.specs.Views.{is_state}
-use Rattle.language.specs.Machine.{Located, State}
+use Rattle.language.specs.Machine.{Located}
 use Rattle.language.specs.Infer as I
 use Rattle.language.specs.Layout as L
-use Rattle.assembler.specs.Rows.{rows, place_of}
 use Rattle.assembler.specs.Names.{same_name, is_word, first_equal}
-use Rattle.assembler.specs.Finals.{name_at, names_from, names_of, Interned, Laid}
-use Rattle.assembler.specs.Records.{place_in}
-use Rattle.assembler.proofs.Rows.{length-rows}
-use Rattle.assembler.proofs.MarkLaws.{part_of, name-part, part-name, first_low, marks_set}
+use Rattle.equal_names.specs.Names.{FirstsOf}
+use Rattle.equal_names.proofs.NameLaws.{part_of, name-part, part-name, first_low, first_part, first-same}
+use Rattle.assembler.specs.Finals.{name_at, names_from, names_of}
 use Rattle.assembler.proofs.FinalsMean.{NameIs, name-place, names_same, AllNames, no_names, one_name}
-use Rattle.infer.specs.Page.{Kept, indices_from, indices_in}
-use Rattle.infer.specs.States.{mark_at, Scratch, unmarked, list_final, list_finals, name_words, name_adds, name_marks, names_add, finals}
-use Rattle.infer.proofs.Pages.{kept_at, kept-rows, kept_set, kept_on, kept_refl}
-use Rattle.infer.proofs.NameLaws.{unmarked-kept}
+use Rattle.infer.specs.Page.{indices_from, indices_in}
+use Rattle.infer.specs.States.{mark_of, unmarked, list_final, list_finals, name_words, name_adds, name_marks, names_add, finals}
 
 -- ---- states among indices
 -- a state is a word
@@ -116,57 +111,57 @@ module _ (ts : List Token) where
   line-names f = from_names (drop (suc f) ts) (suc f) refl
 
 -- ---- one name
-module _ (size : ℕ) (ts : List Token) (w : List ℕ) (x : ℕ) where
+module _ (firsts : List ℕ) (ts : List Token) (ms : List ℕ) (x : ℕ) where
   abbrev mark : ℕ
-  mark = get_or w (mark_at size w x) 0
+  mark = mark_of firsts ms x
 
   module _ (repeats : Bool) where
-    adds_no : is_state (peek ts x) ≡ false → name_adds size ts repeats w x ≡ []
+    adds_no : is_state (peek ts x) ≡ false → name_adds firsts ts repeats ms x ≡ []
     unfolding name_adds
     adds_no e = rw e
 
-    adds_new : (m : ℕ) → is_state (peek ts x) ≡ true → mark ≡ m → m < 2 → name_adds size ts repeats w x ≡ name_words (peek ts x) m
+    adds_new : (m : ℕ) → is_state (peek ts x) ≡ true → mark ≡ m → m < 2 → name_adds firsts ts repeats ms x ≡ name_words (peek ts x) m
     unfolding name_adds
     adds_new m e f h = rw (e, f, lt-ltb m 2 h)
 
-    adds_again : is_state (peek ts x) ≡ true → 2 ≤ mark → name_adds size ts repeats w x ≡ cond repeats (name_words (peek ts x) 0) []
+    adds_again : is_state (peek ts x) ≡ true → 2 ≤ mark → name_adds firsts ts repeats ms x ≡ cond repeats (name_words (peek ts x) 0) []
     unfolding name_adds
     adds_again e h = rw (e, le-ltb mark 2 h)
 
-  marks_no : is_state (peek ts x) ≡ false → name_marks size ts w x ≡ w
+  marks_no : is_state (peek ts x) ≡ false → name_marks firsts ts ms x ≡ ms
   unfolding name_marks
   marks_no e = rw e
 
-  marks_new : (m : ℕ) → is_state (peek ts x) ≡ true → mark ≡ m → m < 2 → name_marks size ts w x ≡ set w (mark_at size w x) (m + 2)
+  marks_new : (m : ℕ) → is_state (peek ts x) ≡ true → mark ≡ m → m < 2 → name_marks firsts ts ms x ≡ set ms (get_or firsts x 0) (m + 2)
   unfolding name_marks
   marks_new m e f h = rw (e, f, lt-ltb m 2 h)
 
-  marks_again : is_state (peek ts x) ≡ true → 2 ≤ mark → name_marks size ts w x ≡ w
+  marks_again : is_state (peek ts x) ≡ true → 2 ≤ mark → name_marks firsts ts ms x ≡ ms
   unfolding name_marks
   marks_again e h = rw (e, le-ltb mark 2 h)
 
-  list_no : is_state (peek ts x) ≡ false → list_final size ts w x ≡ w
+  list_no : is_state (peek ts x) ≡ false → list_final firsts ts ms x ≡ ms
   unfolding list_final
   list_no e = rw e
 
-  list_yes : is_state (peek ts x) ≡ true → list_final size ts w x ≡ set w (mark_at size w x) 1
+  list_yes : is_state (peek ts x) ≡ true → list_final firsts ts ms x ≡ set ms (get_or firsts x 0) 1
   unfolding list_final
   list_yes e = rw e
 
 -- other tokens add nothing
-pub adds_states : (size : ℕ) (ts : List Token) (repeats : Bool) (w xs : List ℕ) → names_add size ts repeats w xs ≡ names_add size ts repeats w (states_of ts xs)
+pub adds_states : (firsts : List ℕ) (ts : List Token) (repeats : Bool) (ms xs : List ℕ) → names_add firsts ts repeats ms xs ≡ names_add firsts ts repeats ms (states_of ts xs)
 unfolding names_add states_of
-adds_states size ts repeats w [] = refl
-adds_states size ts repeats w (x ∷ xs) = by_test_lem (is_state (peek ts x))
-    (λ y. ap (λ (l : List ℕ). name_adds size ts repeats w x ++ l) (adds_states size ts repeats (name_marks size ts w x) xs) ∙ ap (names_add size ts repeats w) (sym (states_yes ts x xs y)))
-    (λ n. ap₂ (λ (l v : List ℕ). l ++ names_add size ts repeats v xs) (adds_no size ts w x repeats n) (marks_no size ts w x n) ∙ adds_states size ts repeats w xs ∙ ap (names_add size ts repeats w) (sym (states_no ts x xs n)))
+adds_states firsts ts repeats ms [] = refl
+adds_states firsts ts repeats ms (x ∷ xs) = by_test_lem (is_state (peek ts x))
+    (λ y. ap (λ (l : List ℕ). name_adds firsts ts repeats ms x ++ l) (adds_states firsts ts repeats (name_marks firsts ts ms x) xs) ∙ ap (names_add firsts ts repeats ms) (sym (states_yes ts x xs y)))
+    (λ n. ap₂ (λ (l v : List ℕ). l ++ names_add firsts ts repeats v xs) (adds_no firsts ts ms x repeats n) (marks_no firsts ts ms x n) ∙ adds_states firsts ts repeats ms xs ∙ ap (names_add firsts ts repeats ms) (sym (states_no ts x xs n)))
 
-pub lists_states : (size : ℕ) (ts : List Token) (w xs : List ℕ) → list_finals size ts w xs ≡ list_finals size ts w (states_of ts xs)
+pub lists_states : (firsts : List ℕ) (ts : List Token) (ms xs : List ℕ) → list_finals firsts ts ms xs ≡ list_finals firsts ts ms (states_of ts xs)
 unfolding list_finals states_of
-lists_states size ts w [] = refl
-lists_states size ts w (x ∷ xs) = by_test_lem (is_state (peek ts x))
-    (λ y. lists_states size ts (list_final size ts w x) xs ∙ ap (list_finals size ts w) (sym (states_yes ts x xs y)))
-    (λ n. ap (λ (v : List ℕ). list_finals size ts v xs) (list_no size ts w x n) ∙ lists_states size ts w xs ∙ ap (list_finals size ts w) (sym (states_no ts x xs n)))
+lists_states firsts ts ms [] = refl
+lists_states firsts ts ms (x ∷ xs) = by_test_lem (is_state (peek ts x))
+    (λ y. lists_states firsts ts (list_final firsts ts ms x) xs ∙ ap (list_finals firsts ts ms) (sym (states_yes ts x xs y)))
+    (λ n. ap (λ (v : List ℕ). list_finals firsts ts v xs) (list_no firsts ts ms x n) ∙ lists_states firsts ts ms xs ∙ ap (list_finals firsts ts ms) (sym (states_no ts x xs n)))
 
 -- ---- marks
 module _ (text : List ℕ) (ts : List Token) where
@@ -191,7 +186,7 @@ module _ (text : List ℕ) (ts : List Token) where
       turn false false c = refl
 
   -- names of the row are the language's
-  among_mean : (js : List ℕ) (ls : List (Located Place (List ℕ))) (x : ℕ) (l : Located Place (List ℕ)) → AllNames text ts js ls → NameIs text (peek ts x) l → among js x ≡ I.member I.same_name ls l
+  among_mean : (js : List ℕ) (ls : List (Located Span (List ℕ))) (x : ℕ) (l : Located Span (List ℕ)) → AllNames text ts js ls → NameIs text (peek ts x) l → among js x ≡ I.member I.same_name ls l
   unfolding I.member
   among_mean [] [] x l no_names n = refl
   among_mean [] (m ∷ ls) x l a n = elim a [ ]
@@ -202,38 +197,35 @@ module _ (text : List ℕ) (ts : List Token) where
   abbrev marking : List ℕ → List ℕ → ℕ → ℕ
   marking fs seen x = L.flag (among fs x) + 2 * L.flag (among seen x)
 
-  pub record Marked (size count : ℕ) (w fs seen : List ℕ) : Type 0 where
-    pub row : rows count w ≡ ts
-    pub laid : Laid count (4 * size) (5 * size) w
-    pub names : Interned text ts (4 * size) w
-    pub marks : (x : ℕ) → x < length ts → is_word (peek ts x) ≡ true → get_or w (mark_at size w x) 0 ≡ marking fs seen x
+  pub record Marked (firsts ms fs seen : List ℕ) : Type 0 where
+    pub names : FirstsOf text ts (length ts) firsts
+    pub room : length ts ≤ length ms
+    pub marks : (x : ℕ) → x < length ts → is_word (peek ts x) ≡ true → mark_of firsts ms x ≡ marking fs seen x
 
-  module _ (size count : ℕ) (w fs seen : List ℕ) (m : Marked size count w fs seen) where
-    many : length ts ≡ count
-    many = ap length (sym m.row) ∙ length-rows count w (omega (arith, m.laid.tokens, m.laid.words, m.laid.marks))
-
-    -- the rows below the marks as they were
-    kept-marked : (v : List ℕ) → Kept (5 * size) w v → (fs' seen' : List ℕ) → ((x : ℕ) → x < length ts → is_word (peek ts x) ≡ true → get_or v (mark_at size v x) 0 ≡ marking fs' seen' x) → Marked size count v fs' seen'
-    kept-marked v k fs' seen' marks = record {
-      row = kept-rows count (5 * size) w v k (omega (arith, m.laid.tokens, m.laid.words)) (omega (arith, m.laid.marks)) ∙ m.row;
-      laid = record { tokens = m.laid.tokens; words = m.laid.words; marks = omega (arith, m.laid.marks, k.size); few = m.laid.few };
-      names = record { interned = λ x h e. kept_at (5 * size) w v (4 * size + x) k (omega (arith, many, m.laid.words)) ∙ m.names.interned x h e };
-      marks = marks;
-    }
-
+  module _ (firsts ms fs seen : List ℕ) (m : Marked firsts ms fs seen) where
     -- a mark set
-    abbrev Sets : List Token → Type 0
-    Sets ts = Interned text ts (4 * size) w → (i : ℕ) → i < count → is_word (peek ts i) ≡ true → (k : ℕ) (old new : ℕ → ℕ)
-        → ((x : ℕ) → x < length ts → is_word (peek ts x) ≡ true → get_or w (mark_at size w x) 0 ≡ old x)
-        → ((x : ℕ) → part_of text (peek ts i) ≡ part_of text (peek ts x) → new x ≡ k) → ((x : ℕ) → same_name text (peek ts i) (peek ts x) ≡ false → new x ≡ old x)
-        → (x : ℕ) → x < length ts → is_word (peek ts x) ≡ true → get_or (set w (mark_at size w i) k) (mark_at size (set w (mark_at size w i) k) x) 0 ≡ new x
+    sets : (i : ℕ) → i < length ts → is_word (peek ts i) ≡ true → (k : ℕ) (new : ℕ → ℕ)
+        → ((x : ℕ) → part_of text (peek ts i) ≡ part_of text (peek ts x) → new x ≡ k) → ((x : ℕ) → same_name text (peek ts i) (peek ts x) ≡ false → new x ≡ marking fs seen x)
+        → (x : ℕ) → x < length ts → is_word (peek ts x) ≡ true → mark_of firsts (set ms (get_or firsts i 0) k) x ≡ new x
+    sets i low word k new equal other x h e =
+        let here : get_or firsts i 0 ≡ first_equal text (peek ts i) 0 ts = m.names.first i low word in
+        let at : get_or firsts x 0 ≡ first_equal text (peek ts x) 0 ts = m.names.first x h e in
+        by_test_lem (same_name text (peek ts i) (peek ts x))
+        (λ s.
+        let p : part_of text (peek ts i) ≡ part_of text (peek ts x) = name-part text (peek ts i) (peek ts x) s in
+        let one : get_or firsts x 0 ≡ get_or firsts i 0 = at ∙ sym (here ∙ first-same text (peek ts i) (peek ts x) 0 ts p) in
+        ap (λ (j : ℕ). get_or (set ms (get_or firsts i 0) k) j 0) one ∙ get_or-set_same ms (get_or firsts i 0) k 0 (omega (arith, here, first_low text ts i low word, m.room)) ∙ sym (equal x p))
+        (λ s.
+        let apart : get_or firsts x 0 ≡ get_or firsts i 0 → ⊥ = λ z.
+        let p : part_of text (peek ts i) ≡ part_of text (peek ts x) = sym (first_part text ts i low word) ∙ ap (λ (k : ℕ). part_of text (peek ts k)) (sym here ∙ sym z ∙ at) ∙ first_part text ts x h e in
+        let o : ◌≡◌ {A = ℕ} 0 1 = (let t = part-name text (peek ts i) (peek ts x) p in cc) in omega arith in
+        get_or-set_other ms (get_or firsts i 0) (get_or firsts x 0) k 0 apart ∙ m.marks x h e ∙ sym (other x s))
 
-    sets_row : Sets (rows count w)
-    sets_row names i low word k old new was equal other x h e =
-        marks_set text count (4 * size) (5 * size) w m.laid names i low word k (set w (mark_at size w i) k) refl old new was equal other x h e
-
-    sets : Sets ts
-    sets = subst Sets m.row sets_row
+    set_marked : (i : ℕ) → i < length ts → is_word (peek ts i) ≡ true → (k : ℕ) (fs' seen' : List ℕ)
+        → ((x : ℕ) → part_of text (peek ts i) ≡ part_of text (peek ts x) → marking fs' seen' x ≡ k) → ((x : ℕ) → same_name text (peek ts i) (peek ts x) ≡ false → marking fs' seen' x ≡ marking fs seen x)
+        → Marked firsts (set ms (get_or firsts i 0) k) fs' seen'
+    set_marked i low word k fs' seen' equal other =
+        record { names = m.names; room = omega (arith, m.room, length-set ms (get_or firsts i 0) k); marks = sets i low word k (marking fs' seen') equal other }
 
     module _ (i : ℕ) (state : is_state (peek ts i) ≡ true) where
       low : i < length ts
@@ -242,42 +234,39 @@ module _ (text : List ℕ) (ts : List Token) where
       word : is_word (peek ts i) ≡ true
       word = state-word (peek ts i) state
 
-      mark_is : get_or w (mark_at size w i) 0 ≡ marking fs seen i
+      mark_is : mark_of firsts ms i ≡ marking fs seen i
       mark_is = m.marks i low word
 
       same_part : (x : ℕ) → part_of text (peek ts i) ≡ part_of text (peek ts x) → same_name text (peek ts i) (peek ts x) ≡ true
       same_part x p = part-name text (peek ts i) (peek ts x) p
 
       -- a name met for the first time
-      marked_new : among seen i ≡ false → (k : ℕ) → k ≡ L.flag (among fs i) → Marked size count (set w (mark_at size w i) (k + 2)) fs (i ∷ seen)
+      marked_new : among seen i ≡ false → (k : ℕ) → k ≡ L.flag (among fs i) → Marked firsts (set ms (get_or firsts i 0) (k + 2)) fs (i ∷ seen)
       unfolding I.member
-      marked_new new k e = kept-marked (set w (mark_at size w i) (k + 2)) (kept_set (5 * size) w (mark_at size w i) (k + 2) (omega arith)) fs (i ∷ seen)
-          (sets m.names i (omega (arith, low, many)) word (k + 2) (marking fs seen) (marking fs (i ∷ seen)) (λ x h g. m.marks x h g)
+      marked_new new k e = set_marked i low word (k + 2) fs (i ∷ seen)
           (λ x p. ap₂ (λ (a b : Bool). L.flag a + 2 * L.flag b) (among_same fs x i (sym p)) (ap (λ (b : Bool). b || among seen x) (same_part x p)) ∙ ap (λ (n : ℕ). n + 2) (sym e))
-          (λ x s. ap (λ (b : Bool). L.flag (among fs x) + 2 * L.flag (b || among seen x)) s))
+          (λ x s. ap (λ (b : Bool). L.flag (among fs x) + 2 * L.flag (b || among seen x)) s)
 
       -- a name met before
-      marked_again : among seen i ≡ true → Marked size count w fs (i ∷ seen)
+      marked_again : among seen i ≡ true → Marked firsts ms fs (i ∷ seen)
       unfolding I.member
       marked_again old = record {
-        row = m.row;
-        laid = m.laid;
         names = m.names;
+        room = m.room;
         marks = λ x h g. m.marks x h g ∙ ap (λ (b : Bool). L.flag (among fs x) + 2 * L.flag b) (by_test_lem (same_name text (peek ts i) (peek ts x))
             (λ y. among_same seen x i (sym (name-part text (peek ts i) (peek ts x) y)) ∙ old ∙ ap (λ (b : Bool). b || among seen x) (sym y))
             (λ n. ap (λ (b : Bool). b || among seen x) (sym n)));
       }
 
       -- a name that F lists
-      marked-final : ((x : ℕ) → among seen x ≡ false) → Marked size count (set w (mark_at size w i) 1) (fs ++ i ∷ []) seen
-      marked-final none = kept-marked (set w (mark_at size w i) 1) (kept_set (5 * size) w (mark_at size w i) 1 (omega arith)) (fs ++ i ∷ []) seen
-          (sets m.names i (omega (arith, low, many)) word 1 (marking fs seen) (marking (fs ++ i ∷ []) seen) (λ x h g. m.marks x h g)
+      marked-final : ((x : ℕ) → among seen x ≡ false) → Marked firsts (set ms (get_or firsts i 0) 1) (fs ++ i ∷ []) seen
+      marked-final none = set_marked i low word 1 (fs ++ i ∷ []) seen
           (λ x p. ap₂ (λ (a b : Bool). L.flag a + 2 * L.flag b) (among_last fs i x ∙ ap (λ (b : Bool). b || among fs x) (same_part x p)) (none x))
-          (λ x s. ap (λ (b : Bool). L.flag b + 2 * L.flag (among seen x)) (among_last fs i x ∙ ap (λ (b : Bool). b || among fs x) s)))
+          (λ x s. ap (λ (b : Bool). L.flag b + 2 * L.flag (among seen x)) (among_last fs i x ∙ ap (λ (b : Bool). b || among fs x) s))
 
 -- ---- the words of states
 -- a state of the language, in words
-state_words_lem : (text : List ℕ) (t : Token) (l : Located Place (List ℕ)) (f : Bool) → NameIs text t l → name_words t (L.flag f) ≡ L.state_words (record { name = l; final = f })
+state_words_lem : (text : List ℕ) (t : Token) (l : Located Span (List ℕ)) (f : Bool) → NameIs text t l → name_words t (L.flag f) ≡ L.state_words (record { name = l; final = f })
 unfolding L.state_words
 state_words_lem text t l f n =
     ap₂ (λ (a b : ℕ). a ∷ b ∷ L.flag f ∷ []) (ap (λ (p : Span). p.start) (name-place text t l n)) (ap (λ (p : Span). p.end) (name-place text t l n))
@@ -292,137 +281,123 @@ is_known true true e = refl
 is_known false b e = refl
 is_known true false e = absurd (false≢true e)
 
-module _ (text : List ℕ) (ts : List Token) (size count : ℕ) (fs : List ℕ) (F : List (Located Place (List ℕ))) (finals_are : AllNames text ts fs F) where
+module _ (text : List ℕ) (ts : List Token) (firsts fs : List ℕ) (F : List (Located Span (List ℕ))) (finals_are : AllNames text ts fs F) where
   abbrev Names : Type 0
-  Names = List (Located Place (List ℕ))
+  Names = List (Located Span (List ℕ))
 
-  abbrev is_final : Located Place (List ℕ) → Bool
+  abbrev is_final : Located Span (List ℕ) → Bool
   is_final = I.member I.same_name F
 
-  abbrev seen_in : Names → Located Place (List ℕ) → Bool
+  abbrev seen_in : Names → Located Span (List ℕ) → Bool
   seen_in S = I.member I.same_name S
 
-  fresh_there : (S : Names) (l : Located Place (List ℕ)) (ls : Names) → seen_in S l ≡ true → I.fresh I.same_name (seen_in S) (l ∷ ls) ≡ I.fresh I.same_name (seen_in S) ls
+  fresh_there : (S : Names) (l : Located Span (List ℕ)) (ls : Names) → seen_in S l ≡ true → I.fresh I.same_name (seen_in S) (l ∷ ls) ≡ I.fresh I.same_name (seen_in S) ls
   unfolding I.fresh
   fresh_there S l ls e = rw (e, I.fresh)
 
-  fresh_new : (S : Names) (l : Located Place (List ℕ)) (ls : Names) → seen_in S l ≡ false → I.fresh I.same_name (seen_in S) (l ∷ ls) ≡ l ∷ I.fresh I.same_name (seen_in (l ∷ S)) ls
+  fresh_new : (S : Names) (l : Located Span (List ℕ)) (ls : Names) → seen_in S l ≡ false → I.fresh I.same_name (seen_in S) (l ∷ ls) ≡ l ∷ I.fresh I.same_name (seen_in (l ∷ S)) ls
   unfolding I.fresh I.member
   fresh_new S l ls e = rw (e, I.fresh)
 
-  marked-on : (S : Names) (l : Located Place (List ℕ)) (ls : Names) (f : Bool) → (is_final l && not (seen_in S l)) ≡ f
+  marked-on : (S : Names) (l : Located Span (List ℕ)) (ls : Names) (f : Bool) → (is_final l && not (seen_in S l)) ≡ f
       → L.flat L.state_words (I.marked is_final (seen_in S) (l ∷ ls)) ≡ L.state_words (record { name = l; final = f }) ++ L.flat L.state_words (I.marked is_final (seen_in (l ∷ S)) ls)
   unfolding I.marked L.flat I.member
   marked-on S l ls f e = ap (λ (b : Bool). L.state_words (record { name = l; final = b }) ++ L.flat L.state_words (I.marked is_final (λ y. I.same_name l y || seen_in S y) ls)) e
 
   -- what one name adds
-  module _ (w seen : List ℕ) (S : Names) (m : Marked text ts size count w fs seen) (seen_are : AllNames text ts seen S) (x : ℕ) (l : Located Place (List ℕ)) (state : is_state (peek ts x) ≡ true) (name : NameIs text (peek ts x) l) where
+  module _ (ms seen : List ℕ) (S : Names) (m : Marked text ts firsts ms fs seen) (seen_are : AllNames text ts seen S) (x : ℕ) (l : Located Span (List ℕ)) (state : is_state (peek ts x) ≡ true) (name : NameIs text (peek ts x) l) where
     seen_is : among text ts seen x ≡ seen_in S l
     seen_is = among_mean text ts seen S x l seen_are name
 
     final_is : among text ts fs x ≡ is_final l
     final_is = among_mean text ts fs F x l finals_are name
 
-    low_mark : seen_in S l ≡ false → mark size ts w x ≡ L.flag (is_final l)
-    low_mark e = mark_is text ts size count w fs seen m x state ∙ ap₂ (λ (a b : Bool). L.flag a + 2 * L.flag b) final_is (seen_is ∙ e) ∙ plain (is_final l)
+    low_mark : seen_in S l ≡ false → mark firsts ts ms x ≡ L.flag (is_final l)
+    low_mark e = mark_is text ts firsts ms fs seen m x state ∙ ap₂ (λ (a b : Bool). L.flag a + 2 * L.flag b) final_is (seen_is ∙ e) ∙ plain (is_final l)
       where
         plain : (a : Bool) → L.flag a + 2 * 0 ≡ L.flag a
         plain true = refl
         plain false = refl
 
-    high_mark : seen_in S l ≡ true → 2 ≤ mark size ts w x
-    high_mark e = omega (arith, mark_is text ts size count w fs seen m x state ∙ ap (λ (b : Bool). L.flag (among text ts fs x) + 2 * L.flag b) (seen_is ∙ e))
+    high_mark : seen_in S l ≡ true → 2 ≤ mark firsts ts ms x
+    high_mark e = omega (arith, mark_is text ts firsts ms fs seen m x state ∙ ap (λ (b : Bool). L.flag (among text ts fs x) + 2 * L.flag b) (seen_is ∙ e))
 
     flag_low : (b : Bool) → L.flag b < 2
     flag_low true = omega arith
     flag_low false = omega arith
 
-    new_words : (repeats : Bool) → seen_in S l ≡ false → name_adds size ts repeats w x ≡ L.state_words (record { name = l; final = is_final l })
-    new_words repeats e = adds_new size ts w x repeats (L.flag (is_final l)) state (low_mark e) (flag_low (is_final l)) ∙ state_words_lem text (peek ts x) l (is_final l) name
+    new_words : (repeats : Bool) → seen_in S l ≡ false → name_adds firsts ts repeats ms x ≡ L.state_words (record { name = l; final = is_final l })
+    new_words repeats e = adds_new firsts ts ms x repeats (L.flag (is_final l)) state (low_mark e) (flag_low (is_final l)) ∙ state_words_lem text (peek ts x) l (is_final l) name
 
-    new_marks : seen_in S l ≡ false → Marked text ts size count (name_marks size ts w x) fs (x ∷ seen)
-    new_marks e = subst (λ (v : List ℕ). Marked text ts size count v fs (x ∷ seen)) (sym (marks_new size ts w x (L.flag (is_final l)) state (low_mark e) (flag_low (is_final l))))
-        (marked_new text ts size count w fs seen m x state (seen_is ∙ e) (L.flag (is_final l)) (ap (λ (b : Bool). L.flag b) (sym final_is)))
+    new_marks : seen_in S l ≡ false → Marked text ts firsts (name_marks firsts ts ms x) fs (x ∷ seen)
+    new_marks e = subst (λ (v : List ℕ). Marked text ts firsts v fs (x ∷ seen)) (sym (marks_new firsts ts ms x (L.flag (is_final l)) state (low_mark e) (flag_low (is_final l))))
+        (marked_new text ts firsts ms fs seen m x state (seen_is ∙ e) (L.flag (is_final l)) (ap (λ (b : Bool). L.flag b) (sym final_is)))
 
-    old_marks : seen_in S l ≡ true → name_marks size ts w x ≡ w
-    old_marks e = marks_again size ts w x state (high_mark e)
+    old_marks : seen_in S l ≡ true → name_marks firsts ts ms x ≡ ms
+    old_marks e = marks_again firsts ts ms x state (high_mark e)
 
   -- each name once
-  pub once_mean : (xs seen : List ℕ) (ls S : Names) (w : List ℕ) → AllStates ts xs → AllNames text ts xs ls → AllNames text ts seen S → Marked text ts size count w fs seen
-      → names_add size ts false w xs ≡ L.flat L.state_words (I.marked is_final (seen_in S) (I.fresh I.same_name (seen_in S) ls))
+  pub once_mean : (xs seen : List ℕ) (ls S : Names) (ms : List ℕ) → AllStates ts xs → AllNames text ts xs ls → AllNames text ts seen S → Marked text ts firsts ms fs seen
+      → names_add firsts ts false ms xs ≡ L.flat L.state_words (I.marked is_final (seen_in S) (I.fresh I.same_name (seen_in S) ls))
   unfolding names_add I.fresh I.marked L.flat
-  once_mean [] seen [] S w a no_names b m = refl
-  once_mean [] seen (l ∷ ls) S w a n b m = elim n [ ]
-  once_mean (x ∷ xs) seen [] S w a n b m = elim n [ ]
-  once_mean (x ∷ xs) seen (l ∷ ls) S w (one_state s a) (one_name n r) b m = by_test_lem (seen_in S l)
+  once_mean [] seen [] S ms a no_names b m = refl
+  once_mean [] seen (l ∷ ls) S ms a n b m = elim n [ ]
+  once_mean (x ∷ xs) seen [] S ms a n b m = elim n [ ]
+  once_mean (x ∷ xs) seen (l ∷ ls) S ms (one_state s a) (one_name n r) b m = by_test_lem (seen_in S l)
       (λ y.
-      ap₂ (λ (l v : List ℕ). l ++ names_add size ts false v xs) (adds_again size ts w x false s (high_mark w seen S m b x l s n y)) (old_marks w seen S m b x l s n y)
-      ∙ once_mean xs seen ls S w a r b m ∙ ap (λ (q : Names). L.flat L.state_words (I.marked is_final (seen_in S) q)) (sym (fresh_there S l ls y)))
+      ap₂ (λ (l v : List ℕ). l ++ names_add firsts ts false v xs) (adds_again firsts ts ms x false s (high_mark ms seen S m b x l s n y)) (old_marks ms seen S m b x l s n y)
+      ∙ once_mean xs seen ls S ms a r b m ∙ ap (λ (q : Names). L.flat L.state_words (I.marked is_final (seen_in S) q)) (sym (fresh_there S l ls y)))
       (λ z.
-      ap₂ (λ (p q : List ℕ). p ++ q) (new_words w seen S m b x l s n false z) (once_mean xs (x ∷ seen) ls (l ∷ S) (name_marks size ts w x) a r (one_name n b) (new_marks w seen S m b x l s n z))
+      ap₂ (λ (p q : List ℕ). p ++ q) (new_words ms seen S m b x l s n false z) (once_mean xs (x ∷ seen) ls (l ∷ S) (name_marks firsts ts ms x) a r (one_name n b) (new_marks ms seen S m b x l s n z))
       ∙ sym (marked-on S l (I.fresh I.same_name (seen_in (l ∷ S)) ls) (is_final l) (not_known (is_final l) (seen_in S l) z)) ∙ ap (λ (q : Names). L.flat L.state_words (I.marked is_final (seen_in S) q)) (sym (fresh_new S l ls z)))
 
   -- each name as often as Q has it
-  pub each_mean : (xs seen : List ℕ) (ls S : Names) (w : List ℕ) → AllStates ts xs → AllNames text ts xs ls → AllNames text ts seen S → Marked text ts size count w fs seen
-      → names_add size ts true w xs ≡ L.flat L.state_words (I.marked is_final (seen_in S) ls)
+  pub each_mean : (xs seen : List ℕ) (ls S : Names) (ms : List ℕ) → AllStates ts xs → AllNames text ts xs ls → AllNames text ts seen S → Marked text ts firsts ms fs seen
+      → names_add firsts ts true ms xs ≡ L.flat L.state_words (I.marked is_final (seen_in S) ls)
   unfolding names_add I.marked L.flat
-  each_mean [] seen [] S w a no_names b m = refl
-  each_mean [] seen (l ∷ ls) S w a n b m = elim n [ ]
-  each_mean (x ∷ xs) seen [] S w a n b m = elim n [ ]
-  each_mean (x ∷ xs) seen (l ∷ ls) S w (one_state s a) (one_name n r) b m = by_test_lem (seen_in S l)
+  each_mean [] seen [] S ms a no_names b m = refl
+  each_mean [] seen (l ∷ ls) S ms a n b m = elim n [ ]
+  each_mean (x ∷ xs) seen [] S ms a n b m = elim n [ ]
+  each_mean (x ∷ xs) seen (l ∷ ls) S ms (one_state s a) (one_name n r) b m = by_test_lem (seen_in S l)
       (λ y.
-      ap₂ (λ (p v : List ℕ). p ++ names_add size ts true v xs) (adds_again size ts w x true s (high_mark w seen S m b x l s n y) ∙ state_words_lem text (peek ts x) l false n) (old_marks w seen S m b x l s n y)
-      ∙ ap (λ (q : List ℕ). L.state_words (record { name = l; final = false }) ++ q) (each_mean xs (x ∷ seen) ls (l ∷ S) w a r (one_name n b) (marked_again text ts size count w fs seen m x s (seen_is w seen S m b x l s n ∙ y)))
+      ap₂ (λ (p v : List ℕ). p ++ names_add firsts ts true v xs) (adds_again firsts ts ms x true s (high_mark ms seen S m b x l s n y) ∙ state_words_lem text (peek ts x) l false n) (old_marks ms seen S m b x l s n y)
+      ∙ ap (λ (q : List ℕ). L.state_words (record { name = l; final = false }) ++ q) (each_mean xs (x ∷ seen) ls (l ∷ S) ms a r (one_name n b) (marked_again text ts firsts ms fs seen m x s (seen_is ms seen S m b x l s n ∙ y)))
       ∙ sym (marked-on S l ls false (is_known (is_final l) (seen_in S l) y)))
       (λ z.
-      ap₂ (λ (p q : List ℕ). p ++ q) (new_words w seen S m b x l s n true z) (each_mean xs (x ∷ seen) ls (l ∷ S) (name_marks size ts w x) a r (one_name n b) (new_marks w seen S m b x l s n z))
+      ap₂ (λ (p q : List ℕ). p ++ q) (new_words ms seen S m b x l s n true z) (each_mean xs (x ∷ seen) ls (l ∷ S) (name_marks firsts ts ms x) a r (one_name n b) (new_marks ms seen S m b x l s n z))
       ∙ sym (marked-on S l ls (is_final l) (not_known (is_final l) (seen_in S l) z)))
 
 -- ---- the marks of F
-module _ (text : List ℕ) (ts : List Token) (size count : ℕ) where
-  listing : (xs fs w : List ℕ) → AllStates ts xs → Marked text ts size count w fs [] → Marked text ts size count (list_finals size ts w xs) (fs ++ xs) []
+module _ (text : List ℕ) (ts : List Token) (firsts : List ℕ) where
+  listing : (xs fs ms : List ℕ) → AllStates ts xs → Marked text ts firsts ms fs [] → Marked text ts firsts (list_finals firsts ts ms xs) (fs ++ xs) []
   unfolding list_finals I.member
-  listing [] fs w no_states m = subst (λ (l : List ℕ). Marked text ts size count w l []) (sym (append-nil fs)) m
-  listing (x ∷ xs) fs w (one_state s a) m =
-      let one : Marked text ts size count (list_final size ts w x) (fs ++ x ∷ []) [] = subst (λ (v : List ℕ). Marked text ts size count v (fs ++ x ∷ []) []) (sym (list_yes size ts w x s)) (marked-final text ts size count w fs [] m x s (λ y. refl)) in
-      subst (λ (l : List ℕ). Marked text ts size count (list_finals size ts (list_final size ts w x) xs) l []) (append_assoc fs (x ∷ []) xs) (listing xs (fs ++ x ∷ []) (list_final size ts w x) a one)
+  listing [] fs ms no_states m = subst (λ (l : List ℕ). Marked text ts firsts ms l []) (sym (append-nil fs)) m
+  listing (x ∷ xs) fs ms (one_state s a) m =
+      let one : Marked text ts firsts (list_final firsts ts ms x) (fs ++ x ∷ []) [] = subst (λ (v : List ℕ). Marked text ts firsts v (fs ++ x ∷ []) []) (sym (list_yes firsts ts ms x s)) (marked-final text ts firsts ms fs [] m x s (λ y. refl)) in
+      subst (λ (l : List ℕ). Marked text ts firsts (list_finals firsts ts (list_final firsts ts ms x) xs) l []) (append_assoc fs (x ∷ []) xs) (listing xs (fs ++ x ∷ []) (list_final firsts ts ms x) a one)
 
   -- no name is marked
-  module _ (w : List ℕ) (row : rows count w ≡ ts) (names : Interned text ts (4 * size) w) (few : count ≤ size) (room : 6 * size ≤ length w) (short : count < 2 ^ 31) where
-    long : length ts ≡ count
-    long = ap length (sym row) ∙ length-rows count w (omega arith)
-
-    -- the words once the marks are cleared
+  module _ (ms : List ℕ) (names : FirstsOf text ts (length ts) firsts) (room : length ts ≤ length ms) where
+    -- the marks once they are cleared
     abbrev none-marked : List ℕ
-    none-marked = unmarked size (length ts) w
+    none-marked = unmarked (length ts) ms
 
-    unmarked-at : (k : ℕ) → k < length ts → get_or none-marked (5 * size + k) 0 ≡ 0
+    unmarked-at : (k : ℕ) → k < length ts → get_or none-marked k 0 ≡ 0
     unfolding unmarked
-    unmarked-at k h =
-        let m : ℕ = length ts in
-        let n : length (take (5 * size) w) ≡ 5 * size = length-take-le (5 * size) w (omega arith) in
-        ap (λ (j : ℕ). get_or (take (5 * size) w ++ (replicate m 0 ++ drop (5 * size + m) w)) (j + k) 0) (sym n)
-        ∙ get_or-append-add (take (5 * size) w) (replicate m 0 ++ drop (5 * size + m) w) k 0
-        ∙ get_or-append (replicate m 0) (drop (5 * size + m) w) 0 k (omega (arith, length-replicate {A = ℕ} m 0))
-        ∙ get_or-replicate m k 0 0 h
+    unmarked-at k h = get_or-append (replicate (length ts) 0) (drop (length ts) ms) 0 k (omega (arith, length-replicate {A = ℕ} (length ts) 0)) ∙ get_or-replicate (length ts) k 0 0 h
 
-    clear : Marked text ts size count none-marked [] []
-    unfolding I.member
-    clear =
-        let k : Kept (5 * size) w none-marked = unmarked-kept size (length ts) w (omega (arith, long)) in
-        record {
-          row = kept-rows count (5 * size) w none-marked k (omega arith) (omega arith) ∙ row;
-          laid = record { tokens = omega arith; words = omega arith; marks = omega (arith, k.size); few = short };
-          names = record { interned = λ x h e. kept_at (5 * size) w none-marked (4 * size + x) k (omega (arith, long)) ∙ names.interned x h e };
-          marks = λ x h e.
-              let at : get_or none-marked (4 * size + x) 0 ≡ first_equal text (peek ts x) 0 ts = kept_at (5 * size) w none-marked (4 * size + x) k (omega (arith, long)) ∙ names.interned x h e in
-              ap (λ (j : ℕ). get_or none-marked (5 * size + j) 0) at ∙ unmarked-at (first_equal text (peek ts x) 0 ts) (omega (arith, first_low text ts x h e));
-        }
+    clear : Marked text ts firsts none-marked [] []
+    unfolding I.member unmarked
+    clear = record {
+      names = names;
+      room = omega (arith, length-append (replicate (length ts) 0) (drop (length ts) ms), length-replicate {A = ℕ} (length ts) 0);
+      marks = λ x h e. ap (λ (j : ℕ). get_or none-marked j 0) (names.first x h e) ∙ unmarked-at (first_equal text (peek ts x) 0 ts) (first_low text ts x h e);
+    }
 
-    pub finals-marked : (first : List ℕ) → Marked text ts size count (finals size ts first w) (names_of ts (get_or first 10 0)) []
+    pub finals-marked : (first : List ℕ) → Marked text ts firsts (finals firsts ts first ms) (names_of ts (get_or first 10 0)) []
     unfolding finals
     finals-marked first =
         let f : ℕ = get_or first 10 0 in
-        let here : Marked text ts size count (list_finals size ts none-marked (states_of ts (indices_in ts f))) (states_of ts (indices_in ts f)) [] = listing (states_of ts (indices_in ts f)) [] none-marked (all-states ts (indices_in ts f)) clear in
-        subst (λ (l : List ℕ). Marked text ts size count (list_finals size ts none-marked (indices_in ts f)) l []) (line-names ts f)
-        (subst (λ (v : List ℕ). Marked text ts size count v (states_of ts (indices_in ts f)) []) (sym (lists_states size ts none-marked (indices_in ts f))) here)
+        let here : Marked text ts firsts (list_finals firsts ts none-marked (states_of ts (indices_in ts f))) (states_of ts (indices_in ts f)) [] = listing (states_of ts (indices_in ts f)) [] none-marked (all-states ts (indices_in ts f)) clear in
+        subst (λ (l : List ℕ). Marked text ts firsts (list_finals firsts ts none-marked (indices_in ts f)) l []) (line-names ts f)
+        (subst (λ (v : List ℕ). Marked text ts firsts v (states_of ts (indices_in ts f)) []) (sym (lists_states firsts ts none-marked (indices_in ts f))) here)

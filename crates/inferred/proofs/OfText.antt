@@ -7,7 +7,7 @@ use Prim.Native.Nat.{ℕ, ◌+◌, ◌*◌, ◌≤◌, ◌<◌, ◌^◌}
 use native.Mathlib.Omega.{arith}
 use lib.ListN.{length, get_or}
 use Rattle.chars.specs.Utf8.{decode}
-use Rattle.lexer.specs.declared.Span.{Span as Place}
+use Rattle.diag.specs.declared.Span.{Span as Place}
 use Rattle.lexer.specs.Tokens.{tokens}
 use Rattle.tokens.specs.declared.Token.{Token}
 use Rattle.parser.specs.Row.{peek}
@@ -22,7 +22,6 @@ use Rattle.language.proofs.ReadCounts.{read_chosen}
 use Rattle.assembler.specs.Rows.{rows}
 use Rattle.assembler.specs.Entries.{Entry, entries}
 use Rattle.assembler.specs.Feeds.{Fed}
-use Rattle.assembler.specs.Declarations.{undeclared}
 use Rattle.assembler.specs.Finals.{Interned}
 use Rattle.assembler.specs.Assembled.{has_states}
 use Rattle.assembler.proofs.Rows.{length-rows}
@@ -34,7 +33,7 @@ use Rattle.alphabet.specs.Alphabets.{gamma_codes, gamma_words, sigma_words}
 use Rattle.shown.proofs.Shows.{Mentions}
 use Rattle.inferred.proofs.NameMarks.{state-word}
 use Rattle.inferred.proofs.Firsts.{firsts, input_at}
-use Rattle.inferred.proofs.StatesInferred.{Stateless, stateless, finals-inferred, states-inferred, none_stored, none-listed}
+use Rattle.inferred.proofs.StatesInferred.{Stateless, stateless, finals-inferred, section-inferred, none_stored, none-listed}
 use Rattle.inferred.proofs.AlphabetsInferred.{blank_inferred, gamma-inferred, sigma-inferred}
 use Rattle.inferred.proofs.InputInferred.{input_inferred}
 
@@ -74,7 +73,7 @@ module _ (text : List ℕ) (X : Entry → Item Place → Type 0) (ts : List Toke
 
   pub states_of_text : (size count : ℕ) (w : List ℕ) → rows count w ≡ ts → Interned text ts (4 * size) w → count ≤ size → 6 * size ≤ length w → count < 2 ^ 31
       → state_section size ts first w ≡ L.flat L.state_words (I.machine_of ls).states
-  states_of_text size count w row names narrow room short = states-inferred text X ts says few ls all fine chosen size count w row names narrow room short
+  states_of_text size count w row names narrow room short = section-inferred text X ts says few ls all fine chosen size count w row names narrow room
 
   -- where there can be none, nothing is stored, and the machine has none
   module _ (none-there : has_states (length ts) first (length (I.machine_of ls).rules) ≡ false) where

@@ -1,20 +1,20 @@
 -- The symbols of a rule's tokens in the order of first use are those that its rule line uses; a `*` uses what is read.
-use mathlib.Core.Path.{◌≡◌, refl, sym, ap, ap₂, subst, ◌∙◌}
-use mathlib.Core.Bool.{Bool, true, false, cond, ◌||◌, false≢true}
+use mathlib.Core.Path.{◌≡◌, refl, sym, ap, ap₂, ◌∙◌}
+use mathlib.Core.Bool.{Bool, true, false, cond, ◌||◌}
 use mathlib.Core.List.{List, [], ◌∷◌, ◌++◌, map, append-nil, append_assoc}
 use mathlib.Core.Option.{Option, none, some}
-use Prim.Native.Nat.{ℕ, suc, ◌+◌, ◌≤◌, ◌<◌}
+use Prim.Native.Nat.{ℕ, suc, ◌+◌}
 use native.Mathlib.Omega.{arith}
 use borrow.Author.Tests.{eqb-true, eq-eqb}
 use lib.Dec.{eqb}
 use lib.ListN.{length, drop, length-map}
 use Rattle.diag.proofs.Cases.{by_test_lem}
-use Rattle.lexer.specs.declared.Span.{Span as Place}
+use Rattle.diag.specs.declared.Span.{Span as Place}
 use Rattle.tokens.specs.declared.Token.{Token}
 use Rattle.parser.specs.Row.{peek}
 use Rattle.parser.specs.Views.{is_symbol}
 use Rattle.language.specs.Machine.{Located}
-use Rattle.language.specs.Lines.{RawSymbol, RawTransition}
+use Rattle.language.specs.Lines.{RawSymbol}
 use Rattle.language.specs.Assembly as A
 use Rattle.language.specs.Infer as I
 use Rattle.language.proofs.Every.{or_left, or_right, Every, Filled, every_map}
@@ -25,9 +25,10 @@ use Rattle.language.proofs.LineUses.{line_uses, lines_use}
 use Rattle.assembler.specs.Entries.{Entry}
 use Rattle.sheet.specs.Rules.{resolve}
 use Rattle.alphabet.specs.declared.glyphs.Walk.{Walk}
+use Rattle.alphabet.specs.declared.glyphs.Walk.TheVariants.{Outside, Open, Behind}
 use Rattle.alphabet.specs.Symbols.{range, symbols, takes, walked, firsts, others, further, outside, rule_symbols, rules_symbols, codes_of}
 use Rattle.alphabet.proofs.CodesMean.{fresh_there, fresh_new}
-use Rattle.shown.proofs.Shows.{SymbolShows, SymbolsShow, WritesShow, no_writes, no_write, write_back, one-write, ReadsShow, no_reads, no_read, opens, closes, alone, member, MentionsShow}
+use Rattle.shown.proofs.Shows.{WritesShow, no_writes, no_write, write_back, one-write, ReadsShow, no_reads, no_read, opens, closes, alone, member, MentionsShow}
 use Rattle.inferred.proofs.RuleLines.{RulesAt, no_rules_lem, no_rule, one-rule}
 
 map-append : {A B : Type 0} (f : A → B) (l m : List A) → map f (l ++ m) ≡ map f l ++ map f m
@@ -51,8 +52,12 @@ module _ (b : ℕ) where
   sets ss = map (map code) ss
 
   -- ---- the first of each set
-  abbrev walk : Bool → Bool → Walk
-  walk i k = record { inside = i; skip = k }
+  -- whether a set is open, and what is left of the sets
+  abbrev is_inside : Walk → Bool
+  is_inside s = elim s [ Outside ↦ false | Open ↦ true | Behind ↦ true ]
+
+  abbrev left_of : Walk → List (List ℕ) → List (List ℕ)
+  left_of s ss = elim s [ Outside ↦ ss | Open ↦ ss | Behind ↦ drop 1 ss ]
 
   firsts_by : (s : Walk) (t : Token) (ts : List Token) (x : Bool) (s' : Walk) → takes s t ≡ x → walked s t ≡ s' → codes_of b (firsts s (t ∷ ts)) ≡ cond x (resolve b t ∷ []) [] ++ codes_of b (firsts s' ts)
   unfolding firsts
@@ -62,50 +67,51 @@ module _ (b : ℕ) where
       go true = refl
       go false = refl
 
-  takes_no : (i k : Bool) (t : Token) → is_symbol t ≡ false → takes (walk i k) t ≡ false
+  takes_no : (s : Walk) (t : Token) → is_symbol t ≡ false → takes s t ≡ false
   unfolding takes
-  takes_no i true t e = refl
-  takes_no i false t e = e
+  takes_no Outside t e = e
+  takes_no Open t e = e
+  takes_no Behind t e = refl
 
-  takes_yes : (i : Bool) (t : Token) → is_symbol t ≡ true → takes (walk i false) t ≡ true
-  unfolding takes
-  takes_yes i t e = e
-
-  walked-open : (i k : Bool) (t : Token) → eqb t.kind 6 ≡ true → walked (walk i k) t ≡ walk true false
+  walked-open : (s : Walk) (t : Token) → eqb t.kind 6 ≡ true → walked s t ≡ Open
   unfolding walked
-  walked-open i k t e = rw e
+  walked-open s t e = rw e
 
-  walked_close : (i k : Bool) (t : Token) → eqb t.kind 6 ≡ false → eqb t.kind 7 ≡ true → walked (walk i k) t ≡ walk false false
+  walked_close : (s : Walk) (t : Token) → eqb t.kind 6 ≡ false → eqb t.kind 7 ≡ true → walked s t ≡ Outside
   unfolding walked
-  walked_close i k t e f = rw (e, f)
+  walked_close s t e f = rw (e, f)
 
-  walked-symbol : (i k : Bool) (t : Token) → eqb t.kind 6 ≡ false → eqb t.kind 7 ≡ false → is_symbol t ≡ true → walked (walk i k) t ≡ walk i i
+  walked-symbol : (s : Walk) (t : Token) → eqb t.kind 6 ≡ false → eqb t.kind 7 ≡ false → is_symbol t ≡ true → walked s t ≡ elim s [ Outside ↦ Outside | Open ↦ Behind | Behind ↦ Behind ]
   unfolding walked
-  walked-symbol i k t e f g = rw (e, f, g)
+  walked-symbol Outside t e f g = rw (e, f)
+  walked-symbol Open t e f g = rw (e, f, g)
+  walked-symbol Behind t e f g = rw (e, f)
 
-  walked-other : (i k : Bool) (t : Token) → eqb t.kind 6 ≡ false → eqb t.kind 7 ≡ false → is_symbol t ≡ false → walked (walk i k) t ≡ walk i k
+  walked-other : (s : Walk) (t : Token) → eqb t.kind 6 ≡ false → eqb t.kind 7 ≡ false → is_symbol t ≡ false → walked s t ≡ s
   unfolding walked
-  walked-other i k t e f g = rw (e, f, g)
+  walked-other Outside t e f g = rw (e, f)
+  walked-other Open t e f g = rw (e, f, g)
+  walked-other Behind t e f g = rw (e, f)
 
-  -- `k`: the first of the open set was met
-  firsts_mean : (i k : Bool) (ts : List Token) (ss : List (List (Located Place RawSymbol))) → ReadsShow i ts ss → (k ≡ true → i ≡ true) → codes_of b (firsts (walk i k) ts) ≡ U.firsts (cond k (drop 1 (sets ss)) (sets ss))
-  unfolding firsts
-  firsts_mean false true [] [] no_reads h = refl
-  firsts_mean false false [] [] no_reads h = refl
-  firsts_mean i k [] (s ∷ ss) m h = elim m [ ]
-  firsts_mean true k [] [] m h = elim m [ ]
-  firsts_mean i k (t ∷ ts) ss (no_read e f g r) h = firsts_by (walk i k) t ts false (walk i k) (takes_no i k t g) (walked-other i k t e f g) ∙ firsts_mean i k ts ss r h
-  firsts_mean false true (t ∷ ts) ss (opens e r) h = absurd (false≢true (h refl))
-  firsts_mean false false (t ∷ ts) ss (opens e r) h = firsts_by (walk false false) t ts false (walk true false) (takes_no false false t (open_no t e)) (walked-open false false t e) ∙ firsts_mean true false ts ss r (λ z. absurd (false≢true z))
-  firsts_mean true true (t ∷ ts) ([] ∷ ss) (closes e f r) h = firsts_by (walk true true) t ts false (walk false false) (takes_no true true t (close_no t f)) (walked_close true true t e f) ∙ firsts_mean false false ts ss r (λ z. absurd (false≢true z))
-  firsts_mean true false (t ∷ ts) ([] ∷ ss) (closes e f r) h = firsts_by (walk true false) t ts false (walk false false) (takes_no true false t (close_no t f)) (walked_close true false t e f) ∙ firsts_mean false false ts ss r (λ z. absurd (false≢true z))
-  firsts_mean false true (t ∷ ts) ((s ∷ []) ∷ ss) (alone e f g c r) h = absurd (false≢true (h refl))
-  firsts_mean false false (t ∷ ts) ((s ∷ []) ∷ ss) (alone e f g c r) h =
-      firsts_by (walk false false) t ts true (walk false false) (takes_yes false t g) (walked-symbol false false t e f g) ∙ ap₂ (λ (x : ℕ) (l : List ℕ). x ∷ l) (c.code b) (firsts_mean false false ts ss r (λ z. absurd (false≢true z)))
-  firsts_mean true true (t ∷ ts) ((s ∷ l) ∷ ss) (member e f g c r) h =
-      firsts_by (walk true true) t ts false (walk true true) refl (walked-symbol true true t e f g) ∙ firsts_mean true true ts (l ∷ ss) r (λ z. refl)
-  firsts_mean true false (t ∷ ts) ((s ∷ l) ∷ ss) (member e f g c r) h =
-      firsts_by (walk true false) t ts true (walk true true) (takes_yes true t g) (walked-symbol true false t e f g) ∙ ap₂ (λ (x : ℕ) (l : List ℕ). x ∷ l) (c.code b) (firsts_mean true true ts (l ∷ ss) r (λ z. refl))
+  firsts_mean : (s : Walk) (ts : List Token) (ss : List (List (Located Place RawSymbol))) → ReadsShow (is_inside s) ts ss → codes_of b (firsts s ts) ≡ U.firsts (left_of s (sets ss))
+  unfolding firsts takes
+  firsts_mean Outside [] [] no_reads = refl
+  firsts_mean Outside [] (l ∷ ss) m = elim m [ ]
+  firsts_mean Open [] (l ∷ ss) m = elim m [ ]
+  firsts_mean Behind [] (l ∷ ss) m = elim m [ ]
+  firsts_mean Open [] [] m = elim m [ ]
+  firsts_mean Behind [] [] m = elim m [ ]
+  firsts_mean Outside (t ∷ ts) ss (no_read e f g r) = firsts_by Outside t ts false Outside (takes_no Outside t g) (walked-other Outside t e f g) ∙ firsts_mean Outside ts ss r
+  firsts_mean Open (t ∷ ts) ss (no_read e f g r) = firsts_by Open t ts false Open (takes_no Open t g) (walked-other Open t e f g) ∙ firsts_mean Open ts ss r
+  firsts_mean Behind (t ∷ ts) ss (no_read e f g r) = firsts_by Behind t ts false Behind (takes_no Behind t g) (walked-other Behind t e f g) ∙ firsts_mean Behind ts ss r
+  firsts_mean Outside (t ∷ ts) ss (opens e r) = firsts_by Outside t ts false Open (takes_no Outside t (open_no t e)) (walked-open Outside t e) ∙ firsts_mean Open ts ss r
+  firsts_mean Behind (t ∷ ts) ([] ∷ ss) (closes e f r) = firsts_by Behind t ts false Outside refl (walked_close Behind t e f) ∙ firsts_mean Outside ts ss r
+  firsts_mean Open (t ∷ ts) ([] ∷ ss) (closes e f r) = firsts_by Open t ts false Outside (takes_no Open t (close_no t f)) (walked_close Open t e f) ∙ firsts_mean Outside ts ss r
+  firsts_mean Outside (t ∷ ts) ((s ∷ []) ∷ ss) (alone e f g c r) =
+      firsts_by Outside t ts true Outside g (walked-symbol Outside t e f g) ∙ ap₂ (λ (x : ℕ) (l : List ℕ). x ∷ l) (c.code b) (firsts_mean Outside ts ss r)
+  firsts_mean Behind (t ∷ ts) ((s ∷ l) ∷ ss) (member e f g c r) = firsts_by Behind t ts false Behind refl (walked-symbol Behind t e f g) ∙ firsts_mean Behind ts (l ∷ ss) r
+  firsts_mean Open (t ∷ ts) ((s ∷ l) ∷ ss) (member e f g c r) =
+      firsts_by Open t ts true Behind g (walked-symbol Open t e f g) ∙ ap₂ (λ (x : ℕ) (l : List ℕ). x ∷ l) (c.code b) (firsts_mean Behind ts (l ∷ ss) r)
 
   -- ---- the further members
   abbrev head_set : List (List ℕ) → List ℕ
@@ -235,7 +241,7 @@ module _ (b : ℕ) where
       let reads : List Token = range ts (e.at + 4) q.start in
       let writes : List Token = range ts q.end q.value in
       rw h (map-append (resolve b) (firsts outside reads) (symbols writes ++ further reads)
-      ∙ ap₂ (λ (x y : List ℕ). x ++ y) (firsts_mean false false reads l.raw.read m.reads (λ z. absurd (false≢true z)))
+      ∙ ap₂ (λ (x y : List ℕ). x ++ y) (firsts_mean Outside reads l.raw.read m.reads)
       (map-append (resolve b) (symbols writes) (further reads) ∙ ap₂ (λ (x y : List ℕ). x ++ y) (writes_mean writes l.raw.write m.writes) (further_mean false reads l.raw.read m.reads)))
 
   rule-none : (ts : List Token) (e : Entry) → eqb e.first.kind 27 ≡ false → codes_of b (rule_symbols ts e) ≡ []

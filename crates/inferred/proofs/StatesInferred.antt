@@ -1,20 +1,19 @@
 -- The sections of states and finals, and the first state's place, are the language's.
 use mathlib.Core.Path.{◌≡◌, refl, sym, ap, ap₂, subst, ◌∙◌, fun_ext}
-use mathlib.Core.Bool.{Bool, true, false, cond, ◌||◌, false≢true}
+use mathlib.Core.Bool.{Bool, true, false, ◌||◌, false≢true}
 use mathlib.Core.List.{List, [], ◌∷◌, ◌++◌, map, append_assoc}
 use mathlib.Core.Option.{Option, none, some}
-use Prim.Native.Nat.{ℕ, suc, ◌+◌, ◌*◌, ◌≤◌, ◌<◌, ◌^◌}
+use Prim.Native.Nat.{ℕ, suc, ◌+◌, ◌*◌, ◌≤◌, ◌<◌}
 use native.Mathlib.Omega.{arith}
-use borrow.Author.Tests.{le-ltb, lt-ltb, ltb-false}
+use borrow.Author.Tests.{ltb-false}
 use lib.Dec.{eqb, ltb}
-use lib.ListN.{length, get_or, take, drop, drop_of_length-le, length-append, get_or-append}
-use lib.Seq.{sets, sets-eq, get_or-append-add, length-take-le}
+use lib.ListN.{length, get_or, take, drop, drop_of_length-le, length-append, length-take, length-drop, get_or-append}
+use lib.Seq.{sets, sets-eq, get_or-append-add, get_or-take, get_or-drop, length-take-le}
 use Rattle.diag.proofs.Cases.{by_test_lem}
 use Rattle.diag.specs.declared.Span.{Span}
-use Rattle.lexer.specs.declared.Span.{Span as Place}
 use Rattle.lexer.specs.Text.{same}
 use Rattle.tokens.specs.declared.Token.{Token}
-use Rattle.parser.specs.Row.{peek}
+use Rattle.parser.specs.Row.{tokens_in, peek}
 use Rattle.parser.specs.Views.{is_state}
 use Rattle.language.specs.Machine.{Located, Rule, State}
 use Rattle.language.specs.Lines.{Item, Line}
@@ -26,22 +25,23 @@ use Rattle.language.proofs.Counts.{choices-length, expand-length, choices-filled
 use Rattle.language.proofs.LineUses.{line_mentions, states_from_lines}
 use Rattle.assembler.specs.Rows.{rows, place_of}
 use Rattle.assembler.specs.Entries.{Entry, entries}
-use Rattle.assembler.specs.Finals.{names_from, names_of, Interned}
+use Rattle.equal_names.specs.Names.{Interned, FirstsOf}
+use Rattle.assembler.specs.Finals.{names_from, names_of}
 use Rattle.assembler.specs.Assembled.{has_states}
 use Rattle.assembler.proofs.Means.{AllMean}
 use Rattle.assembler.proofs.FinalsMean.{NameIs, name-place, AllNames, no_names, one_name}
 use Rattle.sheet.specs.Comments.{span_words}
 use Rattle.infer.specs.Page.{indices_from, indices_in}
-use Rattle.infer.specs.States.{mention, mentions, start_name, names_add, finals, states_add, state_section, place_at, final_section, first_state}
+use Rattle.infer.specs.States.{mention, mentions, start_name, inferred, names_add, finals, states_add, section, firsts_in, marks_in, state_section, place_at, final_section, first_state}
 use Rattle.infer.proofs.SectionLaws.{first_there, first-none}
-use Rattle.shown.proofs.Shows.{StateShows, MentionsShow, Mentions}
+use Rattle.shown.proofs.Shows.{StateShows, Mentions}
 use Rattle.shown.proofs.BodyShown.{kept-all}
 use Rattle.inferred.proofs.NameMarks.{states_of, AllStates, no_states, one_state, states-append, states_yes, states_no, states-all, all_append, all-states, line-names, adds_states, Marked, once_mean, each_mean, finals-marked}
 use Rattle.inferred.proofs.Firsts.{At, nowhere, there, firsts, states-at, start_at_lem, finals_at_lem}
 use Rattle.inferred.proofs.RuleLines.{RulesAt, no_rules_lem, no_rule, one-rule, rules-at}
 
 abbrev Names : Type 0
-Names = List (Located Place (List ℕ))
+Names = List (Located Span (List ℕ))
 
 -- ---- no diagnostics
 front-nil : {X : Type 0} (l m : List X) → l ++ m ≡ [] → l ≡ []
@@ -52,7 +52,7 @@ back_nil : {X : Type 0} (l m : List X) → l ++ m ≡ [] → m ≡ []
 back_nil [] m e = e
 back_nil (x ∷ l) m e = absurd (omega (arith, ap length e))
 
-module _ (ls : List (Line Place)) (fine : A.diagnostics_of ls ≡ []) where
+module _ (ls : List (Line Span)) (fine : A.diagnostics_of ls ≡ []) where
   pub no_final_errors : A.final_errors (A.states_in (A.items ls)) [] (A.finals_in (A.items ls)) ≡ []
   unfolding A.diagnostics_of
   no_final_errors = front-nil _ _ (back_nil (A.declaration_errors [] (A.items ls)) _ (back_nil (A.line_errors ls) _ fine))
@@ -63,22 +63,22 @@ module _ (ls : List (Line Place)) (fine : A.diagnostics_of ls ≡ []) where
 
 -- what F lists without a repeat is fresh
 module _ (q : Option Names) where
-  listed-none : (w : List ℕ) (ls : Names) → A.listed_at w ls ≡ none → (f : Located Place (List ℕ)) → f.value ≡ w → I.member I.same_name ls f ≡ false
+  listed-none : (w : List ℕ) (ls : Names) → A.listed_at w ls ≡ none → (f : Located Span (List ℕ)) → f.value ≡ w → I.member I.same_name ls f ≡ false
   unfolding A.listed_at I.member
   listed-none w [] e f h = refl
   listed-none w (l ∷ ls) e f h = by_test_lem (same l.value w)
       (λ y. let z : some l.place ≡ none = rw (y, A.listed_at) at e in absurd (let o : ◌≡◌ {A = ℕ} 0 1 = cc in omega arith))
       (λ n. let z : A.listed_at w ls ≡ none = rw (n, A.listed_at) at e in ap₂ (λ (a b : Bool). a || b) (ap (same l.value) h ∙ n) (listed-none w ls z f h))
 
-  error-none : (before : Names) (f : Located Place (List ℕ)) → A.final_error q before f ≡ [] → A.listed_at f.value before ≡ none
+  error-none : (before : Names) (f : Located Span (List ℕ)) → A.final_error q before f ≡ [] → A.listed_at f.value before ≡ none
   unfolding A.final_error
   error-none before f e = go (A.listed_at f.value before) e
     where
-      go : (o : Option Place) → ◌≡◌ {A = List (A.Diagnostic Place)} (elim o [ some p ↦ A.diagnostic 11 f.place (some p) ∷ [] | none ↦ A.unknown_error q f ]) [] → o ≡ none
+      go : (o : Option Span) → ◌≡◌ {A = List (A.Diagnostic Span)} (elim o [ some p ↦ A.diagnostic 11 f.place (some p) ∷ [] | none ↦ A.unknown_error q f ]) [] → o ≡ none
       go none h = refl
       go (some p) h = absurd (omega (arith, ap length h))
 
-  member_last : (S : Names) (l y : Located Place (List ℕ)) → I.member I.same_name (S ++ l ∷ []) y ≡ (I.same_name l y || I.member I.same_name S y)
+  member_last : (S : Names) (l y : Located Span (List ℕ)) → I.member I.same_name (S ++ l ∷ []) y ≡ (I.same_name l y || I.member I.same_name S y)
   unfolding I.member
   member_last [] l y = refl
   member_last (k ∷ S) l y = ap (λ (b : Bool). I.same_name k y || b) (member_last S l y) ∙ turn (I.same_name k y) (I.same_name l y) (I.member I.same_name S y)
@@ -94,14 +94,14 @@ module _ (q : Option Names) where
   fresh-all before [] e = refl
   fresh-all before (f ∷ fs) e =
       let new : I.member I.same_name before f ≡ false = listed-none f.value before (error-none before f (front-nil (A.final_error q before f) (A.final_errors q (before ++ f ∷ []) fs) e)) f refl in
-      rw (new, I.fresh) (ap (λ (l : Names). f ∷ l) (ap (λ (k : Located Place (List ℕ) → Bool). I.fresh I.same_name k fs) (sym (fun_ext (member_last before f))) ∙ fresh-all (before ++ f ∷ []) fs (back_nil (A.final_error q before f) (A.final_errors q (before ++ f ∷ []) fs) e)))
+      rw (new, I.fresh) (ap (λ (l : Names). f ∷ l) (ap (λ (k : Located Span (List ℕ) → Bool). I.fresh I.same_name k fs) (sym (fun_ext (member_last before f))) ∙ fresh-all (before ++ f ∷ []) fs (back_nil (A.final_error q before f) (A.final_errors q (before ++ f ∷ []) fs) e)))
 
-nothing_is : I.member {A = Located Place (List ℕ)} I.same_name [] ≡ I.nothing
+nothing_is : I.member {A = Located Span (List ℕ)} I.same_name [] ≡ I.nothing
 unfolding I.member
 nothing_is = fun_ext (λ y. refl)
 
 pub finals-fresh : (q : Option Names) (fs : Names) → A.final_errors q [] fs ≡ [] → I.fresh I.same_name I.nothing fs ≡ fs
-finals-fresh q fs e = ap (λ (k : Located Place (List ℕ) → Bool). I.fresh I.same_name k fs) (sym nothing_is) ∙ fresh-all q [] fs e
+finals-fresh q fs e = ap (λ (k : Located Span (List ℕ) → Bool). I.fresh I.same_name k fs) (sym nothing_is) ∙ fresh-all q [] fs e
 
 -- ---- the names that rules mention
 module _ (text : List ℕ) (ts : List Token) where
@@ -117,14 +117,14 @@ module _ (text : List ℕ) (ts : List Token) where
   unfolding mention
   mention_yes e h = rw h
 
-  mentions-named : (es : List Entry) (rs : List (A.RuleLine Place)) → RulesAt text ts es rs → AllNames text ts (mentions ts es) (line_mentions rs)
+  mentions-named : (es : List Entry) (rs : List (A.RuleLine Span)) → RulesAt text ts es rs → AllNames text ts (mentions ts es) (line_mentions rs)
   unfolding mentions
   mentions-named [] [] no_rules_lem = no_names
   mentions-named [] (x ∷ rs) m = elim m [ ]
   mentions-named (e ∷ es) rs (no_rule h r) = subst (λ (l : List ℕ). AllNames text ts (l ++ mentions ts es) (line_mentions rs)) (sym (mention_no e h)) (mentions-named es rs r)
   mentions-named (e ∷ es) (x ∷ rs) (one-rule h m r) = subst (λ (l : List ℕ). AllNames text ts (l ++ mentions ts es) (line_mentions (x ∷ rs))) (sym (mention_yes e h)) (one_name m.from.name (one_name m.to.name (mentions-named es rs r)))
 
-  mentions-states : (es : List Entry) (rs : List (A.RuleLine Place)) → RulesAt text ts es rs → AllStates ts (mentions ts es)
+  mentions-states : (es : List Entry) (rs : List (A.RuleLine Span)) → RulesAt text ts es rs → AllStates ts (mentions ts es)
   unfolding mentions
   mentions-states [] [] no_rules_lem = no_states
   mentions-states [] (x ∷ rs) m = elim m [ ]
@@ -132,12 +132,12 @@ module _ (text : List ℕ) (ts : List Token) where
   mentions-states (e ∷ es) (x ∷ rs) (one-rule h m r) = subst (λ (l : List ℕ). AllStates ts (l ++ mentions ts es)) (sym (mention_yes e h)) (one_state m.from.state (one_state m.to.state (mentions-states es rs r)))
 
   -- a declared start
-  start-named : (f : ℕ) (o : Option (Located Place (Located Place (List ℕ)))) → At ts f (StateShows text (peek ts (f + 2))) o → AllNames text ts (start_name ts f) (A.of_option (A.found o))
+  start-named : (f : ℕ) (o : Option (Located Span (Located Span (List ℕ)))) → At ts f (StateShows text (peek ts (f + 2))) o → AllNames text ts (start_name ts f) (A.of_option (A.found o))
   unfolding start_name A.of_option A.found
   start-named f none (nowhere h) = rw h no_names
   start-named f (some l) (there h s) = rw h (one_name s.name no_names)
 
-  start-states : (f : ℕ) (o : Option (Located Place (Located Place (List ℕ)))) → At ts f (StateShows text (peek ts (f + 2))) o → AllStates ts (start_name ts f)
+  start-states : (f : ℕ) (o : Option (Located Span (Located Span (List ℕ)))) → At ts f (StateShows text (peek ts (f + 2))) o → AllStates ts (start_name ts f)
   unfolding start_name
   start-states f none (nowhere h) = rw h no_states
   start-states f (some l) (there h s) = rw h (one_state s.state no_states)
@@ -151,7 +151,7 @@ module _ (text : List ℕ) (ts : List Token) where
   unfolding indices_in indices_from
   indices_none f h = ap (indices_from (suc f)) (drop_of_length-le ts {i = suc f} (omega (arith, ltb-false f (length ts) h)))
 
-  pub finals-named : (f : ℕ) (o : Option (Located Place Names)) → At ts f (AllNames text ts (names_of ts f)) o → AllNames text ts (names_of ts f) (A.or_else (A.found o) [])
+  pub finals-named : (f : ℕ) (o : Option (Located Span Names)) → At ts f (AllNames text ts (names_of ts f)) o → AllNames text ts (names_of ts f) (A.or_else (A.found o) [])
   unfolding A.or_else A.found
   finals-named f none (nowhere h) = subst (λ (l : List ℕ). AllNames text ts l []) (sym (names-none f h)) no_names
   finals-named f (some l) (there h s) = s
@@ -177,7 +177,7 @@ some-rules : {X : Type 0} (l : List X) → Filled l → 0 < length l
 some-rules (x ∷ l) h = omega arith
 some-rules [] h = absurd h
 
-no_lines : (b : ℕ) (rs : List (A.RuleLine Place)) → Every Chosen rs → length (A.expand_all b rs) ≡ 0 → rs ≡ []
+no_lines : (b : ℕ) (rs : List (A.RuleLine Span)) → Every Chosen rs → length (A.expand_all b rs) ≡ 0 → rs ≡ []
 unfolding A.expand_all
 no_lines b [] c e = refl
 no_lines b (r ∷ rs) c e =
@@ -188,7 +188,7 @@ no_members : {X : Type 0} (l : List X) → length l ≡ 0 → l ≡ []
 no_members [] e = refl
 no_members (x ∷ l) e = absurd (omega arith)
 
-at_none : {B : Type 0} (ts : List Token) (f : ℕ) (P : B → Type 0) (o : Option (Located Place B)) → At ts f P o → ltb f (length ts) ≡ false → o ≡ none
+at_none : {B : Type 0} (ts : List Token) (f : ℕ) (P : B → Type 0) (o : Option (Located Span B)) → At ts f P o → ltb f (length ts) ≡ false → o ≡ none
 at_none ts f P none (nowhere h) e = refl
 at_none ts f P (some l) (there h p) e = absurd (false≢true (sym e ∙ h))
 
@@ -208,7 +208,7 @@ module _ (text : List ℕ) (ts : List Token) where
   places (x ∷ xs) = by_test_lem (is_state (peek ts x)) (λ y. ap (λ (l : List ℕ). place_at ts x ++ l) (places xs) ∙ ap (L.flat (place_at ts)) (sym (states_yes ts x xs y)))
       (λ n. ap (λ (l : List ℕ). l ++ L.flat (place_at ts) xs) (no_place x n) ∙ places xs ∙ ap (L.flat (place_at ts)) (sym (states_no ts x xs n)))
 
-  place_words_lem : (t : Token) (l : Located Place (List ℕ)) → NameIs text t l → span_words (place_of t) ≡ L.place_words l.place
+  place_words_lem : (t : Token) (l : Located Span (List ℕ)) → NameIs text t l → span_words (place_of t) ≡ L.place_words l.place
   place_words_lem t l n = ap₂ (λ (a b : ℕ). a ∷ b ∷ []) (ap (λ (p : Span). p.start) (name-place text t l n)) (ap (λ (p : Span). p.end) (name-place text t l n))
 
   places_mean : (xs : List ℕ) (ls : Names) → AllStates ts xs → AllNames text ts xs ls → L.flat (place_at ts) xs ≡ L.flat L.place_words (map (λ f. f.place) ls)
@@ -219,12 +219,12 @@ module _ (text : List ℕ) (ts : List Token) where
   places_mean (x ∷ xs) (l ∷ ls) (one_state s a) (one_name n r) = rw s (ap₂ (λ (p q : List ℕ). p ++ q) (place_words_lem (peek ts x) l n) (places_mean xs ls a r))
 
 -- ---- the sections
-module _ (text : List ℕ) (X : Entry → Item Place → Type 0) (ts : List Token) (says : (e : Entry) (i : Item Place) → X e i → Mentions text ts e.at i) (few : length ts ≤ 0xffffffff) (ls : List (Line Place))
+module _ (text : List ℕ) (X : Entry → Item Span → Type 0) (ts : List Token) (says : (e : Entry) (i : Item Span) → X e i → Mentions text ts e.at i) (few : length ts ≤ 0xffffffff) (ls : List (Line Span))
     (all : AllMean X ts (entries ts) ls) (fine : A.diagnostics_of ls ≡ []) (chosen : Every Chosen (A.body_of ls).rules) where
   abbrev first : List ℕ
   first = firsts text X ts says few ls all
 
-  abbrev is : List (Located Place (Item Place))
+  abbrev is : List (Located Span (Item Span))
   is = A.items ls
 
   abbrev F : Names
@@ -248,10 +248,10 @@ module _ (text : List ℕ) (X : Entry → Item Place → Type 0) (ts : List Toke
       ∙ ap (λ (l : Names). L.flat L.place_words (map (λ f. f.place) l)) (sym same-finals)
 
   -- ---- the section of states
-  abbrev rules : List (A.RuleLine Place)
+  abbrev rules : List (A.RuleLine Span)
   rules = (A.body_of ls).rules
 
-  abbrev start : Option (Located Place (List ℕ))
+  abbrev start : Option (Located Span (List ℕ))
   start = A.found (A.first (λ p. p.start) is)
 
   abbrev inferred_names : Names
@@ -265,31 +265,31 @@ module _ (text : List ℕ) (X : Entry → Item Place → Type 0) (ts : List Toke
   names_are =
       let b : ℕ = A.blank_of is in
       let fits : Every Fits rules = subst (Every Fits) (all-kept ls fine) (kept_fits 0 rules) in
-      ap (λ (l : List (A.RuleLine Place)). I.infer_states start (A.expand_all b l) F) (all-kept ls fine)
+      ap (λ (l : List (A.RuleLine Span)). I.infer_states start (A.expand_all b l) F) (all-kept ls fine)
       ∙ states_from_lines b rules fits chosen start F
       ∙ ap (I.fresh I.same_name I.nothing) (append_assoc (A.of_option start) (line_mentions rules) F)
 
-  module _ (size count : ℕ) (w : List ℕ) (row : rows count w ≡ ts) (names : Interned text ts (4 * size) w) (narrow : count ≤ size) (room : 6 * size ≤ length w) (short : count < 2 ^ 31) where
+  module _ (row ms : List ℕ) (names : FirstsOf text ts (length ts) row) (room : length ts ≤ length ms) where
     abbrev v : List ℕ
-    v = finals size ts first w
+    v = finals row ts first ms
 
-    marked : Marked text ts size count v (names_of ts (get_or first 10 0)) []
-    marked = finals-marked text ts size count w row names narrow room short first
+    marked : Marked text ts row v (names_of ts (get_or first 10 0)) []
+    marked = finals-marked text ts row ms names room first
 
-    abbrev states : Names → List (State Place)
+    abbrev states : Names → List (State Span)
     states l = I.marked (I.member I.same_name F) I.nothing l
 
     known : (l : Names) → L.flat L.state_words (I.marked (I.member I.same_name F) (I.member I.same_name []) l) ≡ L.flat L.state_words (states l)
-    known l = ap (λ (k : Located Place (List ℕ) → Bool). L.flat L.state_words (I.marked (I.member I.same_name F) k l)) nothing_is
+    known l = ap (λ (k : Located Span (List ℕ) → Bool). L.flat L.state_words (I.marked (I.member I.same_name F) k l)) nothing_is
 
-    declared : ltb (get_or first 5 0) (length ts) ≡ true → (q : Names) → AllNames text ts (names_of ts (get_or first 5 0)) q → states_add size ts first v ≡ L.flat L.state_words (states q)
+    declared : ltb (get_or first 5 0) (length ts) ≡ true → (q : Names) → AllNames text ts (names_of ts (get_or first 5 0)) q → states_add row ts first v ≡ L.flat L.state_words (states q)
     unfolding states_add
     declared h q n = rw h
-        (adds_states size ts true v (indices_in ts (get_or first 5 0)) ∙ ap (names_add size ts true v) (line-names ts (get_or first 5 0))
-        ∙ each_mean text ts size count (names_of ts (get_or first 10 0)) F finals_are (names_of ts (get_or first 5 0)) [] q [] v (line-states (get_or first 5 0)) n no_names marked ∙ known q)
+        (adds_states row ts true v (indices_in ts (get_or first 5 0)) ∙ ap (names_add row ts true v) (line-names ts (get_or first 5 0))
+        ∙ each_mean text ts row (names_of ts (get_or first 10 0)) F finals_are (names_of ts (get_or first 5 0)) [] q [] v (line-states (get_or first 5 0)) n no_names marked ∙ known q)
 
-    undeclared : ltb (get_or first 5 0) (length ts) ≡ false → states_add size ts first v ≡ L.flat L.state_words (states inferred_names)
-    unfolding states_add
+    undeclared : ltb (get_or first 5 0) (length ts) ≡ false → states_add row ts first v ≡ L.flat L.state_words (states inferred_names)
+    unfolding states_add inferred
     undeclared h =
         let a : List ℕ = start_name ts (get_or first 9 0) in
         let b : List ℕ = mentions ts (entries ts) in
@@ -303,44 +303,56 @@ module _ (text : List ℕ) (X : Entry → Item Place → Type 0) (ts : List Toke
         states-append ts a (b ++ c) ∙ ap₂ (λ (p q : List ℕ). p ++ q) (states-all ts a aa) (states-append ts b c ∙ ap₂ (λ (p q : List ℕ). p ++ q) (states-all ts b bs) (line-names ts (get_or first 10 0))) in
         let ls : Names = A.of_option start ++ (line_mentions rules ++ F) in
         let fresh : L.flat L.state_words (I.marked (I.member I.same_name F) (I.member I.same_name []) (I.fresh I.same_name (I.member I.same_name []) ls)) ≡ L.flat L.state_words (states (I.fresh I.same_name I.nothing ls)) =
-        ap (λ (k : Located Place (List ℕ) → Bool). L.flat L.state_words (I.marked (I.member I.same_name F) k (I.fresh I.same_name k ls))) nothing_is in
+        ap (λ (k : Located Span (List ℕ) → Bool). L.flat L.state_words (I.marked (I.member I.same_name F) k (I.fresh I.same_name k ls))) nothing_is in
         rw h
-        (adds_states size ts false v (a ++ (b ++ c)) ∙ ap (names_add size ts false v) xs
-        ∙ once_mean text ts size count d F finals_are (a ++ (b ++ d)) [] ls [] v (all_append ts a (b ++ d) aa (all_append ts b d bs (line-states (get_or first 10 0)))) (names-append text ts an (names-append text ts bn finals_are)) no_names marked
+        (adds_states row ts false v (a ++ (b ++ c)) ∙ ap (names_add row ts false v) xs
+        ∙ once_mean text ts row d F finals_are (a ++ (b ++ d)) [] ls [] v (all_append ts a (b ++ d) aa (all_append ts b d bs (line-states (get_or first 10 0)))) (names-append text ts an (names-append text ts bn finals_are)) no_names marked
         ∙ fresh ∙ ap (λ (l : Names). L.flat L.state_words (states l)) (sym names_are))
 
-    by_first : (o : Option (Located Place Names)) → At ts (get_or first 5 0) (AllNames text ts (names_of ts (get_or first 5 0))) o → states_add size ts first v ≡ L.flat L.state_words (states (A.or_else (A.found o) inferred_names))
+    by_first : (o : Option (Located Span Names)) → At ts (get_or first 5 0) (AllNames text ts (names_of ts (get_or first 5 0))) o → states_add row ts first v ≡ L.flat L.state_words (states (A.or_else (A.found o) inferred_names))
     unfolding A.or_else A.found
     by_first none (nowhere h) = undeclared h
     by_first (some l) (there {a = q} h n) = declared h q n
 
-    pub states-inferred : state_section size ts first w ≡ L.flat L.state_words (I.machine_of ls).states
-    unfolding state_section I.machine_of A.states_in
+    pub states-inferred : section row ts first ms ≡ L.flat L.state_words (I.machine_of ls).states
+    unfolding section I.machine_of A.states_in
     states-inferred =
         by_first (A.first (λ p. p.states) is) (states-at text X ts says few ls all)
         ∙ ap (λ (f : Names). L.flat L.state_words (I.marked (I.member I.same_name f) I.nothing (A.or_else (A.found (A.first (λ p. p.states) is)) (I.infer_states start (I.machine_of ls).rules f)))) (sym same-finals)
+
+  -- with the two rows in w
+  module _ (size count : ℕ) (w : List ℕ) (row : rows count w ≡ ts) (names : Interned text ts (4 * size) w) (narrow : count ≤ size) (room : 6 * size ≤ length w) where
+    many : length ts ≤ count
+    many = omega (arith, ap length (sym row), length-take count (tokens_in w))
+
+    pub section-inferred : state_section size ts first w ≡ L.flat L.state_words (I.machine_of ls).states
+    unfolding state_section
+    section-inferred = states-inferred (firsts_in size w) (marks_in size w)
+        (record { first = λ x h e. get_or-drop (4 * size) (take (5 * size) w) x 0 ∙ get_or-take (5 * size) w (4 * size + x) 0 (omega (arith, many)) ∙ names.interned x h e })
+        (omega (arith, many, length-drop (5 * size) w))
 
   -- where there can be none, nothing is stored, whatever stands in work, and the machine has none
   module _ (none-there : Stateless (length ts) first (length (I.machine_of ls).rules)) where
     no_rule_lines : rules ≡ []
     unfolding I.machine_of
-    no_rule_lines = no_lines (A.blank_of is) rules chosen (ap (λ (l : List (A.RuleLine Place)). length (A.expand_all (A.blank_of is) l)) (sym (all-kept ls fine)) ∙ none-there.no_rules_lem)
+    no_rule_lines = no_lines (A.blank_of is) rules chosen (ap (λ (l : List (A.RuleLine Span)). length (A.expand_all (A.blank_of is) l)) (sym (all-kept ls fine)) ∙ none-there.no_rules_lem)
 
     no_mentions : mentions ts (entries ts) ≡ []
-    no_mentions = names-nil text ts (mentions ts (entries ts)) (subst (λ (rs : List (A.RuleLine Place)). AllNames text ts (mentions ts (entries ts)) (line_mentions rs)) no_rule_lines (mentions-named text ts (entries ts) rules rules_are))
+    no_mentions = names-nil text ts (mentions ts (entries ts)) (subst (λ (rs : List (A.RuleLine Span)). AllNames text ts (mentions ts (entries ts)) (line_mentions rs)) no_rule_lines (mentions-named text ts (entries ts) rules rules_are))
 
     pub none_stored : (size : ℕ) (w : List ℕ) → state_section size ts first w ≡ []
-    unfolding state_section states_add start_name names_add
+    unfolding state_section section states_add inferred start_name names_add
     none_stored size w =
-        let v : List ℕ = finals size ts first w in
+        let row : List ℕ = firsts_in size w in
+        let v : List ℕ = finals row ts first (marks_in size w) in
         rw (none-there.no_q, none-there.no_start)
-        (ap (λ (l : List ℕ). names_add size ts false v (l ++ indices_in ts (get_or first 10 0))) no_mentions ∙ ap (names_add size ts false v) (indices_none text ts (get_or first 10 0) none-there.no_finals))
+        (ap (λ (l : List ℕ). names_add row ts false v (l ++ indices_in ts (get_or first 10 0))) no_mentions ∙ ap (names_add row ts false v) (indices_none text ts (get_or first 10 0) none-there.no_finals))
 
     pub none-listed : L.flat L.state_words (I.machine_of ls).states ≡ []
     unfolding I.machine_of A.states_in A.finals_in A.found A.or_else A.of_option I.fresh I.infer_states I.mentions I.marked L.flat
     none-listed =
-        let listed : Option (Located Place Names) → Names = λ f. I.fresh I.same_name I.nothing (A.or_else (A.found f) []) in
-        let words : Option (Located Place Names) → Option (Located Place (Located Place (List ℕ))) → Option (Located Place Names) → List (Rule Place) → List ℕ =
+        let listed : Option (Located Span Names) → Names = λ f. I.fresh I.same_name I.nothing (A.or_else (A.found f) []) in
+        let words : Option (Located Span Names) → Option (Located Span (Located Span (List ℕ))) → Option (Located Span Names) → List (Rule Span) → List ℕ =
         λ q s f rs. L.flat L.state_words (I.marked (I.member I.same_name (listed f)) I.nothing (A.or_else (A.found q) (I.infer_states (A.found s) rs (listed f)))) in
         let q : A.first (λ p. p.states) is ≡ none = at_none ts _ _ _ (states-at text X ts says few ls all) none-there.no_q in
         let s : A.first (λ p. p.start) is ≡ none = at_none ts _ _ _ (start_at_lem text X ts says few ls all) none-there.no_start in
@@ -357,27 +369,23 @@ word_stored o i vs k h g =
     ∙ get_or-append (take i o ++ vs) (drop (i + length vs) o) 0 (i + k) (omega (arith, length-append (take i o) vs))
     ∙ ap (λ (j : ℕ). get_or (take i o ++ vs) (j + k) 0) (sym n) ∙ get_or-append-add (take i o) vs k 0
 
--- a place of the row as one of the language
-abbrev pub place_from : Span → Place
-place_from p = record { start = p.start; end = p.end }
-
-first-place : (final known : Located Place (List ℕ) → Bool) (names : Names) (o more : List ℕ) (i : ℕ) → let ws = L.flat L.state_words (I.marked final known names) in
-    i + length (ws ++ more) ≤ length o → place_from (first_state (sets o i (ws ++ more)) i (i + length ws)) ≡ L.place_or_none (I.head names)
+first-place : (final known : Located Span (List ℕ) → Bool) (names : Names) (o more : List ℕ) (i : ℕ) → let ws = L.flat L.state_words (I.marked final known names) in
+    i + length (ws ++ more) ≤ length o → first_state (sets o i (ws ++ more)) i (i + length ws) ≡ L.place_or_none (I.head names)
 unfolding I.marked L.flat L.state_words I.head L.place_or_none
-first-place final known [] o more i h = ap place_from (sym (first-none (sets o i more) i (i + 0) (omega arith)))
+first-place final known [] o more i h = sym (first-none (sets o i more) i (i + 0) (omega arith))
 first-place final known (q ∷ qs) o more i h =
     let ws : List ℕ = L.flat L.state_words (I.marked final known (q ∷ qs)) in
     let z : i + 0 ≡ i = omega arith in
     let a : q.place.start ≡ get_or (sets o i (ws ++ more)) i 0 = sym (ap (λ (j : ℕ). get_or (sets o i (ws ++ more)) j 0) (sym z) ∙ word_stored o i (ws ++ more) 0 h (omega arith)) in
     let b : q.place.end ≡ get_or (sets o i (ws ++ more)) (i + 1) 0 = sym (word_stored o i (ws ++ more) 1 h (omega arith)) in
-    ap place_from (sym (first_there (sets o i (ws ++ more)) i (i + length ws) q.place.start q.place.end (omega arith) a b))
+    sym (first_there (sets o i (ws ++ more)) i (i + length ws) q.place.start q.place.end (omega arith) a b)
 
 -- where no start is declared, the machine starts in the first state
-pub first_state_lem : (ls : List (Line Place)) (o more : List ℕ) (i : ℕ) → A.first (λ p. p.start) (A.items ls) ≡ none → let ws = L.flat L.state_words (I.machine_of ls).states in
-    i + length (ws ++ more) ≤ length o → place_from (first_state (sets o i (ws ++ more)) i (i + length ws)) ≡ L.place_or_none (I.machine_of ls).start
+pub first_state_lem : (ls : List (Line Span)) (o more : List ℕ) (i : ℕ) → A.first (λ p. p.start) (A.items ls) ≡ none → let ws = L.flat L.state_words (I.machine_of ls).states in
+    i + length (ws ++ more) ≤ length o → first_state (sets o i (ws ++ more)) i (i + length ws) ≡ L.place_or_none (I.machine_of ls).start
 unfolding I.machine_of A.of_option A.found
 first_state_lem ls o more i e h =
-    let is : List (Located Place (Item Place)) = A.items ls in
+    let is : List (Located Span (Item Span)) = A.items ls in
     let finals : Names = I.fresh I.same_name I.nothing (A.finals_in is) in
     let names : Names = A.or_else (A.states_in is) (I.infer_states (A.found (A.first (λ p. p.start) is)) (I.machine_of ls).rules finals) in
-    first-place (I.member I.same_name finals) I.nothing names o more i h ∙ sym (ap (λ (x : Option (Located Place (Located Place (List ℕ)))). L.place_or_none (I.head (A.of_option (A.found x) ++ names))) e)
+    first-place (I.member I.same_name finals) I.nothing names o more i h ∙ sym (ap (λ (x : Option (Located Span (Located Span (List ℕ)))). L.place_or_none (I.head (A.of_option (A.found x) ++ names))) e)

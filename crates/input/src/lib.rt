@@ -7,6 +7,7 @@ ghost use Rattle.std.specs.Io.KnownBytes.{Consumes, IsAtEnd};
 use std::io::{self, Read};
 
 // Reads until the row is full or the input ends; how many bytes stand at the row's front then.
+// A reader gives as many at a time as it likes: no range counts them.
 pub fn fill<R: Read>(input: &mut R, row: &mut [u8]) -> io::Result<usize>
     ensures bound { IfOk result (λ n. n ≤ length row.new) }
     ensures bytes { IfOk result (λ n. Consumes (R.remaining input.old) (R.remaining input.new) (take n row.new)) }

@@ -12,7 +12,7 @@ use mir.Val.{Fits}
 use borrow.Author.Tests.{eqb-true, eq-eqb, ne_eqb, leb-true, leb-false}
 use Rattle.chars.specs.Utf8.{decode}
 use Rattle.lexer.specs.Places.{Found, Tok, piece}
-use Rattle.lexer.specs.Quick.{lead_of, leads_from, leads, WordAt, quick_value, quick_piece, comma_words, WordPut}
+use Rattle.lexer.specs.Quick.{lead_of, leads_from, leads, WordAt, QuickAt, quick_value, quick_piece, comma_words, WordPut}
 use Rattle.lexer.proofs.Scans.{by_test}
 use Rattle.lexer.proofs.Leads.{ascii_at, quick_lead}
 use Rattle.lexer.proofs.Writes.{State, word_end_in, token_falls, state_token, state_quick}
@@ -63,7 +63,7 @@ module _ (t : List ℕ) (at : ℕ) where
       (λ p. leb-false (length t) at p)
 
   -- what stands there is the comma's token
-  comma-piece : get_or t at 0 ≡ 0x2C → quick_piece at 8 (get_or t at 0) ≡ piece at (decode (drop at t))
+  comma-piece : get_or t at 0 ≡ 0x2C → QuickAt t at 8
   unfolding leads leads_from lead_of
   comma-piece e = quick_lead t at 8 (ascii_at t leads at 0x2C 0x2C 8 refl (inside e) (sym e) (omega arith) refl refl) (omega arith) (omega arith)
 
@@ -77,7 +77,7 @@ module _ (t : List ℕ) (at : ℕ) where
         let one : 1 ≡ r = omega arith in
         let words : w' ≡ sets w (4 * n) (8 ∷ at ∷ (at + 1) ∷ 0x2C ∷ []) = rw p at q in
         subst (λ (i : ℕ). State t w₀ w' (at + i) (n + i)) one
-        (state_quick t w₀ w at n 8 st (λ h. comma-piece c) (omega arith) 0x2C 0x2C w' (sym c) refl words))
+        (state_quick t w₀ w at n 8 st (comma-piece c) (omega arith) 0x2C 0x2C w' (sym c) refl words))
         (λ p.
         let zero : 4 * r ≡ 0 = rw p at k in
         let here : at ≡ at + r = omega arith in
@@ -104,23 +104,12 @@ module _ (t w₀ w : List ℕ) (at n : ℕ) (r : Found) (st : State t w₀ w at 
   both_falls j = omega (arith, token_falls t w₀ w at n r st s k e v m p)
 
 -- ---- a word by its end, and the comma behind it
-pub is_word : (t : List ℕ) (at k : ℕ) → (k ≡ 18 → WordAt t at) → k ≡ 18 → WordAt t at
-is_word t at k f e = f e
-
 module _ (t : List ℕ) (at e v : ℕ) (few : length t ≤ 0x400000) (s : Tok 0 e v e ≡ piece at (decode (drop at t))) where
   pub word_end_fits : Fits w32 e
   word_end_fits = omega (arith, (word_end_in t at e v s).1)
 
   pub word-place_fits : (j : ℕ) → j ≤ 1 → Fits w64 (e + j)
   word-place_fits j h = omega (arith, (word_end_in t at e v s).1)
-
-  pub word-comma_room : (w w' : List ℕ) (n : ℕ) → n ≤ at → 4 * length t + 4 ≤ length w → w' ≡ sets w (4 * n) (0 ∷ at ∷ e ∷ v ∷ []) → e < length t → 4 * (n + 1) + 4 ≤ length w'
-  word-comma_room w w' n l h q b = omega (arith, (word_end_in t at e v s).0, ap length q, length-sets w (4 * n) (0 ∷ at ∷ e ∷ v ∷ []))
-
-  pub word-put : (w w' w'' : List ℕ) (n j : ℕ) → w' ≡ sets w (4 * n) (0 ∷ at ∷ e ∷ v ∷ []) → 4 * j ≡ length (comma_words t e) → w'' ≡ sets w' (4 * (n + 1)) (comma_words t e)
-      → WordPut t at n w w'' (e + j) (n + 1 + j)
-  word-put w w' w'' n j q c g =
-      record { end = e; value = v; commas = j; token = s; comma = c; words = g ∙ ap (λ (l : List ℕ). sets l (4 * (n + 1)) (comma_words t e)) q; place = refl; count = refl }
 
 module _ (t w₀ w : List ℕ) (at n : ℕ) (st : State t w₀ w at n) (w'' : List ℕ) (at' n' : ℕ) (p : WordPut t at n w w'' at' n') where
   pub put_falls : length t - at' < length t - at

@@ -19,7 +19,7 @@ use Rattle.chars.proofs.Blocks.{ascii_decode}
 use Rattle.lexer.specs.Tokens.{sign, tok, is_digit, is_ascii_digit, is_word_continue, run, word_step, number_step, step}
 use Rattle.lexer.specs.Words.{sign_number, position, keyword_bytes, value_from, value}
 use Rattle.lexer.specs.Places.{part, Found, Tok, piece_of, piece}
-use Rattle.lexer.specs.Quick.{other_lead, lead_of, leads_from, leads, AsciiAt, EndsAt, WordAt, quick_value, quick_piece}
+use Rattle.lexer.specs.Quick.{other_lead, lead_of, leads_from, leads, AsciiAt, EndsAt, WordAt, QuickAt, quick_value, quick_piece}
 use Rattle.lexer.proofs.Scans.{by_test, run_true, run_false, run-nil, sizes-nil, digit_range}
 use Rattle.lexer.proofs.Keywords.{all_below, all_below_lem}
 use Rattle.lexer.proofs.Pieces.{word-one, word_long, number_token, step_class, step-word, step_sign, sign_token, piece_of_lem, from_feed, from_space}
@@ -246,20 +246,24 @@ module _ (t : List ℕ) (at k : ℕ) (a : AsciiAt t at k) where
   pub no_word : k ≡ 18 → WordAt t at
   no_word p = absurd (omega (arith, a.lead, ltb-true (lead_of (get_or t at 0)) 18 (all_below_lem (λ (c : ℕ). ltb (lead_of c) 18) 128 leads_low (get_or t at 0) a.ascii)))
 
-  pub quick_lead : 3 ≤ k → k < 17 → quick_piece at k (get_or t at 0) ≡ piece at (decode (drop at t))
-  quick_lead m n = seen (quick_piece at k (get_or t at 0)) (lead-piece t at (get_or t at 0) next k a.lead m n)
+  at_once : quick_piece at k (get_or t at 0) ≡ piece at (decode (drop at t)) → QuickAt t at k
+  at_once p = record { inside = a.inside; seen = p }
 
-  pub quick_word : k ≡ 0 → run is_word_continue (decode (drop (at + 1) t)) ≡ [] → quick_piece at k (get_or t at 0) ≡ piece at (decode (drop at t))
+  pub quick_lead : 3 ≤ k → k < 17 → QuickAt t at k
+  quick_lead m n = at_once (seen (quick_piece at k (get_or t at 0)) (lead-piece t at (get_or t at 0) next k a.lead m n))
+
+  pub quick_word : k ≡ 0 → run is_word_continue (decode (drop (at + 1) t)) ≡ [] → QuickAt t at k
   unfolding quick_piece
   quick_word p f =
       let r : List ℕ = decode (drop (at + 1) t) in
       let o : at + 1 ≡ at + 1 + sizes (run is_word_continue r) = omega (arith, ap sizes f, sizes-nil) in
-      ap (λ (j : ℕ). quick_piece at j (get_or t at 0)) p
+      at_once
+      (ap (λ (j : ℕ). quick_piece at j (get_or t at 0)) p
       ∙ seen (Tok 0 (at + 1) (get_or t at 0) (at + 1))
       (piece_of_lem at (at + 1) r _ _ _ (word-lead (get_or t at 0) r (sym a.lead ∙ p))
-      (word-one t at (get_or t at 0) (at + 1) (at + 1) next (ascii_decode t at a.inside a.ascii) (omega arith) o refl))
+      (word-one t at (get_or t at 0) (at + 1) (at + 1) next (ascii_decode t at a.inside a.ascii) (omega arith) o refl)))
 
-  pub quick_number : k ≡ 1 → run is_ascii_digit (decode (drop (at + 1) t)) ≡ [] → quick_piece at k (get_or t at 0) ≡ piece at (decode (drop at t))
+  pub quick_number : k ≡ 1 → run is_ascii_digit (decode (drop (at + 1) t)) ≡ [] → QuickAt t at k
   unfolding quick_piece
   quick_number p f =
       let c : ℕ = get_or t at 0 in
@@ -269,11 +273,12 @@ module _ (t : List ℕ) (at k : ℕ) (a : AsciiAt t at k) where
       let o : at + 1 ≡ at + 1 + sizes (run is_ascii_digit r) = omega (arith, ap sizes f, sizes-nil) in
       let v : run is_ascii_digit (decode (drop at t)) ≡ c ∷ [] =
       ap (run is_ascii_digit) (ascii_decode t at a.inside a.ascii) ∙ run_true is_ascii_digit c r w.1 ∙ ap (λ (s : List ℕ). c ∷ s) f in
-      ap (λ (j : ℕ). quick_piece at j c) p
+      at_once
+      (ap (λ (j : ℕ). quick_piece at j c) p
       ∙ seen (Tok 1 (at + 1) (c % 16) (at + 1))
       (piece_of_lem at (at + 1) r _ _ _ w.0
       (number_token t at c (at + 1) (at + 1) (c % 16) next (ascii_decode t at a.inside a.ascii) w.1 o
-      (digit_value c u.0 u.1 ∙ ap (λ (s : List ℕ). min (value s) 256) (sym v))))
+      (digit_value c u.0 u.1 ∙ ap (λ (s : List ℕ). min (value s) 256) (sym v)))))
 
 -- ---- `value_of`
 module _ (k b c : ℕ) (e : c ≡ b) where

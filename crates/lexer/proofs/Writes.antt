@@ -22,7 +22,7 @@ use Rattle.lexer.specs.contracts.kind.TokenKind.{the_type}
 use Rattle.lexer.specs.declared.kind.TokenKind.{TokenKind as Kind}
 use Rattle.lexer.specs.declared.kind.TokenKind.TheVariants.{Word, Number, Quoted, Str, LParen, RParen, LBrace, RBrace, Comma, Eq, Star, Other, Comment, Newline, UnterminatedString, UnterminatedQuote}
 use Rattle.lexer.specs.Places.{Found, Tok, Gap, End, piece_of, piece}
-use Rattle.lexer.specs.Quick.{quick_value, quick_piece}
+use Rattle.lexer.specs.Quick.{QuickAt, quick_value, quick_piece}
 use Rattle.lexer.proofs.Scans.{by_test}
 use Rattle.lexer.proofs.Pieces.{jump, jump_le}
 use Rattle.lexer.proofs.Steps.{Fit, Fits as FitsStep, step_fits}
@@ -230,31 +230,14 @@ quick_token : (o k c v : ℕ) → k < 16 → v ≡ quick_value k c → quick_pie
 unfolding quick_piece
 quick_token o k c v h e = rw (ne_eqb k 16 (λ (p : k ≡ 16). omega arith)) (cc)
 
-module _ (t w₀ w : List ℕ) (at n k : ℕ) (st : State t w₀ w at n) (f : k < 17 → quick_piece at k (get_or t at 0) ≡ piece at (decode (drop at t))) where
-  module _ (h : k < 16) where
-    pub quick_in : (k < 17 → at < length t) → at < length t
-    quick_in g = g (omega arith)
+module _ (t w₀ w : List ℕ) (at n k : ℕ) (st : State t w₀ w at n) (f : QuickAt t at k) where
+  pub state_quick : k < 16 → (c v : ℕ) (w' : List ℕ) → c ≡ get_or t at 0 → v ≡ quick_value k c → w' ≡ sets w (4 * n) (k ∷ at ∷ (at + 1) ∷ v ∷ []) → State t w₀ w' (at + 1) (n + 1)
+  state_quick h c v w' e q p =
+      state_token t w₀ w at n (quick_piece at k (get_or t at 0)) st f.seen k (at + 1) v (at + 1)
+      (quick_token at k (get_or t at 0) v h (q ∙ ap (quick_value k) e)) w' p
 
-    pub quick_room : (k < 17 → at < length t) → 4 * length t + 4 ≤ length w₀ → 4 * n + 4 ≤ length w
-    quick_room g l = let p = g (omega arith) in omega (arith, st.few, st.long, st.place)
-
-    pub quick_falls : (k < 17 → at < length t) → length t - (at + 1) < length t - at
-    quick_falls g = let p = g (omega arith) in omega arith
-
-    pub state_quick : (c v : ℕ) (w' : List ℕ) → c ≡ get_or t at 0 → v ≡ quick_value k c → w' ≡ sets w (4 * n) (k ∷ at ∷ (at + 1) ∷ v ∷ []) → State t w₀ w' (at + 1) (n + 1)
-    state_quick c v w' e q p =
-        state_token t w₀ w at n (quick_piece at k (get_or t at 0)) st (f (omega arith)) k (at + 1) v (at + 1)
-        (quick_token at k (get_or t at 0) v h (q ∙ ap (quick_value k) e)) w' p
-
-  module _ (h : k ≡ 16) where
-    pub blank_in : (k < 17 → at < length t) → at < length t
-    blank_in g = g (omega arith)
-
-    pub blank_falls : (k < 17 → at < length t) → length t - (at + 1) < length t - at
-    blank_falls g = let p = g (omega arith) in omega arith
-
-    pub state_blank : State t w₀ w (at + 1) n
-    state_blank = state_gap t w₀ w at n (quick_piece at k (get_or t at 0)) st (f (omega arith)) (at + 1) (quick_gap at k (get_or t at 0) h)
+  pub state_blank : k ≡ 16 → State t w₀ w (at + 1) n
+  state_blank h = state_gap t w₀ w at n (quick_piece at k (get_or t at 0)) st f.seen (at + 1) (quick_gap at k (get_or t at 0) h)
 
 -- ---- how many tokens there are
 emit_few : (s : Step) (o m : ℕ) (next : ℕ → List (Token Span)) → ((n : ℕ) → length (next n) ≤ m) → length (emit o s next) ≤ suc m

@@ -54,6 +54,11 @@ unfoldable pub quick_piece : ℕ → ℕ → ℕ → Found
 unfolding quick_value
 quick_piece o k c = cond (eqb k 16) (Gap (o + 1)) (Tok k (o + 1) (quick_value k c) (o + 1))
 
+-- what stands at a place is one ASCII character that begins k
+pub record QuickAt (t : List ℕ) (at k : ℕ) : Type 0 where
+  pub inside : at < length t
+  pub seen : quick_piece at k (get_or t at 0) ≡ piece at (decode (drop at t))
+
 -- the words of the comma that stands at a place as a token; none where no comma stands there
 unfoldable pub comma_words : List ℕ → ℕ → List ℕ
 comma_words t o = cond (eqb (get_or t o 0) 0x2C) (8 ∷ o ∷ (o + 1) ∷ 0x2C ∷ []) []

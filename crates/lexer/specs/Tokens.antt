@@ -5,7 +5,7 @@ use Rattle.chars.specs.Utf8.{size, sizes}
 use Rattle.chars.specs.Class.{class_of}
 use Rattle.chars.specs.declared.Class.{Class}
 use Rattle.chars.specs.declared.Class.TheVariants.{Letter, Digit, Space, Sign, Other}
-use Rattle.lexer.specs.declared.Span as declared
+use Rattle.diag.specs.declared.Span as declared
 
 -- what a token is; words, numbers and comments with their characters, strings with their escapes undone
 pub data TokenKind : Type 0 where

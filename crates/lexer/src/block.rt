@@ -37,9 +37,11 @@ fn all_eight<F: Fn(u8) -> bool>(text: &[u8], at: usize, f: F) -> bool
 }
 
 // A place on the line, and where the line up to it ends without white space: blocks whose last bytes are no two spaces are passed over.
+// A `while` and no `chunks_exact`, since what is answered is a place, and the turn in which the scan stops is told by the bytes.
 pub(crate) fn line_part(text: &[u8], at: usize) -> Line
     ensures end { result.end + sizes (line (rest text.now result.end)) ≡ at + sizes (line (rest text.now at)) }
-    ensures trimmed { trimmed_at result.trimmed result.end (trim_end (line (rest text.now result.end))) ≡ at + sizes (trim_end (line (rest text.now at))) }
+    ensures trimmed { trimmed_at result.trimmed result.end (trim_end (line (rest text.now result.end)))
+        ≡ at + sizes (trim_end (line (rest text.now at))) }
 {
     let mut trimmed = at;
     let mut i = at;
@@ -59,7 +61,7 @@ pub(crate) fn line_part(text: &[u8], at: usize) -> Line
     Line { trimmed, end: i }
 }
 
-// A place inside a string, from behind its quote: blocks without a quote or a backslash are passed over.
+// A place inside a string, from behind its quote: blocks without a quote or a backslash are passed over. A `while` for the same reason.
 pub(crate) fn string_part(text: &[u8], at: usize) -> usize
     ensures { string_end false result (rest text.now result) ≡ string_end false at (rest text.now at) }
 {

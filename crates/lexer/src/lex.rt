@@ -27,7 +27,7 @@ fn sign_kind(c: u32) -> TokenKind
     }
 }
 
-// The value of the word at a place that begins with an ASCII character, from where it ends.
+// The value of the word at a place that begins with an ASCII character, from where it ends. More than a conversion: a longer word is looked up.
 pub(crate) fn word_value(text: &[u8], at: usize, end: usize) -> u32
     requires word { WordAt text.now at }
     requires end { end ≡ at + 1 + sizes (run is_word_continue (rest text.now (at + 1))) }

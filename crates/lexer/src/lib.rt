@@ -1,4 +1,5 @@
 // Tokens of the description language (the source's dsl/lexer.rs), as words in a lent row.
+// A text and a place in it are two parameters and no cursor: a scan answers a place alone, and with a cursor each contract would say too that the text is kept.
 #![tactic(auto)]
 
 ghost use Rattle.std.specs.Prelude.{◌≡◌, ◌+◌, ◌*◌, ◌<◌, ◌≤◌, [], ◌∷◌, length};
@@ -8,7 +9,7 @@ ghost use Rattle.lexer.specs.Tokens.{tokens};
 ghost use Rattle.lexer.specs.Words.{flat, onto, tokenized};
 ghost use Rattle.lexer.specs.Kinds.{kind_word, found};
 ghost use Rattle.lexer.specs.Places.{Tok};
-ghost use Rattle.lexer.specs.Quick.{leads, WordAt, comma_words, WordPut};
+ghost use Rattle.lexer.specs.Quick.{WordAt, comma_words, WordPut};
 
 mod block;
 pub mod kind;
@@ -18,13 +19,8 @@ mod quick;
 mod scan;
 
 use crate::kind::TokenKind;
-
-// A half-open range of byte offsets.
-#[derive(Clone, Copy)]
-pub struct Span {
-    pub start: u32,
-    pub end: u32,
-}
+use crate::quick::Table;
+pub use diag::Span;
 
 // What stands at a place of the text.
 #[derive(Clone, Copy)]
@@ -85,6 +81,7 @@ pub struct Cursor {
 }
 
 // Token number n, as four words of work. Each word is written by itself: `copy_from_slice` of the four takes twelve instructions more for a token.
+// Work and the number of tokens are no struct: this asks for room for one token, `word` and `fill` for all of a text's.
 fn push(work: &mut [u32], n: usize, kind: u32, start: u32, end: u32, value: u32)
     requires { 4 * n + 4 ≤ length work.old }
     ensures { work.new ≡ sets work.old (4 * n) (kind ∷ start ∷ end ∷ value ∷ []) }
@@ -99,7 +96,9 @@ fn push(work: &mut [u32], n: usize, kind: u32, start: u32, end: u32, value: u32)
 // The comma at a place, if one stands there, as token number n; answers how many tokens that is.
 fn comma(text: &[u8], at: usize, work: &mut [u32], n: usize) -> usize
     requires { (length text.now ≤ 0x400000) × (at < length text.now → 4 * n + 4 ≤ length work.old) }
-    ensures { (result ≤ 1) × (4 * result ≡ length (comma_words text.now at)) × (work.new ≡ sets work.old (4 * n) (comma_words text.now at)) }
+    ensures { (result ≤ 1)
+        × (4 * result ≡ length (comma_words text.now at))
+        × (work.new ≡ sets work.old (4 * n) (comma_words text.now at)) }
 {
     if text.len() <= at || text[at] != b',' {
         return 0;
@@ -110,7 +109,10 @@ fn comma(text: &[u8], at: usize, work: &mut [u32], n: usize) -> usize
 
 // The word at a place that begins with an ASCII character, as token number n, together with a comma behind it.
 fn word(text: &[u8], at: usize, work: &mut [u32], n: usize) -> Cursor
-    requires { (length text.now ≤ 0x400000) × (4 * length text.now + 4 ≤ length work.old) × (n ≤ at) × WordAt text.now at }
+    requires { (length text.now ≤ 0x400000)
+        × (4 * length text.now + 4 ≤ length work.old)
+        × (n ≤ at)
+        × WordAt text.now at }
     ensures { WordPut text.now at n work.old work.new result.at result.n }
 {
     let end = scan::word_end(text, at + 1);
@@ -125,22 +127,23 @@ fn word(text: &[u8], at: usize, work: &mut [u32], n: usize) -> Cursor
 
 // The tokens of a text, as `tokenize` has them: of one ASCII character by the table, longer words that begin with one by their end, any other by what
 // stands at the place; those of more than one character together with a comma behind them.
-fn fill(table: &[u8; 128], text: &[u8], work: &mut [u32]) -> usize
-    requires { (table.now ≡ leads) × (length text.now ≤ 0x400000) × (4 * length text.now + 4 ≤ length work.old) }
+fn fill(table: Table, text: &[u8], work: &mut [u32]) -> usize
+    requires { (length text.now ≤ 0x400000) × (4 * length text.now + 4 ≤ length work.old) }
     ensures { (result ≡ length (tokens (decode text.now))) × (work.new ≡ onto (flat (tokens (decode text.now))) work.old) }
 {
     let mut at = 0;
     let mut n = 0;
+    // How far a turn goes depends on what stands there, so that no `for` counts it.
     loop {
-        let k = quick::lead_at(table, text, at);
-        if k < 16 {
+        let k = table.lead_at(text, at);
+        if k < quick::BLANK {
             let v = quick::value_of(k, text[at]);
             push(work, n, k, at as u32, (at + 1) as u32, v);
             n += 1;
             at += 1;
-        } else if k == 16 {
+        } else if k == quick::BLANK {
             at += 1;
-        } else if k == 18 {
+        } else if k == quick::LONG_WORD {
             let c = word(text, at, work, n);
             at = c.at;
             n = c.n;
@@ -170,12 +173,13 @@ fn fill(table: &[u8; 128], text: &[u8], work: &mut [u32]) -> usize
 }
 
 // The tokens of a text, at the front of work; answers their number. The rest of work stays as it was.
+#[tactic(auto, unfolding(crate::specs::Quick::leads))]
 pub fn tokenize(text: &[u8], work: &mut [u32]) -> usize
     requires { (length text.now ≤ 0x400000) × (4 * length text.now + 4 ≤ length work.old) }
     ensures { (result ≡ length (tokens (decode text.now))) × (work.new ≡ onto (flat (tokens (decode text.now))) work.old) }
 {
-    let table = quick::LEADS;
-    fill(&table, text, work)
+    let bytes = quick::LEADS;
+    fill(Table { bytes: &bytes }, text, work)
 }
 
 // The same for callers in other languages; a text that is too long or work that is too short is left as it is, and the answer is all ones.

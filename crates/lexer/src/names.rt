@@ -1,6 +1,5 @@
-// Parts of the text: names, and whether they are equal.
+// Parts of the text: names, and their numbers among the keywords.
 ghost use Rattle.std.specs.Prelude.{◌≡◌};
-ghost use Rattle.lexer.specs.Text.{same};
 ghost use Rattle.lexer.specs.Words.{position, keyword_bytes, keywords_of, number_in};
 ghost use Rattle.lexer.specs.Places.{part};
 
@@ -9,13 +8,6 @@ pub fn part_of(text: &[u8], start: usize, end: usize) -> &[u8]
     ensures { result.now ≡ part text.now start end }
 {
     text.get(start..end).unwrap_or(&[])
-}
-
-// Whether two parts are equal.
-pub fn same_part(a: &[u8], b: &[u8]) -> bool
-    ensures { result ≡ same a.now b.now }
-{
-    a == b
 }
 
 // The number that a table of keywords of N bytes gives a name; 0 if it is none of them.
@@ -31,7 +23,8 @@ fn number_among<const N: usize>(keywords: &[(u32, [u8; N])], name: &[u8]) -> u32
     0
 }
 
-// A word's number among the keywords, or 0: only those of its length are compared.
+// A word's number among the keywords, or 0: only those of its length are compared. It is no enum, since it goes into the value of a token, a word that C
+// lends.
 pub(crate) fn keyword_of(name: &[u8]) -> u32
     ensures { result ≡ position 1 keyword_bytes name.now }
 {

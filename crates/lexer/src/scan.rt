@@ -120,7 +120,8 @@ pub(crate) fn line_end(text: &[u8], at: usize) -> Line
     Line { trimmed, end: i }
 }
 
-// Where a string ends, from behind its quote: the place behind the closing quote, or None where there is none on the line.
+// Where a string ends, from behind its quote: the place behind the closing quote, or None where there is none on the line. Tests and no `match`, since
+// a state is asked between two of the character.
 pub(crate) fn string_end(text: &[u8], at: usize) -> Option<usize>
     ensures { result ≡ string_end false at (rest text.now at) }
 {

@@ -1,12 +1,16 @@
 // The lines that the list program prints (paper 01), from what a reading call answered with, its log and sheet, and the text.
 // Each function appends a piece to an output: stored where there is room, counted in any case.
+// Text and output stay two parameters: of a struct with both, lent to be written, each contract would also say that its text stays, and each proof
+// would carry the text from piece to piece. The words beside them are another row for each: a section, a record or a log, and n its records.
 #![tactic(auto)]
 
 ghost use Rattle.std.specs.Prelude.{◌∷◌, ◌<◌, ltb};
 ghost use Rattle.language.specs.Plain.{◌⨾◌, only, direction};
 ghost use Rattle.language.specs.Agreement.{groups, dir_of};
-ghost use Rattle.machine.specs.Head.{span_in, counts_in};
-ghost use Rattle.list_lines.specs.Listing.{named, parted, names, codes, moves, place, related, position, diagnostic, diagnostic_lines, transition, state_lines, symbol_lines, transition_lines, machine_lines, refused_line, bytes_line};
+ghost use Rattle.machine.specs.Head.{counts_in};
+ghost use Rattle.list_lines.specs.Listing.{named, parted, names, codes, moves, place, related, position, diagnostic, transition};
+ghost use Rattle.list_lines.specs.Listing.{diagnostic_lines, state_lines, symbol_lines, transition_lines, machine_lines};
+ghost use Rattle.list_lines.specs.Listing.{refused_line, bytes_line};
 ghost use Rattle.list_lines.specs.Puts.{Puts};
 
 use emit::Output;
@@ -19,7 +23,7 @@ use sheet_words::{after, place_at, record_at, word};
 
 // The bytes at a place of the text.
 fn named(out: &mut Output, text: &[u8], at: Span)
-    ensures { Puts (named text.now (span_in at)) out.old out.new }
+    ensures { Puts (named text.now at) out.old out.new }
 {
     out.bytes(part_of(text, at.start as usize, at.end as usize));
 }
@@ -63,7 +67,7 @@ fn codes(out: &mut Output, words: &[u32], k: usize, o: usize, n: u32, sep: u8)
     }
 }
 
-// The move of a head.
+// The move of a head, by its number in the sheet, which C reads too. Crate form_parts' `direction` promises characters in UTF-8, and this one bytes.
 fn direction(out: &mut Output, d: u32)
     ensures { Puts (direction (dir_of d)) out.old out.new }
 {
@@ -100,7 +104,7 @@ fn position_of(out: &mut Output, text: &[u8], offset: u32)
 
 // A place.
 fn place(out: &mut Output, at: Span)
-    ensures { Puts (place (span_in at)) out.old out.new }
+    ensures { Puts (place at) out.old out.new }
 {
     out.decimal(at.start.into());
     out.bytes(b" ");
@@ -109,9 +113,9 @@ fn place(out: &mut Output, at: Span)
 
 // A related place, or that there is none.
 fn related(out: &mut Output, at: Span)
-    ensures { Puts (related (span_in at)) out.old out.new }
+    ensures { Puts (related at) out.old out.new }
 {
-    if at.start == u32::MAX && at.end == u32::MAX {
+    if at == Span::NONE {
         return out.bytes(b"none none");
     }
     place(out, at);
@@ -133,7 +137,7 @@ fn diagnostic(out: &mut Output, text: &[u8], words: &[u32])
     out.bytes(b"\n");
 }
 
-// How many diagnostics there are, and each of those that the log holds.
+// How many diagnostics there are, and each of those that the log holds: n is told, and may be more than the log has records for.
 fn diagnostic_lines(out: &mut Output, text: &[u8], n: usize, log: &[u32])
     ensures { Puts (diagnostic_lines text.now n log.now) out.old out.new }
 {
@@ -168,7 +172,7 @@ fn transition(out: &mut Output, text: &[u8], words: &[u32])
 
 // n states: all, the final ones, and the start.
 fn state_lines(out: &mut Output, text: &[u8], n: u32, start: Span, states: &[u32])
-    ensures { Puts (state_lines text.now n (span_in start) states.now) out.old out.new }
+    ensures { Puts (state_lines text.now n start states.now) out.old out.new }
 {
     out.bytes(b"states=");
     names(out, text, states, n, true);
@@ -204,9 +208,9 @@ fn transition_lines(out: &mut Output, text: &[u8], n: u32, rules: &[u32])
     }
 }
 
-// The lines of a machine, from the sections of its sheet.
+// The lines of a machine, from the sections of its sheet. Crate form has their places as methods of a machine that is well formed, which nothing here asks.
 fn machine_lines(out: &mut Output, text: &[u8], head: &Head, sheet: &[u32])
-    ensures { Puts (machine_lines text.now (counts_in head.now.counts) (span_in head.now.start) sheet.now) out.old out.new }
+    ensures { Puts (machine_lines text.now (counts_in head.now.counts) head.now.start sheet.now) out.old out.new }
 {
     let n = head.counts;
     let sigma = after(sheet, 3 * n.states as usize);
@@ -257,7 +261,7 @@ pub fn diagnosed(out: &mut Output, text: &[u8], n: usize, log: &[u32])
 // All that is printed for a machine.
 pub fn machine(out: &mut Output, text: &[u8], head: &Head, sheet: &[u32])
     ensures { Puts (bytes_line text.now
-        ⨾ machine_lines text.now (counts_in head.now.counts) (span_in head.now.start) sheet.now) out.old out.new }
+        ⨾ machine_lines text.now (counts_in head.now.counts) head.now.start sheet.now) out.old out.new }
 {
     bytes_line(out, text);
     machine_lines(out, text, head, sheet);

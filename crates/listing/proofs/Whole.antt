@@ -9,7 +9,7 @@ use Rattle.language.specs.Outcome as L
 use Rattle.language.specs.Outcome.{ReadOutcome, read_outcome, refusal_of}
 use Rattle.language.specs.Plain.{◌⨾◌}
 use Rattle.machine.specs.declared.Head.{Head}
-use Rattle.machine.specs.Head.{span_in, counts_in}
+use Rattle.machine.specs.Head.{counts_in}
 use Rattle.machine.specs.Meaning.{head_in}
 use Rattle.std.specs.Prelude.{Result, Ok, Err}
 use Rattle.answer.specs.declared.Refusal.{Refusal}
@@ -28,7 +28,7 @@ use Rattle.list_lines.specs.Listing.{lines, listing, listed, bytes_line, machine
 -- ---- by the answer's case
 
 module _ (a : Result Answer Refusal) (text log sheet : List ℕ) {o r : Output} where
-  pub machine-listed : (x : Answer) (h : Head) → a ≡ Ok x → x ≡ Machine h → Puts (bytes_line text ⨾ machine_lines text (counts_in h.counts) (span_in h.start) sheet) o r
+  pub machine-listed : (x : Answer) (h : Head) → a ≡ Ok x → x ≡ Machine h → Puts (bytes_line text ⨾ machine_lines text (counts_in h.counts) h.start sheet) o r
       → Puts (lines text (read_in a log sheet)) o r
   unfolding lines head_in
   machine-listed x h e f w = rw (e, f) w

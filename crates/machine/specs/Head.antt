@@ -1,9 +1,6 @@
 -- The head by value, as the code has it, from the definition's, and back.
-use Rattle.lexer.specs.declared.Span as T
-use Rattle.diag.specs.declared.Span as D
 use Rattle.language.specs.Machine as M
 use Rattle.language.specs.Layout as L
-use Rattle.machine.specs.declared.Span.{Span}
 use Rattle.machine.specs.declared.Kind.{Kind}
 use Rattle.machine.specs.declared.Kind.TheVariants.{Acceptor, Transducer, Enumerator, Beaver}
 use Rattle.machine.specs.declared.BitOrder.{BitOrder}
@@ -13,14 +10,6 @@ use Rattle.machine.specs.declared.Decoder.TheVariants.{Word, Unary, Binary}
 use Rattle.machine.specs.declared.Declared.{Declared}
 use Rattle.machine.specs.declared.Counts.{Counts}
 use Rattle.machine.specs.declared.Head.{Head}
-
--- a place
-abbrev pub span_of : T.Span → Span
-span_of p = record { start = p.start; end = p.end }
-
--- that of a diagnostic
-abbrev pub span_from : D.Span → Span
-span_from p = record { start = p.start; end = p.end }
 
 -- the kind
 abbrev pub kind_of : M.Kind → Kind
@@ -52,22 +41,18 @@ counts_of n = record { states = n.states; sigma = n.sigma; gamma = n.gamma; fina
 unfoldable pub head_of : L.Head → Head
 head_of h = record {
   output = decoder_of h.output;
-  name = span_of h.name;
-  input = span_of h.input;
+  name = h.name;
+  input = h.input;
   kind = kind_of h.kind;
   tapes = h.tapes;
   blank = h.blank;
   declared = declared_of h.declared;
-  start = span_of h.start;
-  map = record { kind = span_of h.kind_place; input = span_of h.input_place; tapes = span_of h.tapes_place; start = span_of h.start_place; states = span_of h.states_place };
+  start = h.start;
+  map = record { kind = h.kind_place; input = h.input_place; tapes = h.tapes_place; start = h.start_place; states = h.states_place };
   counts = counts_of h.counts;
 }
 
 -- ---- and back
-
--- a place
-abbrev pub span_in : Span → T.Span
-span_in p = record { start = p.start; end = p.end }
 
 -- the kind
 abbrev pub kind_in : Kind → M.Kind
@@ -98,18 +83,18 @@ counts_in n = record { states = n.states; sigma = n.sigma; gamma = n.gamma; fina
 -- the head
 abbrev pub head_in : Head → L.Head
 head_in h = record {
-  name = span_in h.name;
-  input = span_in h.input;
+  name = h.name;
+  input = h.input;
   kind = kind_in h.kind;
   output = decoder_in h.output;
   tapes = h.tapes;
   blank = h.blank;
   declared = declared_in h.declared;
-  start = span_in h.start;
-  kind_place = span_in h.map.kind;
-  input_place = span_in h.map.input;
-  tapes_place = span_in h.map.tapes;
-  start_place = span_in h.map.start;
-  states_place = span_in h.map.states;
+  start = h.start;
+  kind_place = h.map.kind;
+  input_place = h.map.input;
+  tapes_place = h.map.tapes;
+  start_place = h.map.start;
+  states_place = h.map.states;
   counts = counts_in h.counts;
 }

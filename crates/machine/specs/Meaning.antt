@@ -2,7 +2,7 @@
 use Rattle.language.specs.Layout as L
 use Rattle.machine.specs.declared.Head.{Head}
 use Rattle.machine.specs.Head as M
-pub use Rattle.machine.specs.Head.{span_from, span_in, kind_in, order_in, decoder_in, declared_in, counts_in}
+pub use Rattle.machine.specs.Head.{kind_in, order_in, decoder_in, declared_in, counts_in}
 
 -- the head
 unfoldable pub head_in : Head → L.Head

@@ -3,25 +3,9 @@
 
 ghost use Rattle.std.specs.Prelude.{◌≡◌};
 ghost use Rattle.language.specs.Layout.{kind_number};
-ghost use Rattle.machine.specs.Meaning.{kind_in, span_from};
+ghost use Rattle.machine.specs.Meaning.{kind_in};
 
-// A half-open range of byte offsets (paper 01: place).
-#[derive(Clone, Copy, Debug, PartialEq, Eq)]
-pub struct Span {
-    pub start: u32,
-    pub end: u32,
-}
-
-impl From<diag::Span> for Span {
-    ghost from_gives = { λ p q. q ≡ span_from p };
-
-    fn from(place: diag::Span) -> Span {
-        Span {
-            start: place.start,
-            end: place.end,
-        }
-    }
-}
+pub use diag::Span;
 
 // What a machine is used for.
 #[derive(Clone, Copy, Debug, PartialEq, Eq)]
@@ -32,6 +16,7 @@ pub enum Kind {
     Beaver,
 }
 
+// Paper 01 numbers the kinds in the order of the enum. Assembler's `item_number` is this cast of another enum: a cast has nothing to share.
 impl From<Kind> for u32 {
     ghost from_gives = { λ k n. n ≡ kind_number (kind_in k) };
 
@@ -55,7 +40,7 @@ pub enum Decoder {
     Binary(BitOrder),
 }
 
-// Which parts were declared.
+// Which parts were declared: each flag of paper 01 says a thing of its own, and none says whether another field counts.
 #[derive(Clone, Copy, Debug, PartialEq, Eq)]
 pub struct Declared {
     pub states: bool,

@@ -18,6 +18,8 @@ pub struct Opened {
     pub found: Option<Search>,
 }
 
+// The log is not lent to what follows, so that the number of its records stands for it.
+
 // Opens a text that is not refused.
 fn admitted(text: &[u8], work: &mut [u32], records: usize, sheet: &mut [u32]) -> Opened
     requires { refusal_of text.now (length work.old) ≡ none }

@@ -1,6 +1,6 @@
 -- Each parser over the row does what the language's parser does on the tokens from the index on, up to what ends the line's tokens.
-use Rattle.parser.specs.declared.Code.{Code}
-use Rattle.parser.specs.declared.Code.TheVariants.{NoDirection}
+use Rattle.diag.specs.declared.Code.{Code}
+use Rattle.diag.specs.declared.Code.TheVariants.{NoDirection}
 use Rattle.std.specs.Prelude.{Err}
 use mathlib.Core.Path.{◌≡◌, refl, sym, ap, subst, ◌∙◌}
 use Prim.Native.Nat.{ℕ, zero, suc, ◌+◌, ◌-◌, ◌≤◌, ◌<◌}

@@ -1,5 +1,5 @@
 -- The elements of an item over the row are those of the language, and their values are what is seen in their tokens.
-use Rattle.parser.specs.declared.Code.TheVariants.{NoDirection}
+use Rattle.diag.specs.declared.Code.TheVariants.{NoDirection}
 use Rattle.std.specs.Prelude.{Err}
 use mathlib.Core.Path.{◌≡◌, refl, sym, ap, ◌∙◌}
 use Prim.Native.Nat.{ℕ, ◌+◌}

@@ -1,5 +1,5 @@
 -- What the words of a token say is what the views of the language say of the token.
-use Rattle.parser.specs.declared.Code.TheVariants.{Unexpected, UnterminatedString, NoDirection}
+use Rattle.diag.specs.declared.Code.TheVariants.{Unexpected, UnterminatedString, NoDirection}
 use mathlib.Core.Path.{◌≡◌, refl, sym, ap, subst, ◌∙◌}
 use Prim.Native.Nat.{ℕ, ◌+◌, ◌<◌}
 use native.Mathlib.Omega.{arith}

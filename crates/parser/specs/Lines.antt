@@ -3,9 +3,10 @@ use Rattle.std.specs.Prelude.{ℕ, zero, suc, ◌+◌, ◌-◌, Bool, true, fals
 use Rattle.parser.specs.Row.{peek}
 use Rattle.parser.specs.Views.{span_of, is_kind, is_choice, is_state, is_symbol, is_write, is_direction, is_text, keyword_of, lead_of}
 use Rattle.tokens.specs.declared.Token.{Token}
-use Rattle.lexer.specs.declared.Span.{Span}
-use Rattle.parser.specs.declared.Code.{Code}
-use Rattle.parser.specs.declared.Code.TheVariants.{Unexpected, UnterminatedString, NoDirection}
+use Rattle.diag.specs.declared.Span.{Span}
+unfoldable pub use Rattle.diag.specs.Codes.{code_number}
+use Rattle.diag.specs.declared.Code.{Code}
+use Rattle.diag.specs.declared.Code.TheVariants.{Unexpected, UnterminatedString, NoDirection}
 use Rattle.parser.specs.declared.Failure.{Failure}
 use Rattle.parser.specs.declared.Parts.{Parts}
 use Rattle.parser.specs.declared.ItemKind.{ItemKind}
@@ -34,12 +35,6 @@ Parser = List Token → ℕ → Parsed ℕ
 unfoldable pub then : {A B : Type 0} → Parsed A → (ℕ → A → Result B Failure) → Result B Failure
 then (Done i a) f = f i a
 then (Err bad) f = Err bad
-
--- the number of an error
-unfoldable pub code_number : Code → ℕ
-code_number Unexpected = 1
-code_number UnterminatedString = 2
-code_number NoDirection = 8
 
 -- the code of a token that is not what is due: E002 for an unterminated string, else E001
 unfoldable pub code_of : Token → Code

@@ -2,7 +2,7 @@
 use Rattle.std.specs.Prelude.{ℕ, ◌+◌, ◌-◌, ◌*◌, ◌≤◌, ◌<◌, ◌≡◌, Bool, true, false, cond, not, List, [], ◌∷◌, eqb, ltb, leb, length, None, Option, Some}
 use Rattle.parser.specs.Row.{peek}
 use Rattle.tokens.specs.declared.Token.{Token}
-use Rattle.lexer.specs.declared.Span.{Span}
+use Rattle.diag.specs.declared.Span.{Span}
 use Rattle.parser.specs.declared.ItemKind.{ItemKind}
 use Rattle.parser.specs.declared.ItemKind.TheVariants.{Machine, Kind, Input, Output, Tapes, States, InputAlphabet, TapeAlphabet, Blank, Start, Final, Transition}
 use Rattle.parser.specs.declared.Lead.{Lead}

@@ -1,15 +1,12 @@
 // Lines of a description, read from the tokens in a row of words (the source's dsl/parser.rs, Parser).
 #![tactic(auto)]
 
-ghost use Rattle.std.specs.Prelude.{◌≡◌};
-ghost use Rattle.parser.specs.Lines.{code_number};
-
 mod elements;
 pub mod items;
 mod row;
 pub mod view;
 
-use lexer::Span;
+use diag::{Code, Span};
 
 // What an item declares, or that it is a transition; in the source's order.
 #[derive(Clone, Copy, Debug, PartialEq, Eq)]
@@ -36,26 +33,8 @@ pub enum Lead {
     Whole,
 }
 
-// What is wrong with a line, by the source's numbers of the errors.
+// Why a line is refused, and the place that is wrong.
 #[derive(Clone, Copy, Debug, PartialEq, Eq)]
-pub enum Code {
-    Unexpected = 1,
-    UnterminatedString = 2,
-    NoDirection = 8,
-}
-
-impl Code {
-    // The number of the error.
-    #[tactic(auto, unfolding(crate::specs::Lines::code_number))]
-    pub fn number(self) -> u32
-        ensures { result ≡ code_number self }
-    {
-        self as u32
-    }
-}
-
-// Why a line is refused, and the place that is wrong; a lexer's span has no other derives to build on.
-#[derive(Clone, Copy)]
 pub struct Failure {
     pub code: Code,
     pub span: Span,

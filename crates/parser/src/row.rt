@@ -5,17 +5,25 @@ ghost use Rattle.parser.specs.Row.{tokens_in, peek};
 use lexer::kind;
 use tokens::Token;
 
-// The token at an index; past the last one, a line feed.
-pub(crate) fn token_at(work: &[u32], at: usize) -> Token
-    ensures { result ≡ peek (tokens_in work.now) at }
-{
-    if at < work.len() / 4 {
-        return tokens::token_at(work, at);
-    }
-    Token {
-        kind: kind::NEWLINE,
-        start: 0,
-        end: 0,
-        value: 0,
+// A row of words, four for each token; the parsers are its functions. Their number is not beside it, as in `Tokens`: a line is read to the end of its row.
+#[derive(Clone, Copy)]
+pub(crate) struct Row<'a> {
+    pub words: &'a [u32],
+}
+
+impl Row<'_> {
+    // The token at an index; past the last one, a line feed.
+    pub(crate) fn token(self, at: usize) -> Token
+        ensures { result ≡ peek (tokens_in self.entry.words.now) at }
+    {
+        if at < self.words.len() / 4 {
+            return tokens::token_at(self.words, at);
+        }
+        Token {
+            kind: kind::NEWLINE,
+            start: 0,
+            end: 0,
+            value: 0,
+        }
     }
 }

@@ -78,7 +78,8 @@ pub(crate) fn is_text(t: Token) -> bool
     t.kind < kind::STR || matches!(t.kind, kind::STAR | kind::OTHER)
 }
 
-// The item that a word starts: by its code if it is one character, else by its number among the keywords.
+// The item that a word starts: by its code if it is one character, else by its number among the keywords. Here and where choices are read these stay
+// numbers, since they are words of tokens, which C lends.
 #[tactic(auto, unfolding(crate::specs::Views::keyword_of, crate::specs::Views::lookup))]
 pub(crate) fn keyword(t: Token) -> Option<ItemKind>
     ensures { result ≡ keyword_of t }

@@ -1,5 +1,7 @@
 // The smallest pieces of the plain form: characters, symbols, what parts the members of a list, and the text of a string.
 // Each is appended to a lent output as crate `emit` does: stored where there is room, counted in any case.
+// They are no methods, since `Output` is of another crate. A character is a word and no `char`: of what a contract says is a scalar value,
+// `char::from_u32` would ask again.
 #![tactic(auto)]
 
 ghost use Rattle.std.specs.Prelude.{true, ◌&&◌, ◌≡◌, ◌∷◌, ltb};

@@ -6,7 +6,7 @@ use Prim.Native.Nat.{ℕ, ◌+◌}
 use native.Mathlib.Omega.{arith}
 use lib.ListN.{length}
 use Rattle.chars.specs.Utf8.{decode}
-use Rattle.lexer.specs.declared.Span.{Span}
+use Rattle.diag.specs.declared.Span.{Span}
 use Rattle.language.specs.Lines.{Line, read_lines}
 use Rattle.language.specs.Assembly as A
 use Rattle.language.specs.Outcome.{Refusal, refusal_of, zeros, refused, ReadOutcome, read_diagnostics, read_machine, read_with, read_outcome}

@@ -1,205 +1,278 @@
 -- The sections of the sheet one behind the other: what each asks of those before it, and what they leave together.
 use mathlib.Core.Path.{◌≡◌, refl, sym, ap, subst, ◌∙◌}
 use mathlib.Core.Bool.{Bool, true, false}
-use mathlib.Core.List.{List}
-use Prim.Native.Nat.{ℕ, ◌+◌, ◌*◌, ◌≤◌, ◌<◌, ◌^◌}
+use mathlib.Core.List.{List, ◌++◌}
+use Prim.Native.Nat.{ℕ, ◌+◌, ◌-◌, ◌*◌, ◌/◌, ◌≤◌, ◌<◌, ◌^◌}
 use native.Mathlib.Omega.{arith}
-use lib.ListN.{length, get_or}
+use lib.ListN.{length, get_or, take, drop, length-append, length-take, length-drop}
+use lib.Seq.{get_or-take, get_or-append-add, take-append_seam, take-append-add, drop-append-add, drop_at}
 use Rattle.tokens.specs.declared.Token.{Token}
+use Rattle.tokens.specs.Listed.{tokens_of}
 use Rattle.language.specs.Infer.{machine_of}
 use Rattle.language.specs.Layout as L
+use Rattle.language.proofs.ReadCounts.{rules-within}
+use Rattle.machine.specs.declared.Counts.{Counts}
+use Rattle.parser.specs.Row.{peek}
+use Rattle.parser.specs.Views.{is_state}
 use Rattle.assembler.specs.Rows.{rows}
 use Rattle.assembler.specs.Feeds.{Fed, CommentsLast}
 use Rattle.assembler.specs.Assembled.{has_states}
-use Rattle.sheet.specs.Stored.{Stored}
 use Rattle.sheet.specs.Comments.{text_words, header, trailing}
 use Rattle.sheet.specs.Rules.{rule_lengths}
-use Rattle.sheet.proofs.Writes.{stored_none, stored_append, stored_length}
-use Rattle.infer.specs.Page.{Kept}
-use Rattle.infer.specs.States.{Scratch, state_section, final_section}
-use Rattle.alphabet.specs.Codes.{held, Codes}
+use Rattle.sheet.specs.declared.put.Sheet.{Sheet}
+use Rattle.sheet.specs.Puts.{Held, held, Puts}
+use Rattle.sheet.proofs.Puts.{put_stored, puts_none, puts_as, ◌▹◌}
+use Rattle.infer.specs.States.{Inside, section, state_section, final_section}
+use Rattle.infer.proofs.Pages.{rows_front}
+use Rattle.infer.proofs.Widths.{states_width, finals_width}
 use Rattle.alphabet.specs.Alphabets.{gamma_codes, sigma_words, gamma_words}
-use Rattle.infer.proofs.Pages.{kept-rows}
+use Rattle.alphabet.proofs.SymbolWidths.{sigma_width, gamma_width}
 use Rattle.inferred.proofs.CodesFit.{codes_fit}
 use Rattle.answered.specs.Ready.{lines_of, Ready}
 use Rattle.answered.specs.Sections.{Sections, sections_of, joined}
-use Rattle.infer.proofs.Widths.{states_width, finals_width}
-use Rattle.alphabet.proofs.SymbolWidths.{sigma_width, gamma_width}
 use Rattle.answered.proofs.Ties.{few, row_size, fed, last, scratch, no_section, ties}
 use Rattle.answered.proofs.Sheets as T
-use Rattle.reader.specs.Sheet.{ends_of, Written}
+use Rattle.reader.specs.declared.sections.Source.{Source}
+use Rattle.reader.specs.Sheet.{work_of, Parted, sections_in, states_in, counts_of}
 
--- the codes of an undeclared Γ fit into the scratch rows
-pub code-count : (text : List ℕ) (count : ℕ) (w first : List ℕ) → Ready text count w first → (b : ℕ) → length (gamma_codes text b (rows count w) first) ≤ 2 * (length text + 1)
-code-count text count w first r b = codes_fit text b (rows count w) first (omega (arith, row_size text count w first r, few text count w first r))
+-- where words end that were stored
+pub put_at : (ws : List ℕ) (s r : Sheet) → (held s).at + length ws < 18446744073709551616 → Puts ws s r → (held r).at ≡ (held s).at + length ws
+put_at ws s r h u = ap (λ (h : Held). h.at) (u.puts ∙ put_stored ws s.row.now s.at h)
 
--- ---- the sections, one behind the other
-module _ (text : List ℕ) (count : ℕ) (w first : List ℕ) (r : Ready text count w first) where
+-- the ends of sections that stand one behind the other, in 32 bits
+pub record Ordered (a₁ a₂ a₃ a₄ a₅ a₆ : ℕ) : Type 0 where
+  pub states : (0 ≤ a₁) × (a₁ < 2 ^ 32)
+  pub sigma : (a₁ ≤ a₂) × (a₂ < 2 ^ 32)
+  pub gamma : (a₂ ≤ a₃) × (a₃ < 2 ^ 32)
+  pub finals : (a₃ ≤ a₄) × (a₄ < 2 ^ 32)
+  pub header : (a₄ ≤ a₅) × (a₅ < 2 ^ 32)
+  pub trailing : (a₅ ≤ a₆) × (a₆ < 2 ^ 32)
+
+module _ (s : Source) (row : List ℕ) (p : Parted s row) where
+  abbrev text : List ℕ
+  text = s.text.now
+
   abbrev size : ℕ
-  size = length text + 1
+  size = length s.text.now + 1
+
+  abbrev count : ℕ
+  count = s.tokens.count
+
+  abbrev w : List ℕ
+  w = work_of s row
+
+  abbrev first : List ℕ
+  first = s.assembled.now.first
 
   abbrev ts : List Token
-  ts = rows count w
+  ts = tokens_of s.tokens
 
-  -- the states, if there can be some
-  module _ (rules : ℕ) (b : Bool) (counted : rules ≡ length (machine_of (lines_of text)).rules) (asked : b ≡ has_states count first rules) where
+  r : Ready s.text.now s.tokens.count (work_of s row) s.assembled.now.first
+  r = p.assembles.ready
+
+  -- ---- the two parts of work
+  pub rows_same : rows s.tokens.count (work_of s row) ≡ tokens_of s.tokens
+  rows_same =
+      let words : List ℕ = s.tokens.words.now in
+      sym (rows_front count (length words) w (omega (arith, s.tokens.within)) (omega (arith, length-append words row))) ∙ ap (rows count) (take-append_seam words row)
+
+  pub row_long : 2 * (length s.text.now + 1) ≤ length row
+  row_long = omega (arith, r.room, p.cut, length-append s.tokens.words.now row)
+
+  pub tokens_few : s.tokens.count ≤ length s.text.now + 1
+  tokens_few = few text count w first r
+
+  pub tokens_size : length (tokens_of s.tokens) ≤ length s.text.now + 1
+  tokens_size = omega (arith, ap length rows_same, row_size text count w first r, tokens_few)
+
+  -- ---- the states, if there can be some
+  module _ (b : Bool) (asked : b ≡ has_states s.tokens.count s.assembled.now.first s.assembled.now.rules) where
     said : has_states count first (length (machine_of (lines_of text)).rules) ≡ b
-    said = ap (has_states count first) (sym counted) ∙ sym asked
+    said = ap (has_states count first) (sym p.assembles.rules) ∙ sym asked
 
-    pub states_scratch : b ≡ true → Scratch (length text + 1) count w
-    states_scratch y = scratch text count w first r (said ∙ y)
+    pub no_states : b ≡ false → (o : Sheet) → Puts (states_in s row) o o
+    no_states n o = puts_as (ap (λ (ts : List Token). state_section size ts first w) (sym rows_same) ∙ no_section text count w first r (said ∙ n)) (puts_none o)
 
-    pub no_states_stored : b ≡ false → (o : List ℕ) → Stored (state_section (length text + 1) (rows count w) first w) o 0 o 0
-    no_states_stored n o = stored_none (state_section (length text + 1) (rows count w) first w) o 0 (no_section text count w first r (said ∙ n))
+    module _ (firsts marks : List ℕ) (is-firsts : firsts ≡ take (length s.text.now + 1) row) (is-marks : marks ≡ drop (length s.text.now + 1) row) where
+      firsts_long : length firsts ≡ size
+      firsts_long = omega (arith, ap length is-firsts, length-take size row, row_long)
 
-  pub states_room : 0 + 9 * count + 3 < 2 ^ 64
-  states_room = omega (arith, few text count w first r, r.short)
+      pub firsts_few : s.tokens.count ≤ length firsts
+      firsts_few = omega (arith, firsts_long, tokens_few)
 
-  pub lengths_low : rule_lengths (rows count w) ≤ 262144 * (11 + 7 * count) + 2 * count
-  lengths_low = T.lengths_few text count w first r (ties text count w first r).shown
+      pub marks_long : length firsts ≤ length marks
+      marks_long = omega (arith, firsts_long, ap length is-marks, length-drop size row, row_long)
 
-  pub section-count : count < 2 ^ 32
-  section-count = omega (arith, few text count w first r, r.short)
+      pub firsts_low : b ≡ true → Inside s.tokens.count (tokens_of s.tokens) firsts
+      firsts_low y x h e =
+          let words : List ℕ = s.tokens.words.now in
+          let at : get_or firsts x 0 ≡ get_or w (4 * size + x) 0 =
+          ap (λ (l : List ℕ). get_or l x 0) is-firsts ∙ get_or-take size row x 0 (omega (arith, h, tokens_few)) ∙ sym (get_or-append-add words row x 0)
+          ∙ ap (λ (n : ℕ). get_or w (n + x) 0) p.cut in
+          omega (arith, at, firsts_long, (scratch text count w first r (said ∙ y)).low x h (ap (λ (ts : List Token). is_state (peek ts x)) rows_same ∙ e))
 
-  tokens_room : 4 * count ≤ length w
-  tokens_room = omega (arith, few text count w first r, r.room)
+      section_is : states_in s row ≡ section firsts (tokens_of s.tokens) s.assembled.now.first marks
+      unfolding state_section
+      section_is =
+          let words : List ℕ = s.tokens.words.now in
+          let five : 5 * size ≡ length words + size = omega (arith, p.cut) in
+          let here : drop (4 * size) (take (5 * size) w) ≡ firsts =
+          ap (λ (n : ℕ). drop (4 * size) (take n w)) five ∙ ap (drop (4 * size)) (take-append-add words row size) ∙ drop_at words (take size row) (4 * size) p.cut ∙ sym is-firsts in
+          let behind : drop (5 * size) w ≡ marks = ap (λ (n : ℕ). drop n w) five ∙ drop-append-add words row size ∙ sym is-marks in
+          rw (here, behind) refl
 
-  module _ (w₁ : List ℕ) (k₁ : Kept (5 * (length text + 1)) w w₁) where
-    row₁ : rows count w₁ ≡ rows count w
-    row₁ = kept-rows count (5 * size) w w₁ k₁ (omega (arith, few text count w first r)) (omega (arith, r.room))
+      pub states_put : {o o' : Sheet} → Puts (section firsts (tokens_of s.tokens) s.assembled.now.first marks) o o' → Puts (states_in s row) o o'
+      states_put u = puts_as section_is u
 
-    pub codes_base : 4 * count ≤ 4 * (length text + 1)
-    codes_base = omega (arith, few text count w first r)
+  -- ---- the tokens
+  pub tokens_fed : Fed (tokens_of s.tokens)
+  tokens_fed = subst Fed rows_same (fed text count w first r)
 
-    pub codes_room : (b : ℕ) → 4 * (length text + 1) + length (gamma_codes text b (rows count w₁) first) ≤ length w₁
-    codes_room b = omega (arith, codes_fit text b (rows count w₁) first (omega (arith, ap length row₁, row_size text count w first r, few text count w first r)), r.room, k₁.size)
+  pub comments_last : CommentsLast (tokens_of s.tokens)
+  comments_last = subst CommentsLast rows_same (last text count w first r)
 
-    module _ (b : ℕ) (w₂ : List ℕ) (n : ℕ) (c : Codes (4 * (length text + 1)) w₁ (gamma_codes text b (rows count w₁) first) w₂ n) where
-      long₂ : length w₂ ≡ length w
-      long₂ = c.kept.size ∙ k₁.size
+  pub count_low : s.tokens.count < 2 ^ 32
+  count_low = omega (arith, tokens_few, r.short)
 
-      row₂ : rows count w₂ ≡ rows count w
-      row₂ = kept-rows count (4 * size) w₁ w₂ c.kept codes_base (omega (arith, r.room, k₁.size)) ∙ row₁
+  pub expand_small : 9 * s.tokens.count + 11 < 2 ^ 32
+  expand_small = omega (arith, tokens_few, r.short)
 
-      codes₂ : held (4 * (length text + 1)) n w₂ ≡ gamma_codes text b (rows count w) first
-      codes₂ = c.codes ∙ ap (λ (ts : List Token). gamma_codes text b ts first) row₁
+  pub lengths_few : rule_lengths (tokens_of s.tokens) ≤ 262144 * (11 + 7 * s.tokens.count) + 2 * s.tokens.count
+  lengths_few = omega (arith, ap rule_lengths rows_same, T.lengths_few text count w first r (ties text count w first r).shown)
 
-      codes_low : n ≤ 2 * (length text + 1)
-      codes_low = omega (arith, c.count, ap (λ (ts : List Token). length (gamma_codes text b ts first)) row₁, code-count text count w first r b)
+  pub lengths_low : rule_lengths (tokens_of s.tokens) < 2 ^ 63
+  lengths_low = omega (arith, lengths_few, tokens_few, r.short)
 
-      pub held_room : 4 * (length text + 1) + n ≤ length w₂
-      held_room = omega (arith, codes_low, r.room, long₂)
+  pub lengths_fit : rule_lengths (tokens_of s.tokens) < 2 ^ 64
+  lengths_fit = omega (arith, lengths_low)
 
-      pub section-tokens : 4 * count ≤ length w₂
-      section-tokens = omega (arith, tokens_room, long₂)
+  pub rules_low : s.assembled.now.rules < 2 ^ 32
+  rules_low = omega (arith, p.assembles.rules, rules-within (lines_of text))
 
-      pub section_fed : Fed (rows count w₂)
-      section_fed = subst Fed (sym row₂) (fed text count w first r)
+  -- ---- the codes of an undeclared Γ, and all sections
+  module _ (b : ℕ) where
+    code_count : length (gamma_codes s.text.now b (tokens_of s.tokens) s.assembled.now.first) ≤ 2 * (length s.text.now + 1)
+    code_count = codes_fit text b ts first tokens_size
 
-      pub section_last : CommentsLast (rows count w₂)
-      section_last = subst CommentsLast (sym row₂) (last text count w first r)
+    pub codes_room : length (gamma_codes s.text.now b (tokens_of s.tokens) s.assembled.now.first) ≤ length row
+    codes_room = omega (arith, code_count, row_long)
 
-      pub lengths_are : (m : ℕ) → m ≡ rule_lengths (rows count w₂) → m ≡ rule_lengths (rows count w)
-      lengths_are m e = e ∙ ap rule_lengths row₂
+    abbrev x : Sections
+    x = sections_in s b row
 
-      pub lengths_room : rule_lengths (rows count w₂) < 2 ^ 64
-      lengths_room = omega (arith, lengths_are (rule_lengths (rows count w₂)) refl, lengths_low, few text count w first r, r.short)
+    pub joined_length : length (joined (sections_in s b row)) ≡ length (sections_in s b row).states + (length (sections_in s b row).sigma + (length (sections_in s b row).gamma + (length (sections_in s b row).finals + (length (sections_in s b row).header + length (sections_in s b row).trailing))))
+    joined_length =
+        omega (
+          arith,
+          length-append x.states (x.sigma ++ (x.gamma ++ (x.finals ++ (x.header ++ x.trailing)))),
+          length-append x.sigma (x.gamma ++ (x.finals ++ (x.header ++ x.trailing))),
+          length-append x.gamma (x.finals ++ (x.header ++ x.trailing)),
+          length-append x.finals (x.header ++ x.trailing),
+          length-append x.header x.trailing,
+        )
 
-      -- stage by stage: o₁ holds the states, q is where they end, and so on
-      module _ (o o₁ : List ℕ) (q : ℕ) (s₁ : Stored (state_section (length text + 1) (rows count w) first w) o 0 o₁ q) where
-        abbrev cs : List ℕ
-        cs = gamma_codes text b (rows count w) first
+    pub joined_low : length (joined (sections_in s b row)) ≤ 34 * (length s.text.now + 1) + 6
+    unfolding sections_of
+    joined_low =
+        let cs : List ℕ = gamma_codes text b ts first in
+        omega (
+          arith,
+          joined_length,
+          states_width size ts first w,
+          sigma_width b ts first cs,
+          gamma_width b ts first cs,
+          finals_width ts (get_or first 10 0),
+          ap (λ (ts : List Token). length (L.flat text_words (header ts))) rows_same,
+          T.header_few text count w first r (ties text count w first r).shown,
+          ap (λ (ts : List Token). length (L.flat text_words (trailing ts))) rows_same,
+          T.trailing_few text count w first r (ties text count w first r).shown,
+          code_count,
+          tokens_size,
+          tokens_few,
+        )
 
-        states_low : q ≤ 9 * count + 3
-        states_low = omega (arith, s₁.behind, states_width size ts first w, row_size text count w first r)
+    module _ (s₀ s₁ s₂ s₃ s₄ s₅ s₆ : Sheet) (front : (held s₀).at ≡ 0) (cs : List ℕ) (codes : cs ≡ gamma_codes s.text.now b (tokens_of s.tokens) s.assembled.now.first)
+        (u₁ : Puts (states_in s row) s₀ s₁)
+        (u₂ : Puts (sigma_words b (tokens_of s.tokens) s.assembled.now.first cs) s₁ s₂)
+        (u₃ : Puts (gamma_words b (tokens_of s.tokens) s.assembled.now.first cs) s₂ s₃)
+        (u₄ : Puts (final_section (tokens_of s.tokens) (get_or s.assembled.now.first 10 0)) s₃ s₄)
+        (u₅ : Puts (L.flat text_words (header (tokens_of s.tokens))) s₄ s₅)
+        (u₆ : Puts (L.flat text_words (trailing (tokens_of s.tokens))) s₅ s₆) where
+      v₁ : Puts x.states s₀ s₁
+      unfolding sections_of
+      v₁ = u₁
 
-        pub sigma_low : q < 2 ^ 62
-        sigma_low = omega (arith, states_low, few text count w first r, r.short)
+      v₂ : Puts x.sigma s₁ s₂
+      unfolding sections_of
+      v₂ = puts_as (ap (sigma_words b ts first) (sym codes)) u₂
 
-        module _ (o₂ : List ℕ) (a : ℕ) (s₂ : Stored (sigma_words b (rows count w₂) first (held (4 * (length text + 1)) n w₂)) o₁ q o₂ a) where
-          sigma₂ : Stored (sigma_words b (rows count w) first (gamma_codes text b (rows count w) first)) o₁ q o₂ a
-          sigma₂ =
-              subst (λ (cs : List ℕ). Stored (sigma_words b (rows count w) first cs) o₁ q o₂ a) codes₂
-              (subst (λ (ts : List Token). Stored (sigma_words b ts first (held (4 * (length text + 1)) n w₂)) o₁ q o₂ a) row₂ s₂)
+      v₃ : Puts x.gamma s₂ s₃
+      unfolding sections_of
+      v₃ = puts_as (ap (gamma_words b ts first) (sym codes)) u₃
 
-          end₂ : a ≤ 18 * (length text + 1) + 3
-          end₂ = omega (arith, states_low, sigma₂.behind, sigma_width b ts first cs, row_size text count w first r, few text count w first r, code-count text count w first r b)
+      v₄ : Puts x.finals s₃ s₄
+      unfolding sections_of
+      v₄ = u₄
 
-          pub gamma_low : a < 2 ^ 62
-          gamma_low = omega (arith, end₂, r.short)
+      v₅ : Puts x.header s₄ s₅
+      unfolding sections_of
+      v₅ = u₅
 
-          module _ (o₃ : List ℕ) (g : ℕ) (s₃ : Stored (gamma_words b (rows count w₂) first (held (4 * (length text + 1)) n w₂)) o₂ a o₃ g) where
-            gamma₃ : Stored (gamma_words b (rows count w) first (gamma_codes text b (rows count w) first)) o₂ a o₃ g
-            gamma₃ =
-                subst (λ (cs : List ℕ). Stored (gamma_words b (rows count w) first cs) o₂ a o₃ g) codes₂
-                (subst (λ (ts : List Token). Stored (gamma_words b ts first (held (4 * (length text + 1)) n w₂)) o₂ a o₃ g) row₂ s₃)
+      v₆ : Puts x.trailing s₅ s₆
+      unfolding sections_of
+      v₆ = u₆
 
-            end₃ : g ≤ 27 * (length text + 1) + 6
-            end₃ = omega (arith, end₂, gamma₃.behind, gamma_width b ts first cs, row_size text count w first r, few text count w first r, code-count text count w first r b)
+      pub sections-written : Puts (joined (sections_in s b row)) s₀ s₆
+      sections-written = v₁ ▹ v₂ ▹ v₃ ▹ v₄ ▹ v₅ ▹ v₆
 
-            pub finals_room : g + 2 * count < 2 ^ 64
-            finals_room = omega (arith, end₃, few text count w first r, r.short)
+      -- ---- where each ends
+      low : length (joined x) < 4294967296
+      low = omega (arith, joined_low, r.short)
 
-            module _ (d : ℕ) (there : d ≡ get_or first 10 0) (o₄ : List ℕ) (f : ℕ) (s₄ : Stored (final_section (rows count w₂) d) o₃ g o₄ f) where
-              finals₄ : Stored (final_section (rows count w) (get_or first 10 0)) o₃ g o₄ f
-              finals₄ =
-                  subst (λ (d : ℕ). Stored (final_section (rows count w) d) o₃ g o₄ f) there (subst (λ (ts : List Token). Stored (final_section ts d) o₃ g o₄ f) row₂ s₄)
+      at₁ : (held s₁).at ≡ length x.states
+      at₁ = omega (arith, front, put_at x.states s₀ s₁ (omega (arith, front, low, joined_length)) v₁)
 
-              end₄ : f ≤ 30 * (length text + 1) + 6
-              end₄ = omega (arith, end₃, finals₄.behind, finals_width ts (get_or first 10 0), row_size text count w first r, few text count w first r)
+      at₂ : (held s₂).at ≡ (held s₁).at + length x.sigma
+      at₂ = put_at x.sigma s₁ s₂ (omega (arith, at₁, low, joined_length)) v₂
 
-              header_few : length (L.flat text_words (header (rows count w₂))) ≤ 2 * count
-              header_few = omega (arith, ap (λ (ts : List Token). length (L.flat text_words (header ts))) row₂, T.header_few text count w first r (ties text count w first r).shown)
+      at₃ : (held s₃).at ≡ (held s₂).at + length x.gamma
+      at₃ = put_at x.gamma s₂ s₃ (omega (arith, at₁, at₂, low, joined_length)) v₃
 
-              pub header_room : f + length (L.flat text_words (header (rows count w₂))) < 2 ^ 64
-              header_room = omega (arith, end₄, header_few, few text count w first r, r.short)
+      at₄ : (held s₄).at ≡ (held s₃).at + length x.finals
+      at₄ = put_at x.finals s₃ s₄ (omega (arith, at₁, at₂, at₃, low, joined_length)) v₄
 
-              module _ (o₅ : List ℕ) (h : ℕ) (s₅ : Stored (L.flat text_words (header (rows count w₂))) o₄ f o₅ h) where
-                end₅ : h ≤ 32 * (length text + 1) + 6
-                end₅ = omega (arith, end₄, s₅.behind, header_few, few text count w first r)
+      at₅ : (held s₅).at ≡ (held s₄).at + length x.header
+      at₅ = put_at x.header s₄ s₅ (omega (arith, at₁, at₂, at₃, at₄, low, joined_length)) v₅
 
-                trailing_few : length (L.flat text_words (trailing (rows count w₂))) ≤ 2 * count
-                trailing_few = omega (arith, ap (λ (ts : List Token). length (L.flat text_words (trailing ts))) row₂, T.trailing_few text count w first r (ties text count w first r).shown)
+      at₆ : (held s₆).at ≡ (held s₅).at + length x.trailing
+      at₆ = put_at x.trailing s₅ s₆ (omega (arith, at₁, at₂, at₃, at₄, at₅, low, joined_length)) v₆
 
-                pub trailing_room : h + length (L.flat text_words (trailing (rows count w₂))) < 2 ^ 64
-                trailing_room = omega (arith, end₅, trailing_few, few text count w first r, r.short)
+      module _ (a₁ a₂ a₃ a₄ a₅ a₆ : ℕ) (b₁ : a₁ ≡ (held s₁).at) (b₂ : a₂ ≡ (held s₂).at) (b₃ : a₃ ≡ (held s₃).at) (b₄ : a₄ ≡ (held s₄).at) (b₅ : a₅ ≡ (held s₅).at) (b₆ : a₆ ≡ (held s₆).at) where
+        pub ordered : Ordered a₁ a₂ a₃ a₄ a₅ a₆
+        ordered =
+            let e₁ : a₁ ≡ length x.states = omega (arith, b₁, at₁) in
+            let e₂ : a₂ ≡ a₁ + length x.sigma = omega (arith, b₁, b₂, at₂) in
+            let e₃ : a₃ ≡ a₂ + length x.gamma = omega (arith, b₂, b₃, at₃) in
+            let e₄ : a₄ ≡ a₃ + length x.finals = omega (arith, b₃, b₄, at₄) in
+            let e₅ : a₅ ≡ a₄ + length x.header = omega (arith, b₄, b₅, at₅) in
+            let e₆ : a₆ ≡ a₅ + length x.trailing = omega (arith, b₅, b₆, at₆) in
+            record {
+              states = (omega arith, omega (arith, e₁, low, joined_length));
+              sigma = (omega (arith, e₂), omega (arith, e₁, e₂, low, joined_length));
+              gamma = (omega (arith, e₃), omega (arith, e₁, e₂, e₃, low, joined_length));
+              finals = (omega (arith, e₄), omega (arith, e₁, e₂, e₃, e₄, low, joined_length));
+              header = (omega (arith, e₅), omega (arith, e₁, e₂, e₃, e₄, e₅, low, joined_length));
+              trailing = (omega (arith, e₆), omega (arith, e₁, e₂, e₃, e₄, e₅, e₆, low, joined_length));
+            }
 
-                module _ (o₆ : List ℕ) (t : ℕ) (s₆ : Stored (L.flat text_words (trailing (rows count w₂))) o₅ h o₆ t) where
-                  abbrev s : Sections
-                  s = sections_of text b (rows count w) first w
-
-                  header₅ : Stored (L.flat text_words (header (rows count w))) o₄ f o₅ h
-                  header₅ = subst (λ (ts : List Token). Stored (L.flat text_words (header ts)) o₄ f o₅ h) row₂ s₅
-
-                  trailing₆ : Stored (L.flat text_words (trailing (rows count w))) o₅ h o₆ t
-                  trailing₆ = subst (λ (ts : List Token). Stored (L.flat text_words (trailing ts)) o₅ h o₆ t) row₂ s₆
-
-                  all : Stored (joined (sections_of text b (rows count w) first w)) o 0 o₆ t
-                  unfolding sections_of
-                  all =
-                      stored_append _ _ o o₁ o₆ 0 q t s₁ (stored_append _ _ o₁ o₂ o₆ q a t sigma₂ (stored_append _ _ o₂ o₃ o₆ a g t gamma₃
-                      (stored_append _ _ o₃ o₄ o₆ g f t finals₄ (stored_append _ _ o₄ o₅ o₆ f h t header₅ trailing₆))))
-
-                  pub sheet-same : length o₆ ≡ length o
-                  sheet-same = stored_length (joined s) o o₆ 0 t all
-
-                  pub work-same : length w₂ ≡ length w
-                  work-same = long₂
-
-                  pub rows_same : rows count w₂ ≡ rows count w
-                  rows_same = row₂
-
-                  pub sections-written : Written (sections_of text b (rows count w) first w) o o₆ (record { states = q; sigma = a; gamma = g; finals = f; header = h; trailing = t })
-                  unfolding sections_of ends_of
-                  sections-written =
-                      let zero_more : 0 + length (state_section (length text + 1) (rows count w) first w) ≡ length (state_section (length text + 1) (rows count w) first w) = omega arith in
-                      let e₁ : q ≡ length s.states = s₁.behind ∙ zero_more in
-                      let e₂ : a ≡ (ends_of s).sigma = sigma₂.behind ∙ ap (λ (n : ℕ). n + length s.sigma) e₁ in
-                      let e₃ : g ≡ (ends_of s).gamma = gamma₃.behind ∙ ap (λ (n : ℕ). n + length s.gamma) e₂ in
-                      let e₄ : f ≡ (ends_of s).finals = finals₄.behind ∙ ap (λ (n : ℕ). n + length s.finals) e₃ in
-                      let e₅ : h ≡ (ends_of s).header = header₅.behind ∙ ap (λ (n : ℕ). n + length s.header) e₄ in
-                      let e₆ : t ≡ (ends_of s).trailing = trailing₆.behind ∙ ap (λ (n : ℕ). n + length s.trailing) e₅ in
-                      record {
-                        words = all.words;
-                        ends = λ j. record { states = e₁ j; sigma = e₂ j; gamma = e₃ j; finals = e₄ j; header = e₅ j; trailing = e₆ j };
-                      }
+        -- how many members each has
+        pub counts_are : (m₁ m₂ m₃ m₄ m₅ m₆ n : ℕ) → m₁ ≡ (a₁ - 0) / 3 → m₂ ≡ (a₂ - a₁) / 3 → m₃ ≡ (a₃ - a₂) / 3 → m₄ ≡ (a₄ - a₃) / 2 → m₅ ≡ (a₅ - a₄) / 2 → m₆ ≡ (a₆ - a₅) / 2 → n ≡ s.assembled.now.rules
+            → ◌≡◌ {A = Counts} (record { states = m₁; sigma = m₂; gamma = m₃; finals = m₄; header = m₅; trailing = m₆; rules = n }) (counts_of (sections_in s b row) s.assembled.now.rules)
+        counts_are m₁ m₂ m₃ m₄ m₅ m₆ n e₁ e₂ e₃ e₄ e₅ e₆ q =
+            let c₁ : m₁ ≡ length x.states / 3 = omega (arith, e₁, b₁, at₁) in
+            let c₂ : m₂ ≡ length x.sigma / 3 = omega (arith, e₂, b₁, b₂, at₂) in
+            let c₃ : m₃ ≡ length x.gamma / 3 = omega (arith, e₃, b₂, b₃, at₃) in
+            let c₄ : m₄ ≡ length x.finals / 2 = omega (arith, e₄, b₃, b₄, at₄) in
+            let c₅ : m₅ ≡ length x.header / 2 = omega (arith, e₅, b₄, b₅, at₅) in
+            let c₆ : m₆ ≡ length x.trailing / 2 = omega (arith, e₆, b₅, b₆, at₆) in
+            λ j. record { states = c₁ j; sigma = c₂ j; gamma = c₃ j; finals = c₄ j; header = c₅ j; trailing = c₆ j; rules = q j }

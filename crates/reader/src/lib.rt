@@ -12,6 +12,8 @@ use answer::{Answer, Refusal, words};
 pub mod sections;
 pub mod written;
 
+// The calls below take the four slices one by one, as the C interface lends them.
+
 // Reads a text that is not refused.
 fn admitted(
     text: &[u8],
@@ -20,11 +22,13 @@ fn admitted(
     sheet: &mut [u32],
 ) -> Result<Answer, Refusal>
     requires { refusal_of text.now (length work.old) ≡ none }
-    ensures { (read_in result log.new sheet.new ≡ read_outcome text.now (length work.old) log.old sheet.old) × (leaves_work result ≡ false) }
+    ensures { (read_in result log.new sheet.new ≡ read_outcome text.now (length work.old) log.old sheet.old)
+        × (leaves_work result ≡ false) }
 {
     let count = lexer::tokenize(text, work);
     let a = assembler::assemble(text, work, count, log);
-    if 0 < a.errors {
+    let faulty = 0 < a.errors;
+    if faulty {
         sheet.fill(0);
         return report::report(log, a.errors, work);
     }
@@ -39,7 +43,8 @@ pub fn read(
     log: &mut [u32],
     sheet: &mut [u32],
 ) -> Result<Answer, Refusal>
-    ensures { (read_in result log.new sheet.new ≡ read_outcome text.now (length work.old) log.old sheet.old) × (leaves_work result ≡ true → work.new ≡ work.old) }
+    ensures { (read_in result log.new sheet.new ≡ read_outcome text.now (length work.old) log.old sheet.old)
+        × (leaves_work result ≡ true → work.new ≡ work.old) }
 {
     admission::check(text, work.len())?;
     admitted(text, work, log, sheet)
@@ -54,7 +59,9 @@ pub extern "C" fn pevzoncs_read(
     sheet: &mut [u32],
     answer: &mut [u32],
 ) -> u32
-    ensures { (given result answer.new log.new sheet.new ≡ given_by (read_outcome text.now (length work.old) log.old sheet.old) answer.old) × (leaves_work_number result ≡ true → work.new ≡ work.old) }
+    ensures { (given result answer.new log.new sheet.new
+        ≡ given_by (read_outcome text.now (length work.old) log.old sheet.old) answer.old)
+        × (leaves_work_number result ≡ true → work.new ≡ work.old) }
 {
     words::give(read(text, work, log, sheet), answer)
 }

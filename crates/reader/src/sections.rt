@@ -1,107 +1,101 @@
 // The sections of the sheet before the rules.
-ghost use Rattle.std.specs.Prelude.{◌≡◌, ◌+◌, ◌*◌, ◌^◌, ◌<◌, length};
-ghost use Rattle.assembler.specs.Rows.{rows};
-ghost use Rattle.sheet.specs.Stored.{Stored};
+ghost use Rattle.std.specs.Prelude.{◌≡◌, ◌-◌, ◌/◌, ◌^◌, ◌≤◌, ◌<◌};
+ghost use Rattle.tokens.specs.Listed.{tokens_of};
 ghost use Rattle.sheet.specs.Rules.{rule_lengths};
-ghost use Rattle.infer.specs.Page.{Kept};
-ghost use Rattle.infer.specs.States.{state_section};
-ghost use Rattle.answered.specs.Sections.{sections_of};
-ghost use Rattle.reader.specs.Sheet.{Assembles, Ordered, Written, counts_at};
+ghost use Rattle.sheet.specs.Puts.{held, Puts};
+ghost use Rattle.answered.specs.Sections.{joined};
 
-use alphabet::symbols;
+use alphabet::glyphs::Symbols;
 use assembler::Assembled;
-use infer::{finals, states};
+use infer::finals;
+use infer::names::Names;
 use machine::Counts;
+use parser::ItemKind;
 use sheet::comments;
+use sheet::put::Sheet;
+use tokens::Tokens;
 
-// Where each of the sections ends.
-#[derive(Clone, Copy, Debug, PartialEq, Eq)]
-pub struct Ends {
-    pub states: usize,
-    pub sigma: usize,
-    pub gamma: usize,
-    pub finals: usize,
-    pub header: usize,
-    pub trailing: usize,
-}
-
-impl Ends {
-    // How many members the sections have, and n rules.
-    pub fn counts(self, rules: usize) -> Counts
-        requires { Ordered self × (rules < 2 ^ 32) }
-        ensures { result ≡ counts_at self rules }
-    {
-        Counts {
-            states: (self.states / 3) as u32,
-            sigma: ((self.sigma - self.states) / 3) as u32,
-            gamma: ((self.gamma - self.sigma) / 3) as u32,
-            finals: ((self.finals - self.gamma) / 2) as u32,
-            header: ((self.header - self.finals) / 2) as u32,
-            trailing: ((self.trailing - self.header) / 2) as u32,
-            rules: rules as u32,
-        }
-    }
-}
-
-// These, and how many words the rules take behind them.
+// How many members the sections have, and how many words the rules take behind them.
 #[derive(Clone, Copy, Debug, PartialEq, Eq)]
 pub struct Measured {
-    pub ends: Ends,
+    pub counts: Counts,
     pub rules: usize,
 }
 
-// The section of states; nothing where there can be none, for then no names were looked for.
-fn states_section(
-    text: &[u8],
-    work: &mut [u32],
-    count: usize,
-    a: &Assembled,
-    sheet: &mut [u32],
-) -> usize
-    requires { Assembles text.now count work.old a.now }
-    ensures kept { Kept (5 * (length text.now + 1)) work.old work.new }
-    ensures stored { Stored (state_section (length text.now + 1) (rows count work.old) a.now.first work.old) sheet.old 0 sheet.new result }
+// How many members of so many words stand from an index to before another.
+fn members(from: usize, to: usize, size: u32) -> u32
+    requires between { (from ≤ to) × (to < 2 ^ 32) }
+    requires size { 0 < size }
+    ensures { result ≡ (to - from) / size }
 {
-    if !assembler::has_states(count, &a.first, a.rules) {
-        return 0;
-    }
-    states::section(work, count, text.len() + 1, &a.first, sheet, 0)
+    (to - from) as u32 / size
 }
 
-// The sections, stored where there is room and counted in any case.
-pub fn sections(
-    text: &[u8],
-    work: &mut [u32],
-    count: usize,
-    a: &Assembled,
-    blank: u32,
-    sheet: &mut [u32],
-) -> Measured
-    requires { Assembles text.now count work.old a.now }
-    ensures rows { rows count work.new ≡ rows count work.old }
-    ensures size { length work.new ≡ length work.old }
-    ensures written { Written (sections_of text.now blank (rows count work.old) a.now.first work.old) sheet.old sheet.new result.ends }
-    ensures lengths { result.rules ≡ rule_lengths (rows count work.old) }
-{
-    let first = &a.first;
-    let base = 4 * (text.len() + 1);
-    let states = states_section(text, work, count, a, sheet);
-    let n = symbols::gamma_codes(text, work, count, base, first, blank);
-    let sigma = symbols::sigma(work, count, base, n, first, blank, sheet, states);
-    let gamma = symbols::gamma(work, count, base, n, first, blank, sheet, sigma);
-    let finals = finals::section(work, count, first[10] as usize, sheet, gamma);
-    let h = comments::header(work, count, sheet, finals);
-    let trailing = comments::trailing(work, count, h.left, sheet, h.end);
-    let ends = Ends {
-        states,
-        sigma,
-        gamma,
-        finals,
-        header: h.end,
-        trailing,
-    };
-    Measured {
-        ends,
-        rules: h.rules,
+// A text without diagnostics: its tokens, whose lines have entries, and what assembling them gave.
+#[derive(Clone, Copy)]
+pub struct Source<'t, 'w> {
+    pub text: &'t [u8],
+    pub tokens: Tokens<'w>,
+    pub assembled: &'t Assembled,
+}
+
+impl Source<'_, '_> {
+    ghost use Rattle.reader.specs.Sheet.{Parted, sections_in, states_in, counts_of};
+
+    // The section of states; nothing where there can be none, for then no names were looked for.
+    // Behind the tokens stand the row of first equal words and the marks.
+    fn states(&self, row: &mut [u32], sheet: &mut Sheet)
+        requires { Parted self.now row.old }
+        ensures { Puts (states_in self.now row.old) sheet.old sheet.new }
+    {
+        let Assembled { first, rules, .. } = self.assembled;
+        if !assembler::has_states(self.tokens.count, first, *rules) {
+            return;
+        }
+        let (firsts, marks) = row.split_at_mut(self.text.len() + 1);
+        let names = Names {
+            tokens: self.tokens,
+            firsts,
+        };
+        names.section(first, marks, sheet);
+    }
+
+    // The sections, stored where there is room and counted in any case.
+    pub fn sections(&self, blank: u32, row: &mut [u32], sheet: &mut Sheet) -> Measured
+        requires parted { Parted self.now row.old }
+        requires front { (held sheet.old).at ≡ 0 }
+        ensures written { Puts (joined (sections_in self.now blank row.old)) sheet.old sheet.new }
+        ensures counts { result.counts ≡ counts_of (sections_in self.now blank row.old) self.now.assembled.now.rules }
+        ensures lengths { result.rules ≡ rule_lengths (tokens_of self.now.tokens) }
+    {
+        let tokens = self.tokens;
+        let first = &self.assembled.first;
+        let symbols = Symbols { tokens, blank };
+        self.states(row, sheet);
+        let states = sheet.at();
+        let n = symbols.gamma_codes(self.text, first, row);
+        symbols.sigma(&row[..n], first, sheet);
+        let sigma = sheet.at();
+        symbols.gamma(&row[..n], first, sheet);
+        let gamma = sheet.at();
+        finals::places(&tokens, first[ItemKind::Final as usize], sheet);
+        let finals = sheet.at();
+        let h = comments::header(sheet, &tokens);
+        let header = sheet.at();
+        comments::trailing(sheet, &tokens, h.left);
+        let trailing = sheet.at();
+        let counts = Counts {
+            states: members(0, states, 3),
+            sigma: members(states, sigma, 3),
+            gamma: members(sigma, gamma, 3),
+            finals: members(gamma, finals, 2),
+            header: members(finals, header, 2),
+            trailing: members(header, trailing, 2),
+            rules: self.assembled.rules as u32,
+        };
+        Measured {
+            counts,
+            rules: h.rules,
+        }
     }
 }

@@ -5,36 +5,49 @@ ghost use Rattle.answered.specs.Ready.{lines_of};
 ghost use Rattle.answer.specs.Answer.{read_in};
 ghost use Rattle.reader.specs.Sheet.{Assembles};
 
-use crate::sections;
-use crate::sections::Measured;
+use crate::sections::{Measured, Source};
 use answer::{Answer, Refusal};
 use assembler::Assembled;
 use infer::states;
-use machine::Span;
+use parser::ItemKind;
 use sheet::expand;
+use sheet::put::Sheet;
+use tokens::Tokens;
 
 // The machine of a text without diagnostics. Only the words behind it are cleared: those that it takes are written over.
-pub fn machine(
-    text: &[u8],
+// Work and the number of its tokens are as assembly leaves them; here they become the tokens and the words behind.
+pub fn machine<'t>(
+    text: &'t [u8],
     work: &mut [u32],
     count: usize,
-    a: &Assembled,
+    a: &'t Assembled,
     sheet: &mut [u32],
 ) -> Result<Answer, Refusal>
     requires { Assembles text.now count work.old a.now }
     ensures { (n : ℕ) → read_in result (zeros n) sheet.new ≡ read_machine (lines_of text.now) n (length sheet.old) }
 {
-    let blank = head::blank_at(work, count, a.first[8]);
-    let Measured { ends, rules } = sections::sections(text, work, count, a, blank, sheet);
-    let needed = ends.trailing + rules;
-    if sheet.len() < needed {
+    let size = text.len() + 1;
+    let (words, row) = work.split_at_mut(4 * size);
+    let tokens = Tokens { words, count };
+    let source = Source {
+        text,
+        tokens,
+        assembled: a,
+    };
+    let blank = head::blank_at(&tokens, a.first[ItemKind::Blank as usize]);
+    let room = sheet.len();
+    let mut page = Sheet::new(sheet, 0);
+    let Measured { counts, rules } = source.sections(blank, row, &mut page);
+    let needed = page.at() + rules;
+    if room < needed {
         sheet.fill(0);
         return Err(Refusal::SheetTooShort(needed as u64));
     }
-    let size = text.len() + 1;
-    expand::rules(work, count, 4 * size, 5 * size, blank, sheet, ends.trailing);
-    let state = Span::from(states::first_state(sheet, 0, ends.states));
-    let head = head::head(work, count, &a.first, state, ends.counts(a.rules));
+    let (entries, members) = row.split_at_mut(size);
+    expand::rules(&mut page, &tokens, blank, entries, members);
+    let states = 3 * counts.states as usize;
+    let state = states::first_state(sheet, 0, states);
+    let head = head::head(&tokens, &a.first, state, counts);
     sheet[needed..].fill(0);
     Ok(Answer::Machine(head))
 }

@@ -14,7 +14,9 @@ pub extern "C" fn pevzoncs_read(
     sheet: &mut [u32],
     answer: &mut [u32],
 ) -> u32
-    ensures { (given result answer.new log.new sheet.new ≡ given_by (read_outcome text.now (length work.old) log.old sheet.old) answer.old) × (leaves_work_number result ≡ true → work.new ≡ work.old) }
+    ensures { (given result answer.new log.new sheet.new
+        ≡ given_by (read_outcome text.now (length work.old) log.old sheet.old) answer.old)
+        × (leaves_work_number result ≡ true → work.new ≡ work.old) }
 {
     reader::pevzoncs_read(text, work, log, sheet, answer)
 }

@@ -12,6 +12,8 @@ use answer::{Answer, Refusal, words};
 use diag::Diagnostic;
 use diagnostics::Search;
 
+// The calls below take the four slices one by one, as the C interface lends them.
+
 // The log of an admitted text: the diagnostics of the search, sorted, and unused records behind them.
 fn report(text: &[u8], work: &mut [u32], log: &mut [Diagnostic], found: Option<Search>)
     requires { IfSome found (Reports text.now work.old (length log.old)) }
@@ -31,7 +33,8 @@ pub fn read(
     log: &mut [Diagnostic],
     sheet: &mut [u32],
 ) -> Result<Answer, Refusal>
-    ensures { (read_in result log.new sheet.new ≡ read_records text.now (length work.old) log.old sheet.old) × (leaves_work result ≡ true → work.new ≡ work.old) }
+    ensures { (read_in result log.new sheet.new ≡ read_records text.now (length work.old) log.old sheet.old)
+        × (leaves_work result ≡ true → work.new ≡ work.old) }
 {
     let opened = opening::open(text, work, log.len(), sheet)?;
     report(text, work, log, opened.found);
@@ -47,7 +50,9 @@ pub extern "C" fn pevzoncs_read_records(
     sheet: &mut [u32],
     answer: &mut [u32],
 ) -> u32
-    ensures { (given result answer.new log.new sheet.new ≡ given_by (read_records text.now (length work.old) log.old sheet.old) answer.old) × (leaves_work_number result ≡ true → work.new ≡ work.old) }
+    ensures { (given result answer.new log.new sheet.new
+        ≡ given_by (read_records text.now (length work.old) log.old sheet.old) answer.old)
+        × (leaves_work_number result ≡ true → work.new ≡ work.old) }
 {
     words::give(read(text, work, log, sheet), answer)
 }

@@ -17,7 +17,9 @@ pub extern "C" fn pevzoncs_read_records(
     sheet: &mut [u32],
     answer: &mut [u32],
 ) -> u32
-    ensures { (given result answer.new log.new sheet.new ≡ given_by (read_records text.now (length work.old) log.old sheet.old) answer.old) × (leaves_work_number result ≡ true → work.new ≡ work.old) }
+    ensures { (given result answer.new log.new sheet.new
+        ≡ given_by (read_records text.now (length work.old) log.old sheet.old) answer.old)
+        × (leaves_work_number result ≡ true → work.new ≡ work.old) }
 {
     reading::pevzoncs_read_records(text, work, log, sheet, answer)
 }

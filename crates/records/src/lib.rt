@@ -1,4 +1,5 @@
-// The log as a slice of diagnostic records.
+// The log as a slice of diagnostic records. A log is the caller's whole row, and how much of it is in use stands beside it: each contract says too that what
+// is behind stays as it was.
 #![tactic(auto)]
 
 ghost use Rattle.std.specs.Prelude.{◌≡◌, ◌++◌, ◌+◌, ◌*◌, ◌<◌, ◌≤◌, ◌^◌, length, set, replicate, get_or, take, drop};
@@ -26,7 +27,7 @@ pub fn append(log: &mut [Diagnostic], count: usize, d: Diagnostic) -> usize
     count + 1
 }
 
-// Sets every record to zero.
+// Sets every record to zero. More than `fill`: what zero is, is said here once for the callers.
 pub fn clear(log: &mut [Diagnostic])
     ensures { log.new ≡ replicate (length log.old) unused }
 {

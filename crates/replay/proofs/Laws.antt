@@ -2,6 +2,7 @@
 use Rattle.std.proofs.Common.{◌≡◌, ℕ, suc, ◌+◌, ◌-◌, ◌*◌, ◌/◌, ◌<◌, ◌≤◌, Bool, true, false, ◌&&◌, eqb, leb, List, [], ◌∷◌, ◌++◌, length, get_or, take, drop, replicate, sym, refl, ap, ◌∙◌, add-one, arith, length-drop, drop_of_length-le, length-take, take_all, drop-cons, get_or-take, le-ltb, lt-ltb, eq-eqb, ne_eqb, le-leb, leb-true}
 use mathlib.Core.Bool.{false≢true}
 use borrow.Author.Tests.{lt-leb, eqb-false}
+use borrow.Author.Rules.{rules}
 use Rattle.language.specs.Outcome.{ReadOutcome, read_outcome, reply_words, reply_number, WriteOutcome, WriteReply, write_outcome, write_words}
 use Rattle.lexer.proofs.Scans.{by_test}
 use Rattle.answer.specs.declared.Refusal.TheVariants.{TextTooLong, WorkTooShort, InvalidUtf8, OutsideSet, LogTooShort, SheetTooShort}
@@ -13,7 +14,7 @@ use Rattle.answer.specs.Answer.{reply_in, read_in, leaves_work}
 use Rattle.reader.specs.Reading.{leaves_work_number}
 use Rattle.writer.specs.Given.{Given, given, given_by}
 use Rattle.reply.specs.Words.{answer_row}
-use Rattle.replay.specs.Case.{word_at, marked, wanted, left_from, left, rows_left, work_left, byte_wanted, output_from, output_left, output_at, agrees, form_agrees, Within, lengths_fit, reading_agrees, writing_agrees}
+use Rattle.replay.specs.Case.{word_at, marked, wanted, left_from, left, rows_left, work_left, output_from, output_left, output_at, agrees, form_agrees, Within, lengths_fit, reading_agrees, writing_agrees}
 
 -- ---- a word
 module _ (c : List ℕ) (i : ℕ) where
@@ -76,39 +77,30 @@ module _ (before c : List ℕ) (from m : ℕ) (row : List ℕ) where
       rw (le-leb (marked m) (length row) k) (sym (ap (left_from before c from m i) (drop_of_length-le row h)) ∙ inv)
 
 -- ---- an output, likewise
-module _ (c : List ℕ) (from n : ℕ) where
-  pub byte_in : (i : ℕ) → i < n → get_or c (from + i) 0 ≡ byte_wanted c from n i
-  unfolding byte_wanted
-  byte_in i h = rw (lt-ltb i n h)
+module _ (stored row : List ℕ) where
+  pub output_short : length row < length stored → false ≡ output_left stored row
+  unfolding output_left
+  output_short h = rw (lt-leb (length stored) (length row) h)
 
-  pub byte_out : (i : ℕ) → n ≤ i → 165 ≡ byte_wanted c from n i
-  unfolding byte_wanted
-  byte_out i h = rw (le-ltb i n h)
+  module _ (i : ℕ) (v : Bool) (inv : output_from stored i (drop i row) ≡ v) (h : i < length row) where
+    output-parted : (eqb (get_or row i 0) (get_or stored i 165) && output_from stored (suc i) (drop (suc i) row)) ≡ v
+    unfolding output_from
+    output-parted = sym (ap (output_from stored i) (drop-cons row i 0 h)) ∙ inv
 
-  module _ (row : List ℕ) where
-    pub output_short : length row < n → false ≡ output_left c from n row
+    pub output_on : get_or row i 0 ≡ get_or stored i 165 → output_from stored (i + 1) (drop (i + 1) row) ≡ v
+    output_on q =
+        let p : (eqb (get_or row i 0) (get_or stored i 165) && output_from stored (suc i) (drop (suc i) row)) ≡ output_from stored (suc i) (drop (suc i) row) = rw (eq-eqb (get_or row i 0) (get_or stored i 165) q) in
+        rw add-one (sym p ∙ output-parted)
+
+    pub output_off : length stored ≤ length row → (get_or row i 0 ≡ get_or stored i 165 → ⊥) → v ≡ output_from stored 0 row → false ≡ output_left stored row
     unfolding output_left
-    output_short h = rw (lt-leb n (length row) h)
+    output_off k f j =
+        let p : (eqb (get_or row i 0) (get_or stored i 165) && output_from stored (suc i) (drop (suc i) row)) ≡ false = rw (ne_eqb (get_or row i 0) (get_or stored i 165) f) in
+        rw (le-leb (length stored) (length row) k) (sym p ∙ output-parted ∙ j)
 
-    module _ (i : ℕ) (v : Bool) (inv : output_from c from n i (drop i row) ≡ v) (h : i < length row) (w : ℕ) (e : w ≡ byte_wanted c from n i) where
-      output-parted : (eqb (get_or row i 0) w && output_from c from n (suc i) (drop (suc i) row)) ≡ v
-      unfolding output_from
-      output-parted = rw e (sym (ap (output_from c from n i) (drop-cons row i 0 h)) ∙ inv)
-
-      pub output_on : get_or row i 0 ≡ w → output_from c from n (i + 1) (drop (i + 1) row) ≡ v
-      output_on q =
-          let p : (eqb (get_or row i 0) w && output_from c from n (suc i) (drop (suc i) row)) ≡ output_from c from n (suc i) (drop (suc i) row) = rw (eq-eqb (get_or row i 0) w q) in
-          rw add-one (sym p ∙ output-parted)
-
-      pub output_off : n ≤ length row → (get_or row i 0 ≡ w → ⊥) → v ≡ output_from c from n 0 row → false ≡ output_left c from n row
-      unfolding output_left
-      output_off k f j =
-          let p : (eqb (get_or row i 0) w && output_from c from n (suc i) (drop (suc i) row)) ≡ false = rw (ne_eqb (get_or row i 0) w f) in
-          rw (le-leb n (length row) k) (sym p ∙ output-parted ∙ j)
-
-    pub output-end : (i : ℕ) → output_from c from n i (drop i row) ≡ output_from c from n 0 row → length row ≤ i → n ≤ length row → true ≡ output_left c from n row
-    unfolding output_left output_from
-    output-end i inv h k = rw (le-leb n (length row) k) (sym (ap (output_from c from n i) (drop_of_length-le row h)) ∙ inv)
+  pub output-end : (i : ℕ) → output_from stored i (drop i row) ≡ output_from stored 0 row → length row ≤ i → length stored ≤ length row → true ≡ output_left stored row
+  unfolding output_left output_from
+  output-end i inv h k = rw (le-leb (length stored) (length row) k) (sym (ap (output_from stored i) (drop_of_length-le row h)) ∙ inv)
 
 -- ---- the rows of a case
 module _ (before c log sheet : List ℕ) (m : ℕ) (e : m ≡ word_at c 6) where
@@ -212,9 +204,9 @@ module _ (c : List ℕ) (end : ℕ) (row : List ℕ) (n m : ℕ) (em : m ≡ wor
   unfolding output_at
   output-before h = rw (← stored, lt-ltb end n h)
 
-  pub output_there : n ≤ end → (r : Bool) → r ≡ output_left c (end - n) n row → r ≡ output_at c end row
+  pub output_there : n ≤ end → (r : Bool) → r ≡ output_left (take (end - (end - n)) (drop (end - n) c)) row → r ≡ output_at c end row
   unfolding output_at
-  output_there h r q = rw (← stored, le-ltb end n h) q
+  output_there h r q = let k : end - (end - n) ≡ n = omega arith in rw (← stored, le-ltb end n h) (rw k at q)
 
 pub soiled_form : (before c text work work' log log' sheet sheet' out out' : List ℕ) (end : ℕ) (r : Bool) → length work ≤ length before → work' ≡ take (length work) before → log' ≡ take (length log) before → sheet' ≡ take (length sheet) before → out' ≡ replicate (length out) 165 → r ≡ form_agrees before c end (write_outcome text (length work') log' sheet' out') → r ≡ form_agrees before c end (write_outcome text (length work) (take (length log) before) (take (length sheet) before) (replicate (length out) 165))
 soiled_form before c text work work' log log' sheet sheet' out out' end r h ew el es eo q =
@@ -263,8 +255,10 @@ module _ (before c : List ℕ) (end n : ℕ) (row row' log sheet out : List ℕ)
           k ∙ sym g ∙ form-output_of
 
 -- ---- a case
-text_part : (c : List ℕ) (n : ℕ) → n ≤ length c → take (length c - (length c - n)) (drop (length c - n) c) ≡ drop (length c - n) c
-text_part c n h = take_all (length c - (length c - n)) (drop (length c - n) c) (simp length-drop (omega arith))
+
+-- the text of a case, as it is cut
+pub text_from : (c : List ℕ) (k : ℕ) → take (length c - k) (drop k c) ≡ drop k c
+text_from c k = take_all (length c - k) (drop k c) (simp length-drop (omega arith))
 
 -- whether the lengths fit
 module _ (c : List ℕ) where
@@ -311,9 +305,6 @@ module _ (before c : List ℕ) (k : Bool) (ek : k ≡ lengths_fit c) where
     write_long o eo h = rw (← ek, yes, ← eo, lt-leb o 65536 h)
 
     module _ (w l s n : ℕ) (ew : w ≡ word_at c 2) (el : l ≡ word_at c 3) (es : s ≡ word_at c 4) (en : n ≡ word_at c 1) (within : Within c) (r : Bool) (work log sheet : List ℕ) (a : w ≤ length work) (b : l ≤ length log) (d : s ≤ length sheet) where
-      inside : n ≤ length c
-      inside = omega (arith, within.text)
-
       a' : length (take w work) ≡ w
       a' = simp length-take (omega arith)
 
@@ -325,10 +316,17 @@ module _ (before c : List ℕ) (k : Bool) (ek : k ≡ lengths_fit c) where
 
       pub case_read : r ≡ agrees before c (read_outcome (take (length c - (length c - n)) (drop (length c - n) c)) (length (take w work)) (take (length (take l log)) before) (take (length (take s sheet)) before)) → r ≡ reading_agrees before c
       unfolding reading_agrees
-      case_read q = rw (← ek, yes, ← ew, ← el, ← es, ← en) (rw (text_part c n inside, a', b', d') at q)
+      case_read q = rw (← ek, yes, ← ew, ← el, ← es, ← en) (rw (text_from c (length c - n), a', b', d') at q)
 
-      pub case_written : (o : ℕ) (out : List ℕ) → o ≡ word_at c 5 → o ≤ 65536 → o ≤ length out → r ≡ form_agrees before c (length c - n) (write_outcome (take (length c - (length c - n)) (drop (length c - n) c)) (length (take w work)) (take (length (take l log)) before) (take (length (take s sheet)) before) (replicate (length (take o out)) 165)) → r ≡ writing_agrees before c
+      pub case_written : (o : ℕ) (out : List ℕ) → o ≡ word_at c 5 → o ≤ 65536 → o ≤ length out → r ≡ form_agrees before c (length c - n) (write_outcome (drop (length c - n) c) (length (take w work)) (take (length (take l log)) before) (take (length (take s sheet)) before) (replicate (length (take o out)) 165)) → r ≡ writing_agrees before c
       unfolding writing_agrees
       case_written o out eo ho f q =
           let f' : length (take o out) ≡ o = simp length-take (omega arith) in
-          rw (← ek, yes, ← eo, le-leb o 65536 ho, ← ew, ← el, ← es, ← en) (rw (text_part c n inside, a', b', d', f') at q)
+          rw (← ek, yes, ← eo, le-leb o 65536 ho, ← ew, ← el, ← es, ← en) (rw (a', b', d', f') at q)
+
+-- ---- what functions without a proof file are proved by
+pub ruleset fits = (rules, fits_work, fits_log, fits_sheet, fits_text, fits_within, fits_never)
+
+pub ruleset soiled = (rules, fronted, soiled_read, soiled_form)
+
+pub ruleset outputs = (rules, output_short, output_on, output_off, output-end)

@@ -1,5 +1,5 @@
 -- A stored case (oracle/src/store.rs has its layout), and when an outcome is the stored one.
-use Rattle.std.specs.Prelude.{ℕ, suc, ◌+◌, ◌-◌, ◌*◌, ◌/◌, ◌≤◌, Bool, true, false, cond, ◌&&◌, List, [], ◌∷◌, length, take, drop, replicate, ◌==◌, nat_le, nat_lt, slice_index}
+use Rattle.std.specs.Prelude.{ℕ, suc, ◌+◌, ◌-◌, ◌*◌, ◌/◌, ◌≤◌, Bool, true, false, cond, ◌&&◌, List, [], ◌∷◌, length, take, drop, replicate, ◌==◌, nat_le, nat_lt, slice_index, get_or}
 use Rattle.language.specs.Outcome.{ReadOutcome, reply_words, read_outcome, WriteOutcome, write_words, write_outcome}
 use Rattle.reader.specs.Reading.{leaves_work_number}
 
@@ -42,33 +42,37 @@ work_left n before c work = cond (leaves_work_number n) (left before c 0 4294967
 unfoldable pub agrees : List ℕ → List ℕ → ReadOutcome → Bool
 agrees before c o = left before c 9 36 (reply_words o.reply) && rows_left before c o.log o.sheet
 
--- the byte that is to stand at i of an output of which n bytes are stored from `from` on: behind them that of before the call, 165
-unfoldable pub byte_wanted : List ℕ → ℕ → ℕ → ℕ → ℕ
-byte_wanted c from n i = cond (nat_lt i n) (slice_index c (from + i)) 165
-
--- whether an output holds what is to stand there, from i on
-unfoldable pub output_from : List ℕ → ℕ → ℕ → ℕ → List ℕ → Bool
-unfolding byte_wanted
-output_from c from n i [] = true
-output_from c from n i (x ∷ xs) = x == byte_wanted c from n i && output_from c from n (suc i) xs
+-- whether an output holds what is to stand there, from i on: the bytes that are stored, and behind them that of before the call, 165
+unfoldable pub output_from : List ℕ → ℕ → List ℕ → Bool
+output_from stored i [] = true
+output_from stored i (x ∷ xs) = x == get_or stored i 165 && output_from stored (suc i) xs
 
 -- whether an output is left as stored, with room for all that is stored
-unfoldable pub output_left : List ℕ → ℕ → ℕ → List ℕ → Bool
+unfoldable pub output_left : List ℕ → List ℕ → Bool
 unfolding output_from
-output_left c from n row = nat_le n (length row) && output_from c from n 0 row
+output_left stored row = nat_le (length stored) (length row) && output_from stored 0 row
+
+-- the last n bytes of a case before an offset
+abbrev pub bytes_before : List ℕ → ℕ → ℕ → List ℕ
+bytes_before c end n = take n (drop (end - n) c)
 
 -- whether it is where what is stored ends at an offset; the word 8 is its mark
 unfoldable pub output_at : List ℕ → ℕ → List ℕ → Bool
-output_at c end row = cond (nat_lt end (marked (word_at c 8))) false (output_left c (end - marked (word_at c 8)) (marked (word_at c 8)) row)
+output_at c end row = cond (nat_lt end (marked (word_at c 8))) false (output_left (bytes_before c end (marked (word_at c 8))) row)
 
 -- whether an outcome of writing is the stored one, with the first words of the answer at the word 45
 unfoldable pub form_agrees : List ℕ → List ℕ → ℕ → WriteOutcome → Bool
 form_agrees before c end o =
     left before c 45 3 (write_words o.reply) && (rows_left before c o.log o.sheet && output_at c end o.output)
 
--- the program's buffers: what they hold before a call, work, log and sheet
-pub record Rooms (b w l s : List ℕ) : Type 0 where
-  pub before : 40960 ≤ length b
+-- the rows that are lent to a call are fronts of what they hold before it: work, log and sheet
+pub record Fronts (b w l s : List ℕ) : Type 0 where
+  pub work : length w ≤ length b
+  pub log : length l ≤ length b
+  pub sheet : length s ≤ length b
+
+-- the program's buffers: work, log and sheet
+pub record Rooms (w l s : List ℕ) : Type 0 where
   pub work : 40960 ≤ length w
   pub log : 16384 ≤ length l
   pub sheet : 16384 ≤ length s

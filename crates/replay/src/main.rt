@@ -3,13 +3,15 @@
 // for each case that differs, and how many of each kind of answer agreed.
 #![tactic(auto)]
 
-ghost use Rattle.std.specs.Prelude.{◌≡◌, ◌+◌, ◌<◌, ◌≤◌, true, length, take, replicate, IfOk};
+ghost use Rattle.std.specs.Prelude.{◌≡◌, ◌<◌, ◌≤◌, true, length, take, drop, replicate, IfOk};
 ghost use Rattle.language.specs.Outcome.{read_outcome, write_outcome};
-ghost use Rattle.replay.specs.Case.{word_at, marked, wanted, left, rows_left, work_left, agrees, byte_wanted, output_left, output_at, form_agrees, Rooms, Within, lengths_fit, reading_agrees, writing_agrees};
+ghost use Rattle.replay.specs.Case.{word_at, marked, wanted, left, rows_left, work_left, agrees, output_left, output_at};
+ghost use Rattle.replay.specs.Case.{form_agrees, Fronts, Rooms, Within, lengths_fit, reading_agrees, writing_agrees};
 
 use std::io::{self, Read};
 
-// The mark that says that a row is left untouched.
+// The mark that says that a row is left untouched. A mark is no Option, since it is a word of the stored case (oracle/src/store.rs), and the definitions read
+// it as it is stored.
 const UNTOUCHED: u32 = 0xffff_ffff;
 // Bytes of a case in front of the log's words.
 const HEAD: usize = 192;
@@ -51,88 +53,20 @@ fn marked(mark: u32) -> usize
     if mark == UNTOUCHED { 0 } else { mark as usize }
 }
 
-// The word that is to stand at i.
-fn wanted(before: &[u32], case: &[u8], from: usize, mark: u32, i: usize) -> u32
-    requires { (i < length before.now) × (from < 8589934592) }
-    ensures { result ≡ wanted before.now case.now from mark i }
+// Whether an output begins with the bytes that are stored, and holds behind them what was there before.
+#[tactic(auto, using(crate::proofs::Laws::outputs))]
+fn output_left(stored: &[u8], output: &[u8]) -> bool
+    ensures { result ≡ output_left stored.now output.now }
 {
-    if mark == UNTOUCHED {
-        before[i]
-    } else if i < mark as usize {
-        word_at(case, from + i)
-    } else {
-        0
-    }
-}
-
-// Whether a row is left as stored.
-fn left(before: &[u32], case: &[u8], from: usize, mark: u32, row: &[u32]) -> bool
-    requires { (length row.now ≤ length before.now) × (from < 8589934592) }
-    ensures { result ≡ left before.now case.now from mark row.now }
-{
-    if row.len() < marked(mark) {
-        return false;
-    }
-    for i in 0..row.len() {
-        if row[i] != wanted(before, case, from, mark, i) {
-            return false;
-        }
-    }
-    true
-}
-
-// Whether work is as an answer of this number leaves it: untouched by refusals 1 and 2.
-fn work_left(number: u32, before: &[u32], case: &[u8], work: &[u32]) -> bool
-    requires { length work.now ≤ length before.now }
-    ensures { result ≡ work_left number before.now case.now work.now }
-{
-    match number {
-        1 | 2 => left(before, case, 0, UNTOUCHED, work),
-        _ => true,
-    }
-}
-
-// Whether log and sheet are left as stored.
-fn rows_left(before: &[u32], case: &[u8], log: &[u32], sheet: &[u32]) -> bool
-    requires { (length log.now ≤ length before.now) × (length sheet.now ≤ length before.now) }
-    ensures { result ≡ rows_left before.now case.now log.now sheet.now }
-{
-    let m = word_at(case, 6);
-    let from = 48 + marked(m);
-    left(before, case, 48, m, log) && left(before, case, from, word_at(case, 7), sheet)
-}
-
-// The byte that is to stand at i of an output of which n bytes are stored from `from` on; what was there before behind them.
-fn byte_wanted(case: &[u8], from: usize, n: usize, i: usize) -> u8
-    requires { from + n ≤ length case.now }
-    ensures { result ≡ byte_wanted case.now from n i }
-{
-    if i < n { case[from + i] } else { DIRT }
-}
-
-// Whether an output is left as stored.
-fn output_left(case: &[u8], from: usize, n: usize, output: &[u8]) -> bool
-    requires { from + n ≤ length case.now }
-    ensures { result ≡ output_left case.now from n output.now }
-{
-    if output.len() < n {
+    if output.len() < stored.len() {
         return false;
     }
     for i in 0..output.len() {
-        if output[i] != byte_wanted(case, from, n, i) {
+        if output[i] != stored.get(i).copied().unwrap_or(DIRT) {
             return false;
         }
     }
     true
-}
-
-// Whether an output is left as stored, where what is stored ends at an offset.
-fn output_at(case: &[u8], end: usize, output: &[u8]) -> bool
-    requires { end ≤ length case.now }
-    ensures { result ≡ output_at case.now end output.now }
-{
-    let n = marked(word_at(case, 8));
-    n <= end && output_left(case, end - n, n, output)
 }
 
 // Fills a row with the front of another.
@@ -150,164 +84,222 @@ fn soil_output(output: &mut [u8])
     output.fill(DIRT);
 }
 
-// Whether a reading call of a text, with dirty buffers, agrees with what is stored.
-fn answer_agrees(
-    before: &[u32],
-    case: &[u8],
-    text: &[u8],
-    work: &mut [u32],
-    log: &mut [u32],
-    sheet: &mut [u32],
-) -> bool
-    requires { (40960 ≤ length before.now) × (work.old ≡ take (length work.old) before.now) × (length work.old ≤ length before.now) × (length log.old ≤ length before.now) × (length sheet.old ≤ length before.now) }
-    ensures { result ≡ agrees before.now case.now (read_outcome text.now (length work.old) log.old sheet.old) }
-{
-    let answer = answer::words::answer_words(reader::read(text, work, log, sheet));
-    left(before, case, 9, 36, &answer)
-        && rows_left(before, case, log, sheet)
-        && work_left(answer[0], before, case, work)
+// A stored case, and what the rows of words hold before a call.
+#[derive(Clone, Copy)]
+struct Stored<'a> {
+    case: &'a [u8],
+    before: &'a [u32],
+    ghost enough: { 40960 ≤ length before.now },
 }
 
-// The same with any buffers, which are filled with the front of `before` first.
-fn read_agrees(
-    before: &[u32],
-    case: &[u8],
-    text: &[u8],
-    work: &mut [u32],
-    log: &mut [u32],
-    sheet: &mut [u32],
-) -> bool
-    requires { (40960 ≤ length before.now) × (length work.old ≤ length before.now) × (length log.old ≤ length before.now) × (length sheet.old ≤ length before.now) }
-    ensures { result ≡ agrees before.now case.now (read_outcome text.now (length work.old) (take (length log.old) before.now) (take (length sheet.old) before.now)) }
-{
-    soil(before, work);
-    soil(before, log);
-    soil(before, sheet);
-    answer_agrees(before, case, text, work, log, sheet)
-}
+// The rows that are lent to a call stay parameters of their own: a struct of them was tried, and of a struct that is lent itself the borrow checker
+// does not cover parts of several fields lent at once.
+impl Stored<'_> {
+    // The word that is to stand at i.
+    fn wanted(&self, from: usize, mark: u32, i: usize) -> u32
+        requires { (i < length self.now.before.now) × (from < 8589934592) }
+        ensures { result ≡ wanted self.now.before.now self.now.case.now from mark i }
+    {
+        if mark == UNTOUCHED {
+            self.before[i]
+        } else if i < mark as usize {
+            word_at(self.case, from + i)
+        } else {
+            0
+        }
+    }
 
-// Whether a writing call of a text, with dirty buffers, agrees with what is stored; the output's bytes end at an offset.
-fn form_agrees(
-    before: &[u32],
-    case: &[u8],
-    end: usize,
-    text: &[u8],
-    work: &mut [u32],
-    log: &mut [u32],
-    sheet: &mut [u32],
-    output: &mut [u8],
-) -> bool
-    requires { (40960 ≤ length before.now) × (work.old ≡ take (length work.old) before.now) × (length work.old ≤ length before.now) × (length log.old ≤ length before.now) × (length sheet.old ≤ length before.now) × (end ≤ length case.now) }
-    ensures { result ≡ form_agrees before.now case.now end (write_outcome text.now (length work.old) log.old sheet.old output.old) }
-{
-    let mut answer = [7u32; 36];
-    let number = writer::pevzoncs_write(text, work, log, sheet, output, &mut answer);
-    left(before, case, 45, 3, &answer)
-        && rows_left(before, case, log, sheet)
-        && output_at(case, end, output)
-        && work_left(number, before, case, work)
-}
+    // Whether a row is left as stored.
+    fn left(&self, from: usize, mark: u32, row: &[u32]) -> bool
+        requires { (length row.now ≤ length self.now.before.now) × (from < 8589934592) }
+        ensures { result ≡ left self.now.before.now self.now.case.now from mark row.now }
+    {
+        if row.len() < marked(mark) {
+            return false;
+        }
+        for i in 0..row.len() {
+            if row[i] != self.wanted(from, mark, i) {
+                return false;
+            }
+        }
+        true
+    }
 
-// The same with any buffers, which are filled first.
-fn write_agrees(
-    before: &[u32],
-    case: &[u8],
-    end: usize,
-    text: &[u8],
-    work: &mut [u32],
-    log: &mut [u32],
-    sheet: &mut [u32],
-    output: &mut [u8],
-) -> bool
-    requires { (40960 ≤ length before.now) × (length work.old ≤ length before.now) × (length log.old ≤ length before.now) × (length sheet.old ≤ length before.now) × (end ≤ length case.now) }
-    ensures { result ≡ form_agrees before.now case.now end (write_outcome text.now (length work.old) (take (length log.old) before.now) (take (length sheet.old) before.now) (replicate (length output.old) 165)) }
-{
-    soil(before, work);
-    soil(before, log);
-    soil(before, sheet);
-    soil_output(output);
-    form_agrees(before, case, end, text, work, log, sheet, output)
-}
+    // Whether work is as an answer of this number leaves it: untouched by refusals 1 and 2.
+    fn work_left(&self, number: u32, work: &[u32]) -> bool
+        requires { length work.now ≤ length self.now.before.now }
+        ensures { result ≡ work_left number self.now.before.now self.now.case.now work.now }
+    {
+        match number {
+            1 | 2 => self.left(0, UNTOUCHED, work),
+            _ => true,
+        }
+    }
 
-// Whether the lengths of a case are within the program's buffers, and its text within the case.
-fn lengths_fit(case: &[u8]) -> bool
-    ensures { (result ≡ lengths_fit case.now) × (result ≡ true → Within case.now) }
-{
-    if WORK < size_at(case, 2) {
-        return false;
+    // Whether log and sheet are left as stored.
+    fn rows_left(&self, log: &[u32], sheet: &[u32]) -> bool
+        requires { (length log.now ≤ length self.now.before.now) × (length sheet.now ≤ length self.now.before.now) }
+        ensures { result ≡ rows_left self.now.before.now self.now.case.now log.now sheet.now }
+    {
+        let m = word_at(self.case, 6);
+        let from = 48 + marked(m);
+        self.left(48, m, log) && self.left(from, word_at(self.case, 7), sheet)
     }
-    if ROW < size_at(case, 3) {
-        return false;
-    }
-    if ROW < size_at(case, 4) {
-        return false;
-    }
-    size_at(case, 1) <= case.len()
-}
 
-// Whether the reading call agrees with a case; one whose lengths are beyond the program's buffers does not.
-fn reading_agrees(
-    before: &[u32],
-    case: &[u8],
-    work: &mut [u32],
-    log: &mut [u32],
-    sheet: &mut [u32],
-) -> bool
-    requires { Rooms before.now work.old log.old sheet.old }
-    ensures { result ≡ reading_agrees before.now case.now }
-{
-    if !lengths_fit(case) {
-        return false;
+    // Whether an output is left as stored, where what is stored ends at an offset.
+    fn output_at(&self, end: usize, output: &[u8]) -> bool
+        requires { end ≤ length self.now.case.now }
+        ensures { result ≡ output_at self.now.case.now end output.now }
+    {
+        let n = marked(word_at(self.case, 8));
+        n <= end && output_left(&self.case[end - n..end], output)
     }
-    let w = size_at(case, 2);
-    let l = size_at(case, 3);
-    let s = size_at(case, 4);
-    let n = size_at(case, 1);
-    let e = case.len();
-    read_agrees(
-        before,
-        case,
-        &case[e - n..e],
-        &mut work[..w],
-        &mut log[..l],
-        &mut sheet[..s],
-    )
-}
 
-// Whether the writing call does.
-fn writing_agrees(
-    before: &[u32],
-    case: &[u8],
-    work: &mut [u32],
-    log: &mut [u32],
-    sheet: &mut [u32],
-    output: &mut [u8],
-) -> bool
-    requires { Rooms before.now work.old log.old sheet.old × (65536 ≤ length output.old) }
-    ensures { result ≡ writing_agrees before.now case.now }
-{
-    if !lengths_fit(case) {
-        return false;
+    // Whether a reading call of a text, with dirty buffers, agrees with what is stored.
+    fn answer_agrees(
+        &self,
+        text: &[u8],
+        work: &mut [u32],
+        log: &mut [u32],
+        sheet: &mut [u32],
+    ) -> bool
+        requires fronts { Fronts self.now.before.now work.old log.old sheet.old }
+        requires soiled { work.old ≡ take (length work.old) self.now.before.now }
+        ensures { result ≡ agrees self.now.before.now self.now.case.now
+            (read_outcome text.now (length work.old) log.old sheet.old) }
+    {
+        let answer = answer::words::answer_words(reader::read(text, work, log, sheet));
+        self.left(9, 36, &answer) && self.rows_left(log, sheet) && self.work_left(answer[0], work)
     }
-    let o = size_at(case, 5);
-    if OUTPUT < o {
-        return false;
+
+    // The same with any buffers, which are filled with the front of `before` first.
+    #[tactic(auto, using(crate::proofs::Laws::soiled))]
+    fn read_agrees(&self, text: &[u8], work: &mut [u32], log: &mut [u32], sheet: &mut [u32]) -> bool
+        requires { Fronts self.now.before.now work.old log.old sheet.old }
+        ensures { result ≡ agrees self.now.before.now self.now.case.now (read_outcome text.now (length work.old)
+            (take (length log.old) self.now.before.now) (take (length sheet.old) self.now.before.now)) }
+    {
+        soil(self.before, work);
+        soil(self.before, log);
+        soil(self.before, sheet);
+        self.answer_agrees(text, work, log, sheet)
     }
-    let w = size_at(case, 2);
-    let l = size_at(case, 3);
-    let s = size_at(case, 4);
-    let n = size_at(case, 1);
-    let e = case.len();
-    write_agrees(
-        before,
-        case,
-        e - n,
-        &case[e - n..e],
-        &mut work[..w],
-        &mut log[..l],
-        &mut sheet[..s],
-        &mut output[..o],
-    )
+
+    // Whether a writing call of the text that begins at an offset agrees with what is stored; the output's bytes end there.
+    fn form_agrees(
+        &self,
+        end: usize,
+        work: &mut [u32],
+        log: &mut [u32],
+        sheet: &mut [u32],
+        output: &mut [u8],
+    ) -> bool
+        requires fronts { Fronts self.now.before.now work.old log.old sheet.old }
+        requires soiled { work.old ≡ take (length work.old) self.now.before.now }
+        requires inside { end ≤ length self.now.case.now }
+        ensures { result ≡ form_agrees self.now.before.now self.now.case.now end
+            (write_outcome (drop end self.now.case.now) (length work.old) log.old sheet.old output.old) }
+    {
+        let mut answer = [7u32; 36];
+        let text = &self.case[end..];
+        let number = writer::pevzoncs_write(text, work, log, sheet, output, &mut answer);
+        self.left(45, 3, &answer)
+            && self.rows_left(log, sheet)
+            && self.output_at(end, output)
+            && self.work_left(number, work)
+    }
+
+    // The same with any buffers, which are filled first.
+    #[tactic(auto, using(crate::proofs::Laws::soiled))]
+    fn write_agrees(
+        &self,
+        end: usize,
+        work: &mut [u32],
+        log: &mut [u32],
+        sheet: &mut [u32],
+        output: &mut [u8],
+    ) -> bool
+        requires fronts { Fronts self.now.before.now work.old log.old sheet.old }
+        requires inside { end ≤ length self.now.case.now }
+        ensures { result ≡ form_agrees self.now.before.now self.now.case.now end (write_outcome (drop end self.now.case.now)
+            (length work.old) (take (length log.old) self.now.before.now) (take (length sheet.old) self.now.before.now)
+            (replicate (length output.old) 165)) }
+    {
+        soil(self.before, work);
+        soil(self.before, log);
+        soil(self.before, sheet);
+        soil_output(output);
+        self.form_agrees(end, work, log, sheet, output)
+    }
+
+    // Whether the lengths of a case are within the program's buffers, and its text within the case.
+    #[tactic(auto, using(crate::proofs::Laws::fits))]
+    fn lengths_fit(&self) -> bool
+        ensures { (result ≡ lengths_fit self.now.case.now) × (result ≡ true → Within self.now.case.now) }
+    {
+        if WORK < size_at(self.case, 2) {
+            return false;
+        }
+        if ROW < size_at(self.case, 3) {
+            return false;
+        }
+        if ROW < size_at(self.case, 4) {
+            return false;
+        }
+        size_at(self.case, 1) <= self.case.len()
+    }
+
+    // Whether the reading call agrees with a case; one whose lengths are beyond the program's buffers does not.
+    fn reading_agrees(&self, work: &mut [u32], log: &mut [u32], sheet: &mut [u32]) -> bool
+        requires { Rooms work.old log.old sheet.old }
+        ensures { result ≡ reading_agrees self.now.before.now self.now.case.now }
+    {
+        if !self.lengths_fit() {
+            return false;
+        }
+        let begin = self.case.len() - size_at(self.case, 1);
+        let w = size_at(self.case, 2);
+        let l = size_at(self.case, 3);
+        let s = size_at(self.case, 4);
+        self.read_agrees(
+            &self.case[begin..],
+            &mut work[..w],
+            &mut log[..l],
+            &mut sheet[..s],
+        )
+    }
+
+    // Whether the writing call does.
+    fn writing_agrees(
+        &self,
+        work: &mut [u32],
+        log: &mut [u32],
+        sheet: &mut [u32],
+        output: &mut [u8],
+    ) -> bool
+        requires rooms { Rooms work.old log.old sheet.old }
+        requires output { 65536 ≤ length output.old }
+        ensures { result ≡ writing_agrees self.now.before.now self.now.case.now }
+    {
+        if !self.lengths_fit() {
+            return false;
+        }
+        let o = size_at(self.case, 5);
+        if OUTPUT < o {
+            return false;
+        }
+        let begin = self.case.len() - size_at(self.case, 1);
+        let w = size_at(self.case, 2);
+        let l = size_at(self.case, 3);
+        let s = size_at(self.case, 4);
+        self.write_agrees(
+            begin,
+            &mut work[..w],
+            &mut log[..l],
+            &mut sheet[..s],
+            &mut output[..o],
+        )
+    }
 }
 
 // Words that no answer is likely to hold, all different.
@@ -382,21 +374,21 @@ fn count(
 fn replay_case(
     rt: &impl Print,
     i: u32,
-    before: &[u32],
-    case: &[u8],
+    stored: Stored,
     work: &mut [u32],
     log: &mut [u32],
     sheet: &mut [u32],
     output: &mut [u8],
     tally: &mut [u32; 18],
 ) -> io::Result<()>
-    requires { Rooms before.now work.old log.old sheet.old × (65536 ≤ length output.old) }
+    requires rooms { Rooms work.old log.old sheet.old }
+    requires output { 65536 ≤ length output.old }
 {
-    let r = reading_agrees(before, case, work, log, sheet);
-    let k = kind(word_at(case, 9));
+    let r = stored.reading_agrees(work, log, sheet);
+    let k = kind(word_at(stored.case, 9));
     count(rt, r, k, tally, "reading differs: case ", i)?;
-    let w = writing_agrees(before, case, work, log, sheet, output);
-    let l = 9 + kind(word_at(case, 45));
+    let w = stored.writing_agrees(work, log, sheet, output);
+    let l = 9 + kind(word_at(stored.case, 45));
     count(rt, w, l, tally, "writing differs: case ", i)
 }
 
@@ -406,18 +398,24 @@ fn replay(
     input: &mut impl Read,
     n: u32,
     before: &[u32],
-    case: &mut [u8],
     work: &mut [u32],
     log: &mut [u32],
     sheet: &mut [u32],
     output: &mut [u8],
     tally: &mut [u32; 18],
 ) -> io::Result<()>
-    requires { (32768 ≤ length case.old) × Rooms before.now work.old log.old sheet.old × (65536 ≤ length output.old) }
+    requires before { 40960 ≤ length before.now }
+    requires rooms { Rooms work.old log.old sheet.old }
+    requires output { 65536 ≤ length output.old }
 {
+    let mut case = [0u8; CASE];
     for i in 0..n {
-        let e = load(input, case)?;
-        replay_case(rt, i, before, &case[..e], work, log, sheet, output, tally)?;
+        let e = load(input, &mut case)?;
+        let stored = Stored {
+            case: &case[..e],
+            before,
+        };
+        replay_case(rt, i, stored, work, log, sheet, output, tally)?;
     }
     Ok(())
 }
@@ -433,12 +431,11 @@ fn say_kinds(rt: &impl Print, tally: &[u32; 18], from: usize) -> io::Result<()>
 }
 
 fn main(rt: HostRuntime) -> io::Result<()> {
-    let mut before = [0u32; 40_960];
-    let mut case = [0u8; 32_768];
-    let mut work = [0u32; 40_960];
-    let mut log = [0u32; 16_384];
-    let mut sheet = [0u32; 16_384];
-    let mut output = [0u8; 65_536];
+    let mut before = [0u32; WORK];
+    let mut work = [0u32; WORK];
+    let mut log = [0u32; ROW];
+    let mut sheet = [0u32; ROW];
+    let mut output = [0u8; OUTPUT];
     let mut tally = [0u32; 18];
     let mut first = [0u8; 4];
     scatter(&mut before);
@@ -450,7 +447,6 @@ fn main(rt: HostRuntime) -> io::Result<()> {
         &mut stdin,
         n,
         &before,
-        &mut case,
         &mut work,
         &mut log,
         &mut sheet,

@@ -46,7 +46,7 @@ impl WriteRefusal {
         }
     }
 
-    // The value beside it.
+    // The value beside it. `number` has the same two cases, but hands on another method's result, of another type.
     pub fn value(self) -> u64
         ensures { result ≡ refusal_value self }
     {

@@ -7,7 +7,7 @@ ghost use Rattle.reply.specs.Words.{answer_row};
 use crate::{WriteAnswer, WriteRefusal};
 use answer::words::{ANSWER_WORDS, DIAGNOSTICS, HEAD_WORDS};
 
-// The number of an answer.
+// The number of an answer. One function for this and answer's `answer_number` would need a trait of two `Result`s, to share one arm.
 fn number(answer: Result<WriteAnswer, WriteRefusal>) -> u32
     ensures { result ≡ write_number (write_reply_in answer) }
 {

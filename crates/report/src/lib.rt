@@ -10,9 +10,12 @@ ghost use Rattle.report.specs.Report.{report_reply};
 use answer::{Answer, Refusal};
 
 // The answer to the diagnostics that a log was given, whatever it held, and the log as the call leaves it; `scratch` is for the sort.
+// `errors` may be more than the log has records for, which row 5 refuses: so no slice of the log stands for it.
 pub fn report(log: &mut [u32], errors: usize, scratch: &mut [u32]) -> Result<Answer, Refusal>
     requires { 5 * errors ≤ length scratch.old }
-    ensures { (reply_in result ≡ report_reply (length log.old) errors) × ((row : List ℕ) (ds : List Diagnostic) → logged log.old errors ≡ append_all (logged row 0) ds → log.new ≡ log_after (length log.old) (sort ds)) }
+    ensures { (reply_in result ≡ report_reply (length log.old) errors)
+        × ((row : List ℕ) (ds : List Diagnostic) → logged log.old errors ≡ append_all (logged row 0) ds
+        → log.new ≡ log_after (length log.old) (sort ds)) }
 {
     if log.len() / 5 < errors {
         log.fill(0);

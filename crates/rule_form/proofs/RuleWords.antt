@@ -8,8 +8,7 @@ use Rattle.chars.specs.Utf8.{encode}
 use Rattle.language.specs.Content.{ActionContent}
 use Rattle.language.specs.Plain.{Piece, say, end, each, commas, verbatim, symbol, direction, comment_line, own_comment, rule, rule_lines}
 use Rattle.language.specs.Agreement.{groups, records, place_at, dir_of, action_in, characters_at, comment_at, text_in, rule_in}
-use Rattle.machine.specs.declared.Span as D
-use Rattle.machine.specs.Head.{span_of, span_in}
+use Rattle.diag.specs.declared.Span.{Span}
 use Rattle.emit.specs.declared.Output.{Output}
 use Rattle.emit.specs.Appends.{Appends}
 use Rattle.pieces.specs.Writes.{Writes}
@@ -45,11 +44,11 @@ module _ (n : ℕ) (ws : List ℕ) where
 -- ---- one rule
 
 module _ (text ws : List ℕ) where
-  named : (i : ℕ) (q : D.Span) (o r : Output) → q ≡ span_of (place_at ws i) → Writes (verbatim (characters_at text (span_in q))) o r → Writes (verbatim (characters_at text (place_at ws i))) o r
-  named i q o r e w = subst (λ p. Writes (verbatim (characters_at text p)) o r) (ap span_in e) w
+  named : (i : ℕ) (q : Span) (o r : Output) → q ≡ place_at ws i → Writes (verbatim (characters_at text q)) o r → Writes (verbatim (characters_at text (place_at ws i))) o r
+  named i q o r e w = subst (λ p. Writes (verbatim (characters_at text p)) o r) e w
 
   module _ (n : ℕ) (acts : List ℕ) (arity : n ≡ get_or ws 9 0) (cut : acts ≡ drop 11 ws) where
-    pub left-written : (q : D.Span) (o a b c d r : Output) → q ≡ span_of (place_at ws 1) → Appends (0xCE ∷ 0xB4 ∷ 0x28 ∷ []) o a → Writes (verbatim (characters_at text (span_in q))) a b
+    pub left-written : (q : Span) (o a b c d r : Output) → q ≡ place_at ws 1 → Appends (0xCE ∷ 0xB4 ∷ 0x28 ∷ []) o a → Writes (verbatim (characters_at text q)) a b
         → Appends (0x2C ∷ 0x20 ∷ 0x28 ∷ []) b c → Writes (commas symbol (column 7 0 n acts)) c d → Appends (0x29 ∷ 0x29 ∷ []) d r → Writes (rule_left (rule_in text ws)) o r
     unfolding rule_left rule_in actions encode
     left-written q o a b c d r e w₁ w₂ w₃ w₄ w₅ =
@@ -58,7 +57,7 @@ module _ (text ws : List ℕ) where
         known {p = say "δ("} (0xCE ∷ 0xB4 ∷ 0x28 ∷ []) (λ rest. refl) w₁ ▹ named 1 q a b e w₂
         ▹ known {p = say ", ("} (0x2C ∷ 0x20 ∷ 0x28 ∷ []) (λ rest. refl) w₃ ▹ f ▹ known {p = say "))"} (0x29 ∷ 0x29 ∷ []) (λ rest. refl) w₅
 
-    pub right-written : (q : D.Span) (o a b c d x y r : Output) → q ≡ span_of (place_at ws 3) → Appends (0x20 ∷ 0x3D ∷ 0x20 ∷ 0x28 ∷ []) o a → Writes (verbatim (characters_at text (span_in q))) a b
+    pub right-written : (q : Span) (o a b c d x y r : Output) → q ≡ place_at ws 3 → Appends (0x20 ∷ 0x3D ∷ 0x20 ∷ 0x28 ∷ []) o a → Writes (verbatim (characters_at text q)) a b
         → Appends (0x2C ∷ 0x20 ∷ 0x28 ∷ []) b c → Writes (commas symbol (column 7 3 n acts)) c d → Appends (0x29 ∷ 0x2C ∷ 0x20 ∷ 0x28 ∷ []) d x
         → Writes (commas direction (map dir_of (column 7 6 n acts))) x y → Appends (0x29 ∷ 0x29 ∷ []) y r → Writes (rule_right (rule_in text ws)) o r
     unfolding rule_right rule_in actions encode
@@ -75,14 +74,14 @@ module _ (text ws : List ℕ) where
     rest-words : drop (11 + 7 * get_or ws 9 0) ws ≡ tail
     rest-words = ap (λ m. drop (11 + 7 * m) ws) (sym arity) ∙ sym cut
 
-    pub lines-written : (q : D.Span) (o a b c d r : Output) → q ≡ span_of (place_at ws 7) → Writes (each comment_line (map (text_in text) (groups 2 k tail))) o a
-        → Writes (rule_left (rule_in text ws)) a b → Writes (rule_right (rule_in text ws)) b c → Writes (own_comment (comment_at text (span_in q))) c d → Appends (10 ∷ []) d r
+    pub lines-written : (q : Span) (o a b c d r : Output) → q ≡ place_at ws 7 → Writes (each comment_line (map (text_in text) (groups 2 k tail))) o a
+        → Writes (rule_left (rule_in text ws)) a b → Writes (rule_right (rule_in text ws)) b c → Writes (own_comment (comment_at text q)) c d → Appends (10 ∷ []) d r
         → Writes (rule_lines (rule_in text ws)) o r
     unfolding rule_lines rule rule_left rule_right rule_in encode
     lines-written q o a b c d r e w₁ w₂ w₃ w₄ w₅ =
         let f : Writes (each comment_line (map (text_in text) (groups 2 (get_or ws 10 0) (drop (11 + 7 * get_or ws 9 0) ws)))) o a =
         same (λ rest. ap₂ (λ m l. each comment_line (map (text_in text) (groups 2 m l)) rest) (sym many) rest-words) w₁ in
-        f ▹ w₂ ▹ w₃ ▹ subst (λ p. Writes (own_comment (comment_at text p)) c d) (ap span_in e) w₄ ▹ known {p = end} (10 ∷ []) (λ rest. refl) w₅
+        f ▹ w₂ ▹ w₃ ▹ subst (λ p. Writes (own_comment (comment_at text p)) c d) e w₄ ▹ known {p = end} (10 ∷ []) (λ rest. refl) w₅
 
 -- ---- rules one after the other
 

@@ -1,30 +1,41 @@
 -- Laws of the comments between two indices, and of what is pending.
-use Rattle.std.proofs.Common.{◌≡◌, ℕ, zero, suc, ◌+◌, ◌-◌, ◌*◌, ◌/◌, ◌%◌, ◌^◌, ◌<◌, ◌≤◌, Bool, true, false, cond, eqb, ltb, leb, List, [], ◌∷◌, ◌++◌, length, get_or, take, drop, sym, refl, ap, ◌∙◌, subst, append_assoc, add-one, arith, length-append, length-drop, drop_of_length-le, length-take, get_or-drop, drop-cons, le-ltb, lt-ltb, eq-eqb, ne_eqb, eqb-true, le-leb}
+use Rattle.std.proofs.Common.{◌≡◌, ℕ, zero, suc, ◌+◌, ◌-◌, ◌*◌, ◌^◌, ◌<◌, ◌≤◌, Bool, true, false, cond, eqb, List, [], ◌∷◌, ◌++◌, length, take, drop, sym, refl, ap, ◌∙◌, subst, append_assoc, add-one, arith, length-drop, drop_of_length-le, length-take, get_or-drop, drop-cons, le-ltb, lt-ltb, eq-eqb, ne_eqb, eqb-true, le-leb, w64, Fits, Option, None, Some}
+use Rattle.std.specs.Prelude.{is_some, unwrap_or}
 use native.Mathlib.Decide.{dec_lt}
 use borrow.Author.Tests.{lt-leb}
 use lib.ListN.{get_or-eq_default}
-use lib.Seq.{sets, take-nil}
+use lib.Seq.{take-nil}
 use Rattle.diag.proofs.Cases.{by_test_lem}
 use Rattle.tokens.specs.declared.Token.{Token}
+use Rattle.tokens.specs.declared.Tokens.{Tokens}
+use Rattle.tokens.specs.Listed.{tokens_of}
+use Rattle.tokens.proofs.Rows.{length-rows}
 use Rattle.parser.specs.Row.{ended, peek}
 use Rattle.parser.specs.Lines.{line_length}
 use Rattle.diag.specs.declared.Span.{Span}
 use Rattle.language.specs.Layout.{flat}
 use Rattle.language.proofs.Counts.{flat_append}
-use Rattle.assembler.specs.Rows.{rows}
-use Rattle.assembler.specs.Entries.{Entry, entry_at, behind, entries_from, entries}
+use Rattle.assembler.specs.Entries.{behind, entries}
 use Rattle.assembler.specs.Feeds.{AllFed, Fed, CommentsLast}
-use Rattle.assembler.proofs.Rows.{length-rows, entries_at, entries-step, entries-end, fed_here, fed_on}
+use Rattle.assembler.proofs.Rows.{entries_at, entries-step, entries-end, fed_here, fed_on}
 use Rattle.assembler.proofs.EntriesMean.{length_by}
 use Rattle.sheet.specs.declared.comments.Pending.{Pending}
-use Rattle.sheet.specs.Comments.{span_words, text_of, text_words, comments_in, between, next, nothing, passed, passed_all, lead_from, header_of, header_from, header, trailing}
-use Rattle.sheet.specs.Stored.{Stored}
-use Rattle.sheet.proofs.Writes.{stored_none, stored_as, stored_append, stored_length, Writing, writing_start, writing-on, writing_room, written, written_last}
+use Rattle.sheet.specs.Comments.{span_words, text_of, text_words, comments_in, between, next, nothing, passed, passed_all, begins, header_of, header_from, header, trailing}
+use Rattle.sheet.specs.declared.put.Sheet.{Sheet}
+use Rattle.sheet.specs.Puts.{Puts}
+use Rattle.sheet.proofs.Puts.{puts_none, puts_as, ◌▹◌, Left, left_start, left_on, left_end, left_last}
+
+-- ---- the tokens
+pub many : (t : Tokens) → length (tokens_of t) ≡ t.count
+many t = length-rows t.count t.words.now t.within
+
+pub inside : (t : Tokens) (i : ℕ) → i < t.count → i < length (tokens_of t)
+inside t i h = omega (arith, many t)
+
+pub past : (t : Tokens) (i : ℕ) → t.count ≤ i → length (tokens_of t) ≤ i
+past t i h = omega (arith, many t)
 
 -- ---- one token
-pub text_made : (t : Token) (s : ℕ) → s ≡ (t.start + t.value) % 2 ^ 32 → record { start = s; end = t.end } ≡ text_of t
-text_made t s e = rw e
-
 pub comments-one : (t : Token) → t.kind ≡ 12 → comments_in (t ∷ []) ≡ t ∷ []
 unfolding comments_in
 comments-one t h = rw (eq-eqb t.kind 12 h, comments_in)
@@ -33,23 +44,14 @@ pub comments_no : (t : Token) → (t.kind ≡ 12 → ⊥) → comments_in (t ∷
 unfolding comments_in
 comments_no t h = rw (ne_eqb t.kind 12 h, comments_in)
 
-module _ (t : Token) (o : List ℕ) (i : ℕ) where
-  two : t.kind ≡ 12 → flat text_words (comments_in (t ∷ [])) ≡ text_words t
+module _ (t : Token) (s : Sheet) where
+  pub comment_put : (r : Sheet) (p : Span) → t.kind ≡ 12 → p ≡ text_of t → Puts (span_words p) s r → Puts (flat text_words (comments_in (t ∷ []))) s r
   unfolding flat
-  two h = ap (flat text_words) (comments-one t h)
+  comment_put r p h q u = puts_as (ap (flat text_words) (comments-one t h) ∙ ap span_words (sym q)) u
 
-  no_words : (t.kind ≡ 12 → ⊥) → flat text_words (comments_in (t ∷ [])) ≡ []
+  pub comment-none : (t.kind ≡ 12 → ⊥) → Puts (flat text_words (comments_in (t ∷ []))) s s
   unfolding flat
-  no_words h = ap (flat text_words) (comments_no t h)
-
-  pub comment_stored : (o' : List ℕ) (i' : ℕ) (p : Span) → t.kind ≡ 12 → p ≡ text_of t → Stored (span_words p) o i o' i' → Stored (flat text_words (comments_in (t ∷ []))) o i o' i'
-  comment_stored o' i' p h q s = stored_as (flat text_words (comments_in (t ∷ []))) (span_words p) o o' i i' (two h ∙ ap span_words (sym q)) s
-
-  pub comment_room : t.kind ≡ 12 → i + length (flat text_words (comments_in (t ∷ []))) < 2 ^ 64 → i + 2 < 2 ^ 64
-  comment_room h g = omega (arith, ap length (two h))
-
-  pub comment-none : (t.kind ≡ 12 → ⊥) → Stored (flat text_words (comments_in (t ∷ []))) o i o i
-  comment-none h = stored_none (flat text_words (comments_in (t ∷ []))) o i (no_words h)
+  comment-none h = puts_as (ap (flat text_words) (comments_no t h)) (puts_none s)
 
 -- ---- the comments between two indices
 pub comments-append : (xs ys : List Token) → comments_in (xs ++ ys) ≡ comments_in xs ++ comments_in ys
@@ -106,46 +108,45 @@ unfolding flat
 length_texts [] = refl
 length_texts (c ∷ cs) = omega (arith, length_texts cs)
 
-module _ (count : ℕ) (work : List ℕ) (i j : ℕ) (room : 4 * count ≤ length work) where
-  pub count_room : 2 * count < 2 ^ 64 → 0 + length (flat text_words (between (rows count work) i j)) < 2 ^ 64
-  count_room h =
-      let ts : List Token = rows count work in
-      omega (arith, length_texts (between ts i j), between_few ts i j, length-rows count work room)
+-- the count has come to the index i
+pub record Counting (ts : List Token) (from to n i : ℕ) : Type 0 where
+  pub counted : n + length (between ts i to) ≡ length (between ts from to)
 
-  pub count_half : (o o' : List ℕ) (r : ℕ) → Stored (flat text_words (between (rows count work) i j)) o 0 o' r → r / 2 ≡ length (between (rows count work) i j)
-  count_half o o' r s =
-      let ts : List Token = rows count work in
-      omega (arith, length_texts (between ts i j), s.behind)
+pub counting_start : (ts : List Token) (from to : ℕ) → Counting ts from to 0 from
+counting_start ts from to = record { counted = omega arith }
+
+module _ (ts : List Token) (from to n i : ℕ) (g : Counting ts from to n i) where
+  module _ (t : Token) (h : i < to) (here : t ≡ peek ts i) where
+    here-on : between ts i to ≡ comments_in (t ∷ []) ++ between ts (i + 1) to
+    here-on = between-on ts i to h ∙ ap (λ (x : Token). comments_in (x ∷ []) ++ between ts (i + 1) to) (sym here)
+
+    pub counting_on : t.kind ≡ 12 → Counting ts from to (n + 1) (i + 1)
+    counting_on e = record { counted = omega (arith, g.counted, ap length (here-on ∙ ap (λ (l : List Token). l ++ between ts (i + 1) to) (comments-one t e))) }
+
+    pub counting_over : (t.kind ≡ 12 → ⊥) → Counting ts from to n (i + 1)
+    counting_over e = record { counted = omega (arith, g.counted, ap length (here-on ∙ ap (λ (l : List Token). l ++ between ts (i + 1) to) (comments_no t e))) }
+
+    pub counting_fits : t.kind ≡ 12 → length ts < 2 ^ 64 → Fits w64 (n + 1)
+    counting_fits e f = record { fits = omega (arith, (counting_on e).counted, between_few ts from to) }
+
+  pub counted_all : to ≤ i → n ≡ length (between ts from to)
+  counted_all h = omega (arith, g.counted, ap length (between_none ts i to h))
 
 -- the walk has come to the index i
-abbrev pub Gathering : ℕ → List ℕ → ℕ → ℕ → List ℕ → ℕ → List ℕ → ℕ → ℕ → Type 0
-Gathering count work from to o₀ at o n i =
-    let all = flat text_words (between (rows count work) from to) in Writing (sets o₀ at all) (at + length all) o n (flat text_words (between (rows count work) i to))
+abbrev pub Gathering : List Token → ℕ → ℕ → Sheet → Sheet → ℕ → Type 0
+Gathering ts from to first now i = Left (flat text_words (between ts i to)) now (flat text_words (between ts from to)) first
 
-module _ (count : ℕ) (work : List ℕ) (from to : ℕ) (o₀ : List ℕ) (at : ℕ) (o : List ℕ) (n i : ℕ) (g : Gathering count work from to o₀ at o n i) where
-  abbrev ts : List Token
-  ts = rows count work
+module _ (ts : List Token) (from to : ℕ) (first now : Sheet) (i : ℕ) (g : Gathering ts from to first now i) where
+  pub gather-on : (t : Token) (then : Sheet) → i < to → t ≡ peek ts i → Puts (flat text_words (comments_in (t ∷ []))) now then → Gathering ts from to first then (i + 1)
+  gather-on t then h here u =
+      left_on
+      (ap (flat text_words) (between-on ts i to h ∙ ap (λ (x : Token). comments_in (x ∷ []) ++ between ts (i + 1) to) (sym here))
+      ∙ flat_append text_words (comments_in (t ∷ [])) (between ts (i + 1) to))
+      g u
 
-  abbrev all : List ℕ
-  all = flat text_words (between ts from to)
-
-  module _ (t : Token) (h : i < to) (here : t ≡ peek ts i) where
-    split : flat text_words (between ts i to) ≡ flat text_words (comments_in (t ∷ [])) ++ flat text_words (between ts (i + 1) to)
-    split =
-        ap (flat text_words) (between-on ts i to h ∙ ap (λ (x : Token). comments_in (x ∷ []) ++ between ts (i + 1) to) (sym here))
-        ∙ flat_append text_words (comments_in (t ∷ [])) (between ts (i + 1) to)
-
-    pub gather_room : at + length (flat text_words (between (rows count work) from to)) < 2 ^ 64 → n + length (flat text_words (comments_in (t ∷ []))) < 2 ^ 64
-    gather_room b =
-        omega (arith, writing_room (sets o₀ at all) (at + length all) o n (flat text_words (between ts i to)) g (flat text_words (comments_in (t ∷ []))) (flat text_words (between ts (i + 1) to)) split)
-
-    pub gather-on : (o' : List ℕ) (n' : ℕ) → Stored (flat text_words (comments_in (t ∷ []))) o n o' n' → Gathering count work from to o₀ at o' n' (i + 1)
-    gather-on o' n' s =
-        writing-on (sets o₀ at all) (at + length all) o n (flat text_words (between ts i to)) g (flat text_words (comments_in (t ∷ []))) (flat text_words (between ts (i + 1) to)) o' n' split s
-
-  pub gathered : to ≤ i → Stored (flat text_words (between (rows count work) from to)) o₀ at o n
+  pub gathered : to ≤ i → Puts (flat text_words (between ts from to)) first now
   unfolding flat
-  gathered h = written o₀ at all o n (flat text_words (between ts i to)) g (ap (flat text_words) (between_none ts i to h))
+  gathered h = left_end (ap (flat text_words) (between_none ts i to h)) g
 
 -- ---- tokens among which no comment stands
 between_split : (ts : List Token) (n i to : ℕ) → i + n ≤ to → between ts i to ≡ between ts i (i + n) ++ between ts (i + n) to
@@ -217,52 +218,35 @@ module _ (ts : List Token) (from i end : ℕ) (h : from ≤ i) (low : i < end) (
       ap (flat text_words) (between_split ts (i - from) from end (omega arith) ∙ ap (λ (k : ℕ). between ts from k ++ between ts k end) z ∙ ap (λ (l : List Token). between ts from i ++ l) quiet)
       ∙ flat_append text_words (between ts from i) (between ts (end - 1) end)
 
-  declared-length : length (flat text_words (between ts from end)) ≡ length (flat text_words (between ts from i)) + length (flat text_words (between ts (end - 1) end))
-  declared-length = ap length declared_split ∙ length-append (flat text_words (between ts from i)) (flat text_words (between ts (end - 1) end))
-
-  module _ (o : List ℕ) (at : ℕ) (room : at + length (flat text_words (between ts from end)) < 2 ^ 64) where
-    pub before_room : at + length (flat text_words (between ts from i)) < 2 ^ 64
-    before_room = omega (arith, declared-length)
-
-    module _ (o' : List ℕ) (n : ℕ) (s : Stored (flat text_words (between ts from i)) o at o' n) where
-      pub own_room : n + length (flat text_words (between ts (end - 1) end)) < 2 ^ 64
-      own_room = omega (arith, declared-length, s.behind)
-
-      pub declared_stored : (o'' : List ℕ) (m : ℕ) → Stored (flat text_words (between ts (end - 1) end)) o' n o'' m → Stored (flat text_words (between ts from end)) o at o'' m
-      declared_stored o'' m r =
-          let before : List ℕ = flat text_words (between ts from i) in
-          let own : List ℕ = flat text_words (between ts (end - 1) end) in
-          stored_as (flat text_words (between ts from end)) (before ++ own) o o'' at m declared_split (stored_append before own o o' o'' at n m s r)
+  pub declared_put : (s p r : Sheet) → Puts (flat text_words (between ts from i)) s p → Puts (flat text_words (between ts (end - 1) end)) p r → Puts (flat text_words (between ts from end)) s r
+  declared_put s p r u v = puts_as declared_split (u ▹ v)
 
 -- ---- lines that end at their line feeds, from the index i on
-pub record Feeding (count : ℕ) (work : List ℕ) (i : ℕ) : Type 0 where
-  pub fed : AllFed (entries_at (rows count work) i)
-  pub last : CommentsLast (rows count work)
+pub record Feeding (ts : List Token) (i : ℕ) : Type 0 where
+  pub fed : AllFed (entries_at ts i)
+  pub last : CommentsLast ts
 
-pub feeding_start : (count : ℕ) (work : List ℕ) → Fed (rows count work) → CommentsLast (rows count work) → Feeding count work 0
+pub feeding_start : (ts : List Token) → Fed ts → CommentsLast ts → Feeding ts 0
 unfolding entries
-feeding_start count work f l = record { fed = f; last = l }
+feeding_start ts f l = record { fed = f; last = l }
 
-module _ (count : ℕ) (work : List ℕ) (i : ℕ) (f : Feeding count work i) (room : 4 * count ≤ length work) (h : i < count) (t : Token) (e : t ≡ peek (rows count work) i) where
-  here_below : i < length (rows count work)
-  here_below = omega (arith, length-rows count work room)
-
+module _ (ts : List Token) (i : ℕ) (f : Feeding ts i) (t : Token) (e : t ≡ peek ts i) (h : i < length ts) where
   -- the line's first token says where it ends
-  pub feeding_here : behind i t ≡ line_length (drop i (rows count work))
-  feeding_here = fed_here (rows count work) i f.fed here_below t e
+  pub feeding_here : behind i t ≡ line_length (drop i ts)
+  feeding_here = fed_here ts i f.fed h t e
 
   -- the line of a declaration has no comment but at its end
-  pub feeding_quiet : 16 ≤ t.kind → between (rows count work) i t.value ≡ between (rows count work) (t.value - 1) t.value
-  feeding_quiet high = line_quiet (rows count work) i t e here_below feeding_here f.last high
+  pub feeding_quiet : 16 ≤ t.kind → between ts i t.value ≡ between ts (t.value - 1) t.value
+  feeding_quiet high = line_quiet ts i t e h feeding_here f.last high
 
-  pub feeding_on : (j : ℕ) → j ≡ i + 1 + behind i t → Feeding count work j
+  pub feeding_on : (j : ℕ) → j ≡ i + 1 + behind i t → Feeding ts j
   feeding_on j z =
-      let next : i + 1 + behind i (peek (rows count work) i) ≡ j = ap (λ (t : Token). i + 1 + behind i t) (sym e) ∙ sym z in
-      record { fed = subst (λ (j : ℕ). AllFed (entries_at (rows count work) j)) next (fed_on (rows count work) i f.fed here_below); last = f.last }
+      let next : i + 1 + behind i (peek ts i) ≡ j = ap (λ (t : Token). i + 1 + behind i t) (sym e) ∙ sym z in
+      record { fed = subst (λ (j : ℕ). AllFed (entries_at ts j)) next (fed_on ts i f.fed h); last = f.last }
 
 -- ---- what is pending
 module _ (p : Pending) (i : ℕ) (t : Token) (j : ℕ) (behind_it : j ≡ next i t) where
-  pub passed-item : 16 ≤ t.kind → record { seen = true; from = j; block = j } ≡ passed p i t
+  pub passed-item : 16 ≤ t.kind → record { from = Some j; block = j } ≡ passed p i t
   unfolding passed
   passed-item h = rw (le-leb 16 t.kind h, behind_it)
 
@@ -270,34 +254,21 @@ module _ (p : Pending) (i : ℕ) (t : Token) (j : ℕ) (behind_it : j ≡ next i
   unfolding passed
   passed-comment h g = rw (lt-leb 16 t.kind h, eq-eqb t.kind 12 g)
 
-  pub passed_blank : t.kind < 16 → (t.kind ≡ 12 → ⊥) → record { seen = p.seen; from = p.from; block = j } ≡ passed p i t
+  pub passed_blank : t.kind < 16 → (t.kind ≡ 12 → ⊥) → record { from = p.from; block = j } ≡ passed p i t
   unfolding passed
   passed_blank h g = rw (lt-leb 16 t.kind h, ne_eqb t.kind 12 g, behind_it)
 
-pub lead-all : (p : Pending) → p.seen ≡ true → p.from ≡ lead_from p
-unfolding lead_from
-lead-all p h = rw h
-
-pub lead_block : (p : Pending) → p.seen ≡ false → p.block ≡ lead_from p
-unfolding lead_from
-lead_block p h = rw h
-
 -- ---- the header comments of one line
--- what is known of the line of a declaration, by its line feed's index e
-pub quiet_same : (ts : List Token) (t : Token) (j e : ℕ) → e ≡ t.value → 16 ≤ t.kind → (16 ≤ t.kind → between ts j t.value ≡ between ts (t.value - 1) t.value)
-    → between ts j e ≡ between ts (e - 1) e
-quiet_same ts t j e q h f = subst (λ (e : ℕ). between ts j e ≡ between ts (e - 1) e) (sym q) (f h)
-
 module _ (ts : List Token) (p : Pending) (t : Token) where
   header-other : t.kind < 16 → header_of ts p t ≡ []
   unfolding header_of
   header-other h = rw (lt-ltb t.kind 16 h)
 
-  header-declaration : 16 ≤ t.kind → t.kind < 27 → header_of ts p t ≡ between ts p.from t.value
+  header-declaration : 16 ≤ t.kind → t.kind < 27 → header_of ts p t ≡ between ts (begins p) t.value
   unfolding header_of
   header-declaration h g = rw (le-ltb t.kind 16 h, lt-ltb t.kind 27 g)
 
-  header-rule : t.kind ≡ 27 → header_of ts p t ≡ cond p.seen [] (between ts p.from p.block)
+  header-rule : t.kind ≡ 27 → header_of ts p t ≡ cond (is_some p.from) [] (between ts 0 p.block)
   unfolding header_of
   header-rule h = rw (le-ltb t.kind 16 (omega arith), le-ltb t.kind 27 (omega arith), eq-eqb t.kind 27 h)
 
@@ -306,150 +277,99 @@ module _ (ts : List Token) (p : Pending) (t : Token) where
   header-failed h g = rw (le-ltb t.kind 16 (omega arith), le-ltb t.kind 27 h, ne_eqb t.kind 27 g)
 
   -- what is stored for the line
-  module _ (o o' : List ℕ) (i i' : ℕ) where
-    pub header_low : t.kind < 16 → Stored (flat text_words (header_of ts p t)) o i o i
+  module _ (s : Sheet) where
+    none_put : header_of ts p t ≡ [] → Puts (flat text_words (header_of ts p t)) s s
     unfolding flat
-    header_low h = stored_none (flat text_words (header_of ts p t)) o i (ap (flat text_words) (header-other h))
+    none_put e = puts_as (ap (flat text_words) e) (puts_none s)
 
-    pub header_high : 27 ≤ t.kind → (t.kind ≡ 27 → ⊥) → Stored (flat text_words (header_of ts p t)) o i o i
-    unfolding flat
-    header_high h g = stored_none (flat text_words (header_of ts p t)) o i (ap (flat text_words) (header-failed h g))
+    pub header_low : t.kind < 16 → Puts (flat text_words (header_of ts p t)) s s
+    header_low h = none_put (header-other h)
 
-    pub header-later : t.kind ≡ 27 → p.seen ≡ true → Stored (flat text_words (header_of ts p t)) o i o i
-    unfolding flat
-    header-later h g =
-        stored_none (flat text_words (header_of ts p t)) o i (ap (flat text_words) (header-rule h ∙ ap (λ (b : Bool). cond b [] (between ts p.from p.block)) g))
+    pub header_high : 27 ≤ t.kind → (t.kind ≡ 27 → ⊥) → Puts (flat text_words (header_of ts p t)) s s
+    header_high h g = none_put (header-failed h g)
 
-    pub header-declared : (e : ℕ) → 16 ≤ t.kind → t.kind < 27 → e ≡ t.value → Stored (flat text_words (between ts p.from e)) o i o' i'
-        → Stored (flat text_words (header_of ts p t)) o i o' i'
-    header-declared e h g q s =
-        stored_as (flat text_words (header_of ts p t)) (flat text_words (between ts p.from e)) o o' i i'
-        (ap (flat text_words) (header-declaration h g ∙ ap (between ts p.from) (sym q))) s
+    pub header-later : t.kind ≡ 27 → is_some p.from ≡ true → Puts (flat text_words (header_of ts p t)) s s
+    header-later h g = none_put (header-rule h ∙ ap (λ (b : Bool). cond b [] (between ts 0 p.block)) g)
 
-    pub header-first : t.kind ≡ 27 → p.seen ≡ false → Stored (flat text_words (between ts p.from p.block)) o i o' i'
-        → Stored (flat text_words (header_of ts p t)) o i o' i'
-    header-first h g s =
-        stored_as (flat text_words (header_of ts p t)) (flat text_words (between ts p.from p.block)) o o' i i'
-        (ap (flat text_words) (header-rule h ∙ ap (λ (b : Bool). cond b [] (between ts p.from p.block)) g)) s
+  module _ (s r : Sheet) where
+    pub header-declared : (from : ℕ) → 16 ≤ t.kind → t.kind < 27 → from ≡ begins p → Puts (flat text_words (between ts from t.value)) s r → Puts (flat text_words (header_of ts p t)) s r
+    header-declared from h g e u = puts_as (ap (flat text_words) (header-declaration h g ∙ ap (λ (k : ℕ). between ts k t.value) (sym e))) u
 
-    pub declared_room : (e : ℕ) → 16 ≤ t.kind → t.kind < 27 → e ≡ t.value → i + length (flat text_words (header_of ts p t)) < 2 ^ 64
-        → i + length (flat text_words (between ts p.from e)) < 2 ^ 64
-    declared_room e h g q r =
-        omega (arith, ap (λ (l : List Token). length (flat text_words l)) (header-declaration h g ∙ ap (between ts p.from) (sym q)))
-
-    pub first_room : t.kind ≡ 27 → p.seen ≡ false → i + length (flat text_words (header_of ts p t)) < 2 ^ 64
-        → i + length (flat text_words (between ts p.from p.block)) < 2 ^ 64
-    first_room h g r =
-        omega (arith, ap (λ (l : List Token). length (flat text_words l)) (header-rule h ∙ ap (λ (b : Bool). cond b [] (between ts p.from p.block)) g))
+    pub header-first : t.kind ≡ 27 → is_some p.from ≡ false → Puts (flat text_words (between ts 0 p.block)) s r → Puts (flat text_words (header_of ts p t)) s r
+    header-first h g u = puts_as (ap (flat text_words) (header-rule h ∙ ap (λ (b : Bool). cond b [] (between ts 0 p.block)) g)) u
 
 -- ---- all lines: the walk has come to the line at the index i
 
+-- a line, and those behind it
+pub lines-on : (ts : List Token) (i j : ℕ) (t : Token) → i < length ts → t ≡ peek ts i → j ≡ next i t
+    → entries_at ts i ≡ record { at = i; first = t; rest = drop (suc i) ts } ∷ entries_at ts j
+lines-on ts i j t h e f =
+    entries-step ts i h
+    ∙ ap (λ (t : Token). record { at = i; first = t; rest = drop (suc i) ts } ∷ entries_at ts (next i t)) (sym e)
+    ∙ ap (λ (k : ℕ). record { at = i; first = t; rest = drop (suc i) ts } ∷ entries_at ts k) (sym f)
+
 -- the header: what is left of it is what the lines from here on put there
-abbrev pub Heading : ℕ → List ℕ → List ℕ → ℕ → List ℕ → ℕ → Pending → ℕ → Type 0
-Heading count work o₀ at o n p i =
-    let row = rows count work in
-    let words = flat text_words (header row) in
-    Writing (sets o₀ at words) (at + length words) o n (flat text_words (header_from row p (entries_at row i)))
+abbrev pub Heading : List Token → Sheet → Sheet → Pending → ℕ → Type 0
+Heading ts first now p i = Left (flat text_words (header_from ts p (entries_at ts i))) now (flat text_words (header ts)) first
 
-module _ (count : ℕ) (work : List ℕ) (room : 4 * count ≤ length work) where
-  abbrev row : List Token
-  row = rows count work
-
-  -- a line, and those behind it
-  pub lines-on : (i j : ℕ) (t : Token) → i < count → t ≡ peek row i → j ≡ next i t
-      → entries_at row i ≡ record { at = i; first = t; rest = drop (suc i) row } ∷ entries_at row j
-  lines-on i j t h e f =
-      let many : length row ≡ count = length-rows count work room in
-      entries-step row i (omega arith)
-      ∙ ap (λ (t : Token). record { at = i; first = t; rest = drop (suc i) row } ∷ entries_at row (next i t)) (sym e)
-      ∙ ap (λ (k : ℕ). record { at = i; first = t; rest = drop (suc i) row } ∷ entries_at row k) (sym f)
-
-  pub lines_end : (i : ℕ) → count ≤ i → entries_at row i ≡ []
-  lines_end i h = entries-end row i (omega (arith, length-rows count work room))
-
-  pub pending-on : (p p' : Pending) (i j : ℕ) (t : Token) → passed_all p (entries_at (rows count work) i) ≡ passed_all nothing (entries (rows count work)) → i < count
-      → t ≡ peek (rows count work) i → p' ≡ passed p i t → j ≡ next i t
-      → passed_all p' (entries_at (rows count work) j) ≡ passed_all nothing (entries (rows count work))
-  unfolding passed_all
-  pending-on p p' i j t w h e q f = ap (λ (p : Pending). passed_all p (entries_at row j)) q ∙ sym (ap (passed_all p) (lines-on i j t h e f)) ∙ w
-
-  pub pending-end : (p : Pending) (i : ℕ) → passed_all p (entries_at (rows count work) i) ≡ passed_all nothing (entries (rows count work)) → count ≤ i
-      → p ≡ passed_all nothing (entries (rows count work))
-  unfolding passed_all
-  pending-end p i w h = sym (ap (passed_all p) (lines_end i h)) ∙ w
-
-  module _ (o₀ : List ℕ) (at : ℕ) (o : List ℕ) (n : ℕ) (p : Pending) (i : ℕ) (w : Heading count work o₀ at o n p i) where
-    abbrev words : List ℕ
-    words = flat text_words (header row)
-
-    abbrev to_come : List ℕ
-    to_come = flat text_words (header_from row p (entries_at row i))
-
-    module _ (t : Token) (h : i < count) (here : t ≡ peek (rows count work) i) where
-      header_split : (p' : Pending) (j : ℕ) → p' ≡ passed p i t → j ≡ next i t
-          → to_come ≡ flat text_words (header_of row p t) ++ flat text_words (header_from row p' (entries_at row j))
-      unfolding header_from
-      header_split p' j q f =
-          ap (flat text_words) (ap (header_from row p) (lines-on i j t h here f) ∙ ap (λ (x : Pending). header_of row p t ++ header_from row x (entries_at row j)) (sym q))
-          ∙ flat_append text_words (header_of row p t) (header_from row p' (entries_at row j))
-
-      pub heading_room : at + length (flat text_words (header (rows count work))) < 2 ^ 64 → n + length (flat text_words (header_of (rows count work) p t)) < 2 ^ 64
-      heading_room b =
-          let rest : List ℕ = flat text_words (header_from row (passed p i t) (entries_at row (next i t))) in
-          omega (arith, writing_room (sets o₀ at words) (at + length words) o n to_come w (flat text_words (header_of row p t)) rest (header_split (passed p i t) (next i t) refl refl))
-
-      pub heading_on : (o' : List ℕ) (n' : ℕ) (p' : Pending) (j : ℕ) → Stored (flat text_words (header_of (rows count work) p t)) o n o' n' → p' ≡ passed p i t → j ≡ next i t
-          → Heading count work o₀ at o' n' p' j
-      heading_on o' n' p' j s q f =
-          writing-on (sets o₀ at words) (at + length words) o n to_come w (flat text_words (header_of row p t)) (flat text_words (header_from row p' (entries_at row j))) o' n'
-          (header_split p' j q f) s
-
-    module _ (h : count ≤ i) where
-      rest_is : (b : Bool) → p.seen ≡ b → to_come ≡ flat text_words (cond b [] (between row p.from count))
-      unfolding header_from
-      rest_is b e =
-          ap (flat text_words)
-          (ap (header_from row p) (lines_end i h) ∙ ap (λ (b : Bool). cond b [] (between row p.from (length row))) e
-          ∙ ap (λ (k : ℕ). cond b [] (between row p.from k)) (length-rows count work room))
-
-      pub heading_seen : p.seen ≡ true → Stored (flat text_words (header (rows count work))) o₀ at o n
-      unfolding flat
-      heading_seen e = written o₀ at words o n to_come w (rest_is true e)
-
-      module _ (e : p.seen ≡ false) where
-        pub heading_rest : at + length (flat text_words (header (rows count work))) < 2 ^ 64 → n + length (flat text_words (between (rows count work) p.from count)) < 2 ^ 64
-        heading_rest b = omega (arith, w.ends, ap length (rest_is false e))
-
-        pub heading_last : (o' : List ℕ) (n' : ℕ) → Stored (flat text_words (between (rows count work) p.from count)) o n o' n'
-            → Stored (flat text_words (header (rows count work))) o₀ at o' n'
-        heading_last o' n' s = written_last o₀ at words o n to_come w o' n' (stored_as to_come (flat text_words (between row p.from count)) o o' n n' (rest_is false e) s)
-
-        pub heading_length : (o' : List ℕ) (n' : ℕ) → Stored (flat text_words (between (rows count work) p.from count)) o n o' n' → length o' ≡ length o₀
-        heading_length o' n' s = stored_length words o₀ o' at n' (heading_last o' n' s)
-
-  -- the trailing comments
-  module _ (p : Pending) (all-passed : p ≡ passed_all nothing (entries (rows count work))) where
-    trailing_is : (b : Bool) → p.seen ≡ b → trailing row ≡ cond b (between row p.from count) []
-    unfolding trailing
-    trailing_is b e =
-        ap (λ (p : Pending). cond p.seen (between row p.from (length row)) []) (sym all-passed) ∙ ap (λ (b : Bool). cond b (between row p.from (length row)) []) e
-        ∙ ap (λ (k : ℕ). cond b (between row p.from k) []) (length-rows count work room)
-
-    module _ (o o' : List ℕ) (n n' : ℕ) where
-      pub trailing-none : p.seen ≡ false → Stored (flat text_words (trailing (rows count work))) o n o n
-      unfolding flat
-      trailing-none e = stored_none (flat text_words (trailing row)) o n (ap (flat text_words) (trailing_is false e))
-
-      pub trailing_room : p.seen ≡ true → n + length (flat text_words (trailing (rows count work))) < 2 ^ 64 → n + length (flat text_words (between (rows count work) p.from count)) < 2 ^ 64
-      trailing_room e b = omega (arith, ap (λ (l : List Token). length (flat text_words l)) (trailing_is true e))
-
-      pub trailing-all : p.seen ≡ true → Stored (flat text_words (between (rows count work) p.from count)) o n o' n' → Stored (flat text_words (trailing (rows count work))) o n o' n'
-      trailing-all e s = stored_as (flat text_words (trailing row)) (flat text_words (between row p.from count)) o o' n n' (ap (flat text_words) (trailing_is true e)) s
-
-pub pending-start : (ts : List Token) → passed_all nothing (entries_at ts 0) ≡ passed_all nothing (entries ts)
-unfolding entries
-pending-start _ = refl
-
-pub heading_start : (count : ℕ) (work o : List ℕ) (at : ℕ) → Heading count work o at o at nothing 0
+pub heading_start : (ts : List Token) (s : Sheet) → Heading ts s s nothing 0
 unfolding header entries
-heading_start count work o at = writing_start o at (flat text_words (header (rows count work)))
+heading_start ts s = left_start refl
+
+abbrev pub Passing : List Token → Pending → ℕ → Type 0
+Passing ts p i = passed_all p (entries_at ts i) ≡ passed_all nothing (entries ts)
+
+pub passing_start : (ts : List Token) → Passing ts nothing 0
+unfolding entries
+passing_start _ = refl
+
+module _ (ts : List Token) (p : Pending) (i : ℕ) where
+  module _ (t : Token) (h : i < length ts) (here : t ≡ peek ts i) (p' : Pending) (j : ℕ) (q : p' ≡ passed p i t) (f : j ≡ next i t) where
+    pub passing_on : Passing ts p i → Passing ts p' j
+    unfolding passed_all
+    passing_on w = ap (λ (p : Pending). passed_all p (entries_at ts j)) q ∙ sym (ap (passed_all p) (lines-on ts i j t h here f)) ∙ w
+
+    pub heading_on : (first now then : Sheet) → Heading ts first now p i → Puts (flat text_words (header_of ts p t)) now then → Heading ts first then p' j
+    unfolding header_from
+    heading_on first now then w u =
+        left_on
+        (ap (flat text_words) (ap (header_from ts p) (lines-on ts i j t h here f) ∙ ap (λ (x : Pending). header_of ts p t ++ header_from ts x (entries_at ts j)) (sym q))
+        ∙ flat_append text_words (header_of ts p t) (header_from ts p' (entries_at ts j)))
+        w u
+
+  module _ (h : length ts ≤ i) where
+    lines_end : entries_at ts i ≡ []
+    lines_end = entries-end ts i h
+
+    pub passing_end : Passing ts p i → p ≡ passed_all nothing (entries ts)
+    unfolding passed_all
+    passing_end w = sym (ap (passed_all p) lines_end) ∙ w
+
+    rest_is : (b : Bool) → is_some p.from ≡ b → flat text_words (header_from ts p (entries_at ts i)) ≡ flat text_words (cond b [] (between ts 0 (length ts)))
+    unfolding header_from
+    rest_is b e = ap (flat text_words) (ap (header_from ts p) lines_end ∙ ap (λ (b : Bool). cond b [] (between ts 0 (length ts))) e)
+
+    module _ (first now : Sheet) (w : Heading ts first now p i) where
+      pub heading_seen : is_some p.from ≡ true → Puts (flat text_words (header ts)) first now
+      unfolding flat
+      heading_seen e = left_end (rest_is true e) w
+
+      pub heading_last : (then : Sheet) (n : ℕ) → is_some p.from ≡ false → n ≡ length ts → Puts (flat text_words (between ts 0 n)) now then → Puts (flat text_words (header ts)) first then
+      heading_last then n e f u =
+          left_last w (puts_as (rest_is false e ∙ ap (λ (k : ℕ). flat text_words (between ts 0 k)) (sym f)) u)
+
+-- the trailing comments
+module _ (ts : List Token) (p : Pending) (all-passed : p ≡ passed_all nothing (entries ts)) where
+  trailing_is : (o : Option ℕ) → p.from ≡ o → trailing ts ≡ cond (is_some o) (between ts (unwrap_or o 0) (length ts)) []
+  unfolding trailing
+  trailing_is o e =
+      ap (λ (p : Pending). cond (is_some p.from) (between ts (begins p) (length ts)) []) (sym all-passed)
+      ∙ ap (λ (o : Option ℕ). cond (is_some o) (between ts (unwrap_or o 0) (length ts)) []) e
+
+  pub trailing-none : (s : Sheet) → p.from ≡ None → Puts (flat text_words (trailing ts)) s s
+  unfolding flat
+  trailing-none s e = puts_as (ap (flat text_words) (trailing_is None e)) (puts_none s)
+
+  pub trailing-all : (s r : Sheet) (n from : ℕ) → p.from ≡ Some from → n ≡ length ts → Puts (flat text_words (between ts from n)) s r → Puts (flat text_words (trailing ts)) s r
+  trailing-all s r n from e f u =
+      puts_as (ap (flat text_words) (trailing_is (Some from) e) ∙ ap (λ (k : ℕ). flat text_words (between ts from k)) (sym f)) u

@@ -1,4 +1,4 @@
-pub mod Writes
+pub mod Puts
 pub mod Turns
 pub mod CommentLaws
 pub mod RuleLaws

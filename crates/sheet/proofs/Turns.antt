@@ -1,5 +1,5 @@
 -- Wheels turned from the last: every choice of one member of each, in the order of `choices`.
-use Rattle.std.proofs.Common.{◌≡◌, ℕ, zero, suc, ◌+◌, ◌<◌, ◌≤◌, Bool, true, false, cond, List, [], ◌∷◌, ◌++◌, map, length, get_or, set, sym, refl, ap, ◌∙◌, arith, length-set}
+use Rattle.std.proofs.Common.{◌≡◌, ℕ, zero, suc, Bool, true, false, cond, List, [], ◌∷◌, ◌++◌, map, length, get_or, set, sym, refl, ap, ◌∙◌, arith}
 use mathlib.Core.Option.{Option, none, some}
 use Rattle.sheet.specs.Turns.{Wheel, rest, full, left, turned, later}
 use Rattle.language.specs.Assembly.{each_front, choices}

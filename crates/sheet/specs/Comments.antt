@@ -1,5 +1,5 @@
 -- Comments where they belong, over the lines of a row with entries: header, trailing, and those that lead a rule.
-use Rattle.std.specs.Prelude.{ℕ, ◌+◌, ◌-◌, ◌%◌, ◌^◌, Bool, true, false, cond, List, [], ◌∷◌, ◌++◌, length, take, drop, ◌==◌, nat_le, nat_lt}
+use Rattle.std.specs.Prelude.{ℕ, ◌+◌, ◌-◌, ◌%◌, ◌^◌, true, false, cond, List, [], ◌∷◌, ◌++◌, length, take, drop, ◌==◌, nat_le, nat_lt, None, Some, is_some, unwrap_or}
 use Rattle.tokens.specs.declared.Token.{Token}
 use Rattle.diag.specs.declared.Span.{Span}
 use Rattle.assembler.specs.Entries.{Entry, behind, entries}
@@ -28,7 +28,7 @@ between ts i j = comments_in (take (j - i) (drop i ts))
 
 -- no comment is pending
 abbrev pub nothing : Pending
-nothing = record { seen = false; from = 0; block = 0 }
+nothing = record { from = None; block = 0 }
 
 -- the index behind the line that begins with the token t at the index i
 abbrev pub next : ℕ → Token → ℕ
@@ -37,8 +37,8 @@ next i t = i + 1 + behind i t
 -- what is pending behind that line: nothing behind an item or a failed line; a comment goes on with its block; a blank line ends the block
 unfoldable pub passed : Pending → ℕ → Token → Pending
 passed p i t =
-    cond (nat_le 16 t.kind) (record { seen = true; from = next i t; block = next i t })
-    (cond (t.kind == 12) p (record { seen = p.seen; from = p.from; block = next i t }))
+    cond (nat_le 16 t.kind) (record { from = Some (next i t); block = next i t })
+    (cond (t.kind == 12) p (record { from = p.from; block = next i t }))
 
 -- and behind all lines
 unfoldable pub passed_all : Pending → List Entry → Pending
@@ -48,19 +48,23 @@ passed_all p (e ∷ es) = passed_all (passed p e.at e.first) es
 
 -- where the comments that lead a rule begin: all pending if an item or failed line came earlier, else only the block that touches it
 unfoldable pub lead_from : Pending → ℕ
-lead_from p = cond p.seen p.from p.block
+lead_from p = unwrap_or p.from p.block
+
+-- where all that is pending begins: at the row's start if no item or failed line came earlier
+abbrev pub begins : Pending → ℕ
+begins p = unwrap_or p.from 0
 
 -- the comments that a line puts into the header: before a declaration all pending and its own; before the first rule those that do not lead it
 unfoldable pub header_of : List Token → Pending → Token → List Token
 unfolding between
 header_of ts p t =
     cond (nat_lt t.kind 16) []
-    (cond (nat_lt t.kind 27) (between ts p.from t.value) (cond (t.kind == 27) (cond p.seen [] (between ts p.from p.block)) []))
+    (cond (nat_lt t.kind 27) (between ts (begins p) t.value) (cond (t.kind == 27) (cond (is_some p.from) [] (between ts 0 p.block)) []))
 
 -- at the end the pending comments are header if no line held an item or failed
 unfoldable pub header_from : List Token → Pending → List Entry → List Token
 unfolding between header_of passed
-header_from ts p [] = cond p.seen [] (between ts p.from (length ts))
+header_from ts p [] = cond (is_some p.from) [] (between ts 0 (length ts))
 header_from ts p (e ∷ es) = header_of ts p e.first ++ header_from ts (passed p e.at e.first) es
 
 -- the header comments of a row
@@ -71,4 +75,4 @@ header ts = header_from ts nothing (entries ts)
 -- else they are trailing
 unfoldable pub trailing : List Token → List Token
 unfolding passed_all entries between
-trailing ts = let p = passed_all nothing (entries ts) in cond p.seen (between ts p.from (length ts)) []
+trailing ts = let p = passed_all nothing (entries ts) in cond (is_some p.from) (between ts (begins p) (length ts)) []

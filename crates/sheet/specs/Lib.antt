@@ -1,4 +1,4 @@
-pub mod Stored
+pub mod Puts
 pub mod Comments
 pub mod Turns
 pub mod Wheels

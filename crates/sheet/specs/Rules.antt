@@ -1,5 +1,5 @@
 -- Rules: their expansion into words, and how many words they take, over the lines of a row with entries.
-use Rattle.std.specs.Prelude.{◌≡◌, ℕ, zero, suc, ◌+◌, ◌-◌, ◌*◌, ◌%◌, ◌^◌, ◌<◌, ◌≤◌, Bool, true, false, cond, List, [], ◌∷◌, ◌++◌, map, length, take, drop, ◌==◌}
+use Rattle.std.specs.Prelude.{ℕ, ◌+◌, ◌-◌, ◌*◌, ◌%◌, ◌^◌, ◌<◌, ◌≤◌, cond, List, [], ◌∷◌, ◌++◌, length, take, drop, ◌==◌}
 use Rattle.tokens.specs.declared.Token.{Token}
 use Rattle.parser.specs.Row.{peek}
 use Rattle.diag.specs.declared.Span.{Span}
@@ -11,7 +11,7 @@ use Rattle.assembler.specs.Rules.{combinations}
 use Rattle.sheet.specs.declared.comments.Pending.{Pending}
 use Rattle.sheet.specs.declared.rules.Rule.{Rule}
 use Rattle.sheet.specs.Comments.{span_words, text_of, text_words, between, nothing, passed, lead_from}
-use Rattle.sheet.specs.Wheels.{read_sets, first_member, entries_of, part, Wheels}
+use Rattle.sheet.specs.Wheels.{read_sets, entries_of}
 
 -- the place that says that there is none
 abbrev pub no_span : Span
@@ -72,11 +72,6 @@ unfolding tape_words
 tapes_words b ts w d [] = []
 tapes_words b ts w d (r ∷ rs) = tape_words b r (peek ts w) (peek ts d) ++ tapes_words b ts (w + 2) (d + 2) rs
 
--- the tape t of a rule that reads the symbol at the index c
-unfoldable pub tape_at : ℕ → List Token → Rule → ℕ → ℕ → List ℕ
-unfolding tape_words
-tape_at b ts r t c = tape_words b (peek ts c) (peek ts (r.write + 2 * t)) (peek ts (r.dir + 2 * t))
-
 -- the places of from, to, line and comment
 unfoldable pub places_words : List Token → Rule → Span → List ℕ
 places_words ts r c = span_words (place_of (peek ts (r.line + 2))) ++ span_words (place_of (peek ts r.to)) ++ span_words (place_of (peek ts r.line)) ++ span_words c
@@ -91,10 +86,8 @@ unfoldable pub rule_words : ℕ → List Token → Rule → Span → List Token 
 unfolding head_words tapes_words flat
 rule_words b ts r c cs rs = head_words ts r c (length rs) (length cs) ++ (tapes_words b ts r.write r.dir rs ++ flat text_words cs)
 
--- what writing a rule asks for: its line is in the row, its tapes are no more than the tokens, and the symbols read stand from the index b on
-pub record Placed (count size b : ℕ) (r : Rule) : Type 0 where
-  pub tokens : 4 * count ≤ size
-  pub cells : b + r.tapes ≤ size
+-- what writing a rule asks for: its line is one of the tokens', of which there are few, and its tapes are no more than they
+pub record Placed (count : ℕ) (r : Rule) : Type 0 where
   pub line : r.line < count
   pub few : r.tapes ≤ count
   pub small : 9 * count + 11 < 2 ^ 32
@@ -105,13 +98,6 @@ pub record Placed (count size b : ℕ) (r : Rule) : Type 0 where
 unfoldable pub entries_read : List Token → ℕ → List ℕ
 unfolding entries_of first_entry
 entries_read ts i = entries_of ts (peek ts (i + 1)).start (first_entry ts (i + 4))
-
--- the wheels of the rule r at the line i stand at their first members: entries from the index a on, members from b on
-pub record Ready (count a b : ℕ) (ts : List Token) (i : ℕ) (r : Rule) (work : List ℕ) : Type 0 where
-  pub rule : r ≡ rule_at ts i (length (entries_read ts i))
-  pub wheels : Wheels count a r.tapes ts (entries_read ts i) work
-  pub members : part work b r.tapes ≡ map (first_member ts) (entries_read ts i)
-  pub placed : Placed count (length work) b r
 
 -- the comments go to the first rule
 unfoldable pub dressed : ℕ → List Token → Rule → Span → List Token → List (List Token) → List ℕ

@@ -1,8 +1,7 @@
 -- What a rule reads on its tapes: the sets, and the wheels that the code turns, an entry's index and the index of one of its members each.
-use Rattle.std.specs.Prelude.{◌≡◌, ℕ, zero, suc, ◌+◌, ◌*◌, Bool, true, false, cond, List, [], ◌∷◌, length, take, drop, ◌==◌, nat_lt}
+use Rattle.std.specs.Prelude.{ℕ, zero, suc, ◌+◌, ◌*◌, Bool, true, false, cond, List, [], ◌∷◌, length, drop, ◌==◌, nat_lt}
 use Rattle.tokens.specs.declared.Token.{Token}
 use Rattle.parser.specs.Row.{ended, peek}
-use Rattle.assembler.specs.Rows.{rows}
 use Rattle.sheet.specs.Turns.{Wheel, turned, later}
 
 -- the members of a set from one on: a comma goes on to the next
@@ -56,13 +55,3 @@ wheel ts = record {
 unfoldable pub choices_behind : List Token → List ℕ → List ℕ → List (List Token)
 unfolding later turned first_member goes_on members
 choices_behind ts es cs = later (wheel ts) es (turned (wheel ts) es cs (length es))
-
--- n words of a row from an index on
-abbrev pub part : List ℕ → ℕ → ℕ → List ℕ
-part work a n = take n (drop a work)
-
--- the row holds the tokens ts, and the entries es from the index a on
-pub record Wheels (count a n : ℕ) (ts : List Token) (es : List ℕ) (work : List ℕ) : Type 0 where
-  pub tokens : rows count work ≡ ts
-  pub entries : part work a n ≡ es
-  pub many : length es ≡ n

@@ -1,220 +1,179 @@
-// Comments: header, trailing, and where those that lead a rule begin.
-ghost use Rattle.std.specs.Prelude.{◌≡◌, ◌+◌, ◌-◌, ◌*◌, ◌^◌, ◌<◌, ◌≤◌, [], ◌∷◌, length};
+// Comments: header, trailing, and where those that lead a rule begin. The sheet is written and the tokens are read, and no fact ties them together, so that
+// they are two parameters.
+ghost use Rattle.std.specs.Prelude.{◌≡◌, ◌+◌, ◌-◌, ◌^◌, ◌<◌, ◌≤◌, [], ◌∷◌, length};
+ghost use Rattle.tokens.specs.Listed.{tokens_of};
 ghost use Rattle.language.specs.Layout.{flat};
-ghost use Rattle.assembler.specs.Rows.{rows};
 ghost use Rattle.assembler.specs.Entries.{entries};
 ghost use Rattle.assembler.specs.Feeds.{Fed, CommentsLast};
-ghost use Rattle.sheet.specs.Stored.{Stored};
-ghost use Rattle.sheet.specs.Comments.{text_of, text_words, comments_in, between, nothing, passed, passed_all, lead_from, header_of, header, trailing};
+ghost use Rattle.sheet.specs.Puts.{Puts};
+ghost use Rattle.sheet.specs.Comments.{text_of, text_words, comments_in, between, nothing, passed, passed_all};
+ghost use Rattle.sheet.specs.Comments.{lead_from, header_of, header, trailing};
 ghost use Rattle.sheet.specs.Rules.{rule_lengths};
 
-use crate::{lengths, put};
-use assembler::entry;
+use crate::lengths;
+use crate::put::Sheet;
+use assembler::{entry, seek};
 use diag::Span;
 use lexer::kind;
-use tokens::Token;
+use parser::ItemKind;
+use tokens::{Token, Tokens};
 
-// The comments that wait for an item: whether an item or failed line came earlier, where they begin, and where the block that goes on begins.
-#[derive(Clone, Copy)]
+// The kind of a rule's entry.
+pub const RULE: u32 = entry::ITEM + ItemKind::Transition as u32;
+
+// The comments that wait for an item: where they begin, and where the block that goes on begins. `from` is none as long as no item or failed line came, and they
+// then begin with the row.
+#[derive(Clone, Copy, Debug, PartialEq, Eq)]
 pub struct Pending {
-    pub seen: bool,
-    pub from: usize,
+    pub from: Option<usize>,
     pub block: usize,
 }
 
-// No comment is pending.
-pub const NOTHING: Pending = Pending {
-    seen: false,
-    from: 0,
-    block: 0,
-};
-// The number of a rule's item.
-pub const TRANSITION: u32 = 11;
+impl Pending {
+    // No comment is pending.
+    pub const NOTHING: Self = Self {
+        from: None,
+        block: 0,
+    };
+
+    // What is pending behind the line that begins with the token t at an index.
+    pub fn passed(self, t: Token, at: usize) -> Self
+        requires { at + 2 < 2 ^ 64 }
+        ensures { result ≡ passed self at t }
+    {
+        let block = entry::next_line(t, at);
+        if entry::ITEM <= t.kind {
+            return Self {
+                from: Some(block),
+                block,
+            };
+        }
+        if t.kind == kind::COMMENT {
+            return self;
+        }
+        Self { block, ..self }
+    }
+
+    // Where the comments that lead a rule begin.
+    #[tactic(auto, unfolding(crate::specs::Comments::lead_from))]
+    pub fn lead_from(self) -> usize
+        ensures { result ≡ lead_from self }
+    {
+        self.from.unwrap_or(self.block)
+    }
+}
 
 // The place of a comment's text.
 pub fn text_of(t: Token) -> Span
     ensures { result ≡ text_of t }
 {
     Span {
-        start: std::num::wrapping_add_u32(t.start, t.value),
+        start: t.start.wrapping_add(t.value),
         end: t.end,
     }
 }
 
 // A token's text, if it is a comment.
-fn comment(t: Token, out: &mut [u32], at: usize) -> usize
-    requires { at + length (flat text_words (comments_in (t ∷ []))) < 2 ^ 64 }
-    ensures { Stored (flat text_words (comments_in (t ∷ []))) out.old at out.new result }
+fn comment(sheet: &mut Sheet, t: Token)
+    ensures { Puts (flat text_words (comments_in (t ∷ []))) sheet.old sheet.new }
 {
     if t.kind == kind::COMMENT {
-        return put::place(out, at, text_of(t));
+        sheet.place(text_of(t));
     }
-    at
 }
 
-// The comments from the index `from` to before `to`: stored from the index `at` on where there is room, and the index behind them.
-pub fn comments(
-    work: &[u32],
-    count: usize,
-    from: usize,
-    to: usize,
-    out: &mut [u32],
-    at: usize,
-) -> usize
-    requires { (4 * count ≤ length work.now) × (at + length (flat text_words (between (rows count work.now) from to)) < 2 ^ 64) }
-    ensures { Stored (flat text_words (between (rows count work.now) from to)) out.old at out.new result }
+// The comments from the index `from` to before `to`: two numbers, since most callers look at one of them by itself too.
+pub fn comments(sheet: &mut Sheet, tokens: &Tokens, from: usize, to: usize)
+    ensures { Puts (flat text_words (between (tokens_of tokens.now) from to)) sheet.old sheet.new }
 {
-    let mut n = at;
-    let mut i = from;
-    while i < to {
-        let t = entry::token_at(work, count, i);
-        n = comment(t, out, n);
-        i += 1;
+    for i in from..to {
+        comment(sheet, tokens.at(i));
+    }
+}
+
+// How many comments stand from the index `from` to before `to`.
+pub fn count_between(tokens: &Tokens, from: usize, to: usize) -> usize
+    ensures { result ≡ length (between (tokens_of tokens.now) from to) }
+{
+    let mut n = 0;
+    for i in from..to {
+        if tokens.at(i).kind == kind::COMMENT {
+            n += 1;
+        }
     }
     n
 }
 
-// How many comments stand from the index `from` to before `to`.
-pub fn count_between(work: &[u32], count: usize, from: usize, to: usize) -> usize
-    requires { (4 * count ≤ length work.now) × (2 * count < 2 ^ 64) }
-    ensures { result ≡ length (between (rows count work.now) from to) }
-{
-    let mut none = [0u32; 1];
-    comments(work, count, from, to, &mut none[..0], 0) / 2
-}
-
-// What is pending behind the line that begins with the token t at an index.
-pub fn passed(p: Pending, t: Token, at: usize) -> Pending
-    requires { at + 2 < 2 ^ 64 }
-    ensures { result ≡ passed p at t }
-{
-    let next = entry::next_line(t, at);
-    if entry::ITEM <= t.kind {
-        return Pending {
-            seen: true,
-            from: next,
-            block: next,
-        };
-    }
-    if t.kind == kind::COMMENT {
-        return p;
-    }
-    Pending {
-        seen: p.seen,
-        from: p.from,
-        block: next,
-    }
-}
-
-// Where the comments that lead a rule begin.
-pub fn lead_from(p: Pending) -> usize
-    ensures { result ≡ lead_from p }
-{
-    if p.seen {
-        return p.from;
-    }
-    p.block
-}
-
 // The comments from the index `from` to before the line feed, at the index `end`, of a declaration that begins at the index i. Its line has none but
 // at its end, so a long one is not gone over.
-fn declared(
-    work: &[u32],
-    count: usize,
-    from: usize,
-    i: usize,
-    end: usize,
-    out: &mut [u32],
-    at: usize,
-) -> usize
-    requires { (4 * count ≤ length work.now) × (at + length (flat text_words (between (rows count work.now) from end)) < 2 ^ 64) × (between (rows count work.now) i end ≡ between (rows count work.now) (end - 1) end) }
-    ensures { Stored (flat text_words (between (rows count work.now) from end)) out.old at out.new result }
+fn declared(sheet: &mut Sheet, tokens: &Tokens, from: usize, i: usize, end: usize)
+    requires { between (tokens_of tokens.now) i end ≡ between (tokens_of tokens.now) (end - 1) end }
+    ensures { Puts (flat text_words (between (tokens_of tokens.now) from end)) sheet.old sheet.new }
 {
-    if i < from {
-        return comments(work, count, from, end, out, at);
+    if i < from || end <= i {
+        return comments(sheet, tokens, from, end);
     }
-    if end <= i {
-        return comments(work, count, from, end, out, at);
-    }
-    let n = comments(work, count, from, i, out, at);
-    comments(work, count, end - 1, end, out, n)
+    comments(sheet, tokens, from, i);
+    comments(sheet, tokens, end - 1, end);
 }
 
 // The header comments of the line that begins with the token t at the index i.
-fn header_of(
-    work: &[u32],
-    count: usize,
-    p: Pending,
-    i: usize,
-    t: Token,
-    out: &mut [u32],
-    at: usize,
-) -> usize
-    requires { (4 * count ≤ length work.now) × (at + length (flat text_words (header_of (rows count work.now) p t)) < 2 ^ 64) × (16 ≤ t.kind → between (rows count work.now) i t.value ≡ between (rows count work.now) (t.value - 1) t.value) }
-    ensures { Stored (flat text_words (header_of (rows count work.now) p t)) out.old at out.new result }
+fn header_of(sheet: &mut Sheet, tokens: &Tokens, p: Pending, i: usize, t: Token)
+    requires { 16 ≤ t.kind
+        → between (tokens_of tokens.now) i t.value ≡ between (tokens_of tokens.now) (t.value - 1) t.value }
+    ensures { Puts (flat text_words (header_of (tokens_of tokens.now) p t)) sheet.old sheet.new }
 {
     if t.kind < entry::ITEM {
-        return at;
+        return;
     }
-    if t.kind < entry::ITEM + TRANSITION {
-        let end = entry::wide(t.value);
-        return declared(work, count, p.from, i, end, out, at);
+    if t.kind < RULE {
+        return declared(sheet, tokens, p.from.unwrap_or(0), i, t.value as usize);
     }
-    if t.kind == entry::ITEM + TRANSITION {
-        if p.seen {
-            return at;
-        }
-        return comments(work, count, p.from, p.block, out, at);
+    if t.kind == RULE && p.from.is_none() {
+        comments(sheet, tokens, 0, p.block);
     }
-    at
 }
 
-// Where the header comments end, what is pending behind all lines, and how many words the rules take.
-#[derive(Clone, Copy)]
+// What is pending behind all lines, and how many words the rules take.
+#[derive(Clone, Copy, Debug, PartialEq, Eq)]
 pub struct Headed {
-    pub end: usize,
     pub left: Pending,
     pub rules: usize,
 }
 
-// The header comments of a row, and in the same walk over its lines the number of its rules' words.
-pub fn header(work: &[u32], count: usize, out: &mut [u32], at: usize) -> Headed
-    requires { (4 * count ≤ length work.now) × (count < 2 ^ 32) × (at + length (flat text_words (header (rows count work.now))) < 2 ^ 64) × (rule_lengths (rows count work.now) < 2 ^ 64) × Fed (rows count work.now) × CommentsLast (rows count work.now) }
-    ensures { (Stored (flat text_words (header (rows count work.now))) out.old at out.new result.end) × (result.left ≡ passed_all nothing (entries (rows count work.now))) × (result.rules ≡ rule_lengths (rows count work.now)) }
+// The header comments of a row, and in the same walk over its lines the number of its rules' words. Where a line ends is found while it is read, so that no
+// `for` counts the steps. That the tokens are few is asked here and there: a Tokens may hold more.
+pub fn header(sheet: &mut Sheet, tokens: &Tokens) -> Headed
+    requires few { tokens.now.count < 2 ^ 32 }
+    requires lengths { rule_lengths (tokens_of tokens.now) < 2 ^ 64 }
+    requires fed { Fed (tokens_of tokens.now) }
+    requires last { CommentsLast (tokens_of tokens.now) }
+    ensures written { Puts (flat text_words (header (tokens_of tokens.now))) sheet.old sheet.new }
+    ensures left { result.left ≡ passed_all nothing (entries (tokens_of tokens.now)) }
+    ensures rules { result.rules ≡ rule_lengths (tokens_of tokens.now) }
 {
-    let mut p = NOTHING;
-    let mut n = at;
-    let mut m = 0;
+    let mut left = Pending::NOTHING;
+    let mut rules = 0;
     let mut i = 0;
-    while i < count {
-        let t = entry::token_at(work, count, i);
-        n = header_of(work, count, p, i, t, out, n);
-        m += lengths::line_length(work, count, p, i, t);
-        p = passed(p, t, i);
-        i = entry::behind_line(work, count, i, t);
+    while i < tokens.count {
+        let t = tokens.known(i);
+        header_of(sheet, tokens, left, i, t);
+        rules += lengths::line_length(tokens, left, i, t);
+        left = left.passed(t, i);
+        i = seek::behind_line(tokens, i, t);
     }
-    if p.seen {
-        return Headed {
-            end: n,
-            left: p,
-            rules: m,
-        };
+    if left.from.is_none() {
+        comments(sheet, tokens, 0, tokens.count);
     }
-    let end = comments(work, count, p.from, count, out, n);
-    Headed {
-        end,
-        left: p,
-        rules: m,
-    }
+    Headed { left, rules }
 }
 
 // The trailing comments of a row behind whose lines p is pending.
-pub fn trailing(work: &[u32], count: usize, p: Pending, out: &mut [u32], at: usize) -> usize
-    requires { (4 * count ≤ length work.now) × (at + length (flat text_words (trailing (rows count work.now))) < 2 ^ 64) × (p ≡ passed_all nothing (entries (rows count work.now))) }
-    ensures { Stored (flat text_words (trailing (rows count work.now))) out.old at out.new result }
+pub fn trailing(sheet: &mut Sheet, tokens: &Tokens, p: Pending)
+    requires { p ≡ passed_all nothing (entries (tokens_of tokens.now)) }
+    ensures { Puts (flat text_words (trailing (tokens_of tokens.now))) sheet.old sheet.new }
 {
-    if p.seen {
-        return comments(work, count, p.from, count, out, at);
+    if let Some(from) = p.from {
+        comments(sheet, tokens, from, tokens.count);
     }
-    at
 }

@@ -1,125 +1,94 @@
-// The expansion of rules: every choice of one symbol from each read set, the last tape fastest.
+// The expansion of rules: every choice of one symbol from each read set, the last tape fastest. The sheet is written, the tokens are read and the blank is a
+// number, which no fact ties together, so that they are three parameters, here and in rules. Alphabet's Symbols has the tokens and the blank as one for
+// its many methods; here five functions hand both on, and those that resolve symbols take the blank alone.
 ghost use Rattle.std.specs.Prelude.{◌≡◌, ◌+◌, ◌*◌, ◌^◌, ◌<◌, ◌≤◌, [], length};
+ghost use Rattle.tokens.specs.Listed.{tokens_of};
 ghost use Rattle.language.specs.Layout.{flat};
-ghost use Rattle.assembler.specs.Rows.{rows};
-ghost use Rattle.sheet.specs.Stored.{Stored};
-ghost use Rattle.sheet.specs.Wheels.{part, choices_behind};
-ghost use Rattle.sheet.specs.Rules.{no_span, rule_words, Placed, Ready, expanded, line_rules, rules};
+ghost use Rattle.sheet.specs.Puts.{Puts};
+ghost use Rattle.sheet.specs.Wheels.{choices_behind};
+ghost use Rattle.sheet.specs.Rules.{no_span, rule_words, Placed, expanded, rules};
 
 use crate::comments::Pending;
+use crate::put::Sheet;
 use crate::rules::Rule;
 use crate::{comments, rules, wheels};
 use assembler::entry;
 use diag::Span;
-use tokens::Token;
+use tokens::Tokens;
 
-// The rules of the choices behind the one at which the wheels stand; no comments go with them.
+// The rules of the choices behind the one at which the wheels stand; no comments go with them. Paper 01 names these labelled loops: the inner turns the
+// wheels from the last, and leaves the outer when all have started again.
 fn choices(
-    work: &mut [u32],
-    count: usize,
-    a: usize,
-    b: usize,
-    r: Rule,
+    sheet: &mut Sheet,
+    tokens: &Tokens,
     blank: u32,
-    out: &mut [u32],
-    at: usize,
-) -> usize
-    requires { (Placed count (length work.old) b r) × (4 * count ≤ a) × (a + r.tapes ≤ b) × (at + length (flat (rule_words blank (rows count work.old) r no_span []) (choices_behind (rows count work.old) (part work.old a r.tapes) (part work.old b r.tapes))) < 2 ^ 64) }
-    ensures { (rows count work.new ≡ rows count work.old) × (Stored (flat (rule_words blank (rows count work.old) r no_span []) (choices_behind (rows count work.old) (part work.old a r.tapes) (part work.old b r.tapes))) out.old at out.new result) }
+    r: Rule,
+    entries: &[u32],
+    members: &mut [u32],
+)
+    requires placed { Placed tokens.now.count r }
+    requires wheels { (length entries.now ≡ r.tapes) × (length members.old ≡ r.tapes) }
+    ensures { Puts (flat (rule_words blank (tokens_of tokens.now) r no_span [])
+        (choices_behind (tokens_of tokens.now) entries.now members.old)) sheet.old sheet.new }
 {
-    let mut o = at;
     'choices: loop {
-        let mut tape = r.tapes;
+        let mut t = entries.len();
         loop {
-            if tape == 0 {
+            if t == 0 {
                 break 'choices;
             }
-            tape -= 1;
-            if wheels::turn(work, count, a, b, tape) {
+            t -= 1;
+            if wheels::turn(tokens, entries, members, t) {
                 break;
             }
         }
-        o = rules::write_rule(work, count, b, r, Span::NONE, r.line, blank, out, o);
+        r.put(sheet, tokens, blank, members, Span::NONE, r.line);
     }
-    o
-}
-
-// Sets the wheels of the rule at a line to its first choice.
-fn ready(work: &mut [u32], count: usize, line: usize, a: usize, b: usize) -> Rule
-    requires { (4 * count ≤ a) × (a + count ≤ b) × (b + count ≤ length work.old) × (9 * count + 11 < 2 ^ 32) × (line < count) }
-    ensures { Ready count a b (rows count work.old) line result work.new }
-{
-    let p = entry::token_at(work, count, line + 1);
-    let i = rules::first_entry(work, count, line + 4);
-    let n = wheels::wheels(work, count, i, entry::wide(p.start), a, b);
-    rules::rule_at(work, count, line, n)
 }
 
 // The rules that the line at an index stands for; the comments that lead it begin at the index `lead`.
 pub fn expand(
-    work: &mut [u32],
-    count: usize,
-    a: usize,
-    b: usize,
+    sheet: &mut Sheet,
+    tokens: &Tokens,
+    blank: u32,
     line: usize,
     lead: usize,
-    blank: u32,
-    out: &mut [u32],
-    at: usize,
-) -> usize
-    requires { (4 * count ≤ a) × (a + count ≤ b) × (b + count ≤ length work.old) × (9 * count + 11 < 2 ^ 32) × (line < count) × (at + length (expanded blank (rows count work.old) lead line) < 2 ^ 64) }
-    ensures { (rows count work.new ≡ rows count work.old) × (Stored (expanded blank (rows count work.old) lead line) out.old at out.new result) }
+    entries: &mut [u32],
+    members: &mut [u32],
+)
+    requires wheels { (tokens.now.count ≤ length entries.old) × (tokens.now.count ≤ length members.old) }
+    requires line { (9 * tokens.now.count + 11 < 2 ^ 32) × (line < tokens.now.count) }
+    ensures { Puts (expanded blank (tokens_of tokens.now) lead line) sheet.old sheet.new }
 {
-    let r = ready(work, count, line, a, b);
-    let c = rules::own_place(work, count, line);
-    let o = rules::write_rule(work, count, b, r, c, lead, blank, out, at);
-    choices(work, count, a, b, r, blank, out, o)
+    let sets = tokens.at(line + 1).start as usize;
+    let first = rules::first_entry(tokens, line + 4);
+    let n = wheels::wheels(tokens, first, sets, entries, members);
+    let r = Rule::at(tokens, line, n);
+    let c = rules::own_place(tokens, line);
+    r.put(sheet, tokens, blank, &members[..n], c, lead);
+    choices(sheet, tokens, blank, r, &entries[..n], &mut members[..n]);
 }
 
-// The rules of the line that begins with the token t at an index, if it is a rule's.
-fn line_rules(
-    work: &mut [u32],
-    count: usize,
-    a: usize,
-    b: usize,
-    p: Pending,
-    line: usize,
-    t: Token,
-    blank: u32,
-    out: &mut [u32],
-    at: usize,
-) -> usize
-    requires { (4 * count ≤ a) × (a + count ≤ b) × (b + count ≤ length work.old) × (9 * count + 11 < 2 ^ 32) × (line < count) × (at + length (line_rules blank (rows count work.old) p line t) < 2 ^ 64) }
-    ensures { (rows count work.new ≡ rows count work.old) × (Stored (line_rules blank (rows count work.old) p line t) out.old at out.new result) }
-{
-    if t.kind != entry::ITEM + comments::TRANSITION {
-        return at;
-    }
-    let lead = comments::lead_from(p);
-    expand(work, count, a, b, line, lead, blank, out, at)
-}
-
-// The rules of a row.
+// The rules of a row. Where a line ends is found while it is read, so that no `for` counts the steps.
 pub fn rules(
-    work: &mut [u32],
-    count: usize,
-    a: usize,
-    b: usize,
+    sheet: &mut Sheet,
+    tokens: &Tokens,
     blank: u32,
-    out: &mut [u32],
-    at: usize,
-) -> usize
-    requires { (4 * count ≤ a) × (a + count ≤ b) × (b + count ≤ length work.old) × (9 * count + 11 < 2 ^ 32) × (at + length (rules blank (rows count work.old)) < 2 ^ 64) }
-    ensures { (rows count work.new ≡ rows count work.old) × (Stored (rules blank (rows count work.old)) out.old at out.new result) }
+    entries: &mut [u32],
+    members: &mut [u32],
+)
+    requires wheels { (tokens.now.count ≤ length entries.old) × (tokens.now.count ≤ length members.old) }
+    requires small { 9 * tokens.now.count + 11 < 2 ^ 32 }
+    ensures { Puts (rules blank (tokens_of tokens.now)) sheet.old sheet.new }
 {
-    let mut p = comments::NOTHING;
-    let mut o = at;
+    let mut p = Pending::NOTHING;
     let mut i = 0;
-    while i < count {
-        let t = entry::token_at(work, count, i);
-        o = line_rules(work, count, a, b, p, i, t, blank, out, o);
-        p = comments::passed(p, t, i);
+    while i < tokens.count {
+        let t = tokens.known(i);
+        if t.kind == comments::RULE {
+            expand(sheet, tokens, blank, i, p.lead_from(), entries, members);
+        }
+        p = p.passed(t, i);
         i = entry::next_line(t, i);
     }
-    o
 }

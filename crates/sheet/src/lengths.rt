@@ -1,24 +1,24 @@
 // How many words the rules of a line take, without expanding them.
 ghost use Rattle.std.specs.Prelude.{◌≡◌, ◌+◌, ◌*◌, ◌^◌, ◌<◌, ◌≤◌, length};
-ghost use Rattle.assembler.specs.Rows.{rows};
+ghost use Rattle.tokens.specs.Listed.{tokens_of};
 ghost use Rattle.sheet.specs.Rules.{line_length};
 
 use crate::comments;
 use crate::comments::Pending;
-use assembler::{entry, rules};
-use tokens::Token;
+use assembler::sets;
+use tokens::{Token, Tokens};
 
 // Those of the line that begins with the token t at an index, if it is a rule's.
-pub(crate) fn line_length(work: &[u32], count: usize, p: Pending, line: usize, t: Token) -> usize
-    requires { (4 * count ≤ length work.now) × (count < 2 ^ 32) × (line < count) }
-    ensures { result ≡ line_length (rows count work.now) p line t }
+pub(crate) fn line_length(tokens: &Tokens, p: Pending, line: usize, t: Token) -> usize
+    requires { (tokens.now.count < 2 ^ 32) × (line < tokens.now.count) }
+    ensures { result ≡ line_length (tokens_of tokens.now) p line t }
 {
-    if t.kind != entry::ITEM + comments::TRANSITION {
+    if t.kind != comments::RULE {
         return 0;
     }
-    let q = entry::token_at(work, count, line + 1);
-    let to = entry::wide(entry::token_at(work, count, line + 3).start);
-    let n = rules::combinations(work, count, line + 4, to);
-    let k = comments::count_between(work, count, comments::lead_from(p), line);
-    n * (11 + 7 * entry::wide(q.start)) + 2 * k
+    let arity = tokens.at(line + 1).start as usize;
+    let to = tokens.at(line + 3).start as usize;
+    let n = sets::combinations(tokens, line + 4, to);
+    let k = comments::count_between(tokens, p.lead_from(), line);
+    n * (11 + 7 * arity) + 2 * k
 }

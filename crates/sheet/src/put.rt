@@ -1,61 +1,85 @@
-// Stores to the sheet.
-ghost use Rattle.std.specs.Prelude.{◌≡◌, ◌+◌, ◌^◌, ◌<◌, ◌≤◌, ◌∷◌, length, slice_set};
-ghost use Rattle.sheet.specs.Stored.{Stored};
+// Words stored on the sheet: each where there is room, and counted in any case, so that one body counts and writes.
+ghost use Rattle.std.specs.Prelude.{◌≡◌, ◌<◌, ◌∷◌, [], length};
 ghost use Rattle.sheet.specs.Comments.{span_words};
 
 use diag::Span;
 
-// A word at an index, where there is room.
-pub fn word(out: &mut [u32], at: usize, x: u32)
-    ensures { out.new ≡ slice_set out.old at x }
+// Words in the place of those that a row holds.
+// By `copy_from_slice` they would stand in memory first: 9 in a hundred more instructions for a text of quoted symbols (glyphs-set).
+fn store(row: &mut [u32], words: &[u32])
+    requires { length row.old ≡ length words.now }
+    ensures { row.new ≡ words.now }
 {
-    if at < out.len() {
-        out[at] = x;
+    for i in 0..words.len() {
+        row[i] = words[i];
     }
 }
 
-// A place at an index.
-pub fn place(out: &mut [u32], at: usize, p: Span) -> usize
-    requires { at + 2 < 2 ^ 64 }
-    ensures { Stored (span_words p) out.old at out.new result }
-{
-    word(out, at, p.start);
-    word(out, at + 1, p.end);
-    at + 2
+// Where words are stored: the row lent for them, and the index where the next goes. With an empty row, `&mut row[..0]`, they are only counted.
+// Crate emit's Output is this of bytes: one struct for both would share the fields and a test for room, and what is stored would stay defined twice.
+#[derive(Drop)]
+pub struct Sheet<'a> {
+    pub row: &'a mut [u32],
+    pub at: usize,
 }
 
-// A character and its place at an index.
-pub fn symbol(out: &mut [u32], at: usize, x: u32, p: Span) -> usize
-    requires { at + 3 < 2 ^ 64 }
-    ensures { Stored (x ∷ span_words p) out.old at out.new result }
-{
-    word(out, at, x);
-    place(out, at + 1, p)
-}
+impl<'a> Sheet<'a> {
+    ghost use Rattle.sheet.specs.Puts.{held, lent_row, Puts};
 
-// A word at an index, where there is room for it.
-pub fn word_in(out: &mut [u32], at: usize, x: u32)
-    requires { at < length out.old }
-    ensures { out.new ≡ slice_set out.old at x }
-{
-    out[at] = x;
-}
+    // The row from the index `at` on.
+    pub fn new(row: &'a mut [u32], at: usize) -> Self
+        ensures holds { ((held result).row ≡ row.old) × ((held result).at ≡ at) }
+        ensures same_row { lent_row result ≡ row.entry.ghost_name }
+    {
+        Self { row, at }
+    }
 
-// A place at an index, where there is room for it.
-pub fn place_in(out: &mut [u32], at: usize, p: Span) -> usize
-    requires { at + 2 ≤ length out.old }
-    ensures { Stored (span_words p) out.old at out.new result }
-{
-    out[at] = p.start;
-    out[at + 1] = p.end;
-    at + 2
-}
+    // Where the next word goes.
+    pub fn at(&self) -> usize
+        ensures { result ≡ (held self.now).at }
+    {
+        self.at
+    }
 
-// A character and its place at an index, where there is room for them.
-pub fn symbol_in(out: &mut [u32], at: usize, x: u32, p: Span) -> usize
-    requires { at + 3 ≤ length out.old }
-    ensures { Stored (x ∷ span_words p) out.old at out.new result }
-{
-    out[at] = x;
-    place_in(out, at + 1, p)
+    // A word.
+    pub fn word(&mut self, x: u32)
+        ensures { Puts (x ∷ []) self.old self.new }
+    {
+        if self.at < self.row.len() {
+            self.row[self.at] = x;
+        }
+        self.at = self.at.saturating_add(1);
+    }
+
+    // A few words: at once where there is room for all.
+    pub fn words<const N: usize>(&mut self, words: &[u32; N])
+        requires { 0 < N }
+        ensures { Puts words.now self.old self.new }
+    {
+        if self.at < self.row.len().saturating_sub(N - 1) {
+            let end = self.at + N;
+            store(&mut self.row[self.at..end], words);
+            self.at = end;
+            return;
+        }
+        for &x in words {
+            self.word(x);
+        }
+    }
+
+    // A place.
+    pub fn place(&mut self, p: Span)
+        ensures { Puts (span_words p) self.old self.new }
+    {
+        self.word(p.start);
+        self.word(p.end);
+    }
+
+    // A character and its place.
+    pub fn symbol(&mut self, x: u32, p: Span)
+        ensures { Puts (x ∷ span_words p) self.old self.new }
+    {
+        self.word(x);
+        self.place(p);
+    }
 }

@@ -1,9 +1,9 @@
 // Words of the sheet as a caller has them: a word, a place, the words behind some, a record; what lies past the end is 0 or empty.
+// A struct around such a row would hold the row alone; as functions these take any part of it as it is.
 #![tactic(auto)]
 
 ghost use Rattle.std.specs.Prelude.{◌≡◌, ◌<◌, get_or, take, drop};
 ghost use Rattle.language.specs.Agreement.{place_at};
-ghost use Rattle.machine.specs.Head.{span_of};
 
 use machine::Span;
 
@@ -17,7 +17,7 @@ pub fn word(words: &[u32], i: usize) -> u32
 // The place that stands in two words.
 pub fn place_at(words: &[u32], i: usize) -> Span
     requires { i < usize.MAX }
-    ensures { result ≡ span_of (place_at words.now i) }
+    ensures { result ≡ place_at words.now i }
 {
     Span {
         start: word(words, i),
@@ -25,7 +25,7 @@ pub fn place_at(words: &[u32], i: usize) -> Span
     }
 }
 
-// The words behind the first n.
+// The words behind the first n, which may be more than there are.
 pub fn after(words: &[u32], n: usize) -> &[u32]
     ensures { result.now ≡ drop n words.now }
 {

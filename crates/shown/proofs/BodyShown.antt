@@ -8,7 +8,8 @@ use native.Mathlib.Omega.{arith}
 use borrow.Author.Tests.{le-leb, lt-leb, lt-ltb, le-ltb, eq-eqb, ne_eqb}
 use lib.ListN.{length, take, drop}
 use lib.Seq.{take-add, drop-drop}
-use Rattle.lexer.specs.declared.Span.{Span as Place}
+use Rattle.std.specs.Prelude.{Option as Maybe, None, Some, is_some, unwrap_or}
+use Rattle.diag.specs.declared.Span.{Span as Place}
 use Rattle.tokens.specs.declared.Token.{Token}
 use Rattle.parser.specs.Row.{peek}
 use Rattle.language.specs.Machine.{Located}
@@ -21,7 +22,7 @@ use Rattle.assembler.proofs.Rows.{entries_at, entries-step, entries-end}
 use Rattle.assembler.proofs.Means.{number}
 use Rattle.assembler.proofs.EntriesMean.{lines_end, lines-on}
 use Rattle.sheet.specs.declared.comments.Pending.{Pending}
-use Rattle.sheet.specs.Comments.{text_words, comments_in, between, next, nothing, passed, passed_all, lead_from, header_of, header_from, header, trailing}
+use Rattle.sheet.specs.Comments.{text_words, comments_in, between, next, nothing, passed, passed_all, lead_from, begins, header_of, header_from, header, trailing}
 use Rattle.sheet.specs.Rules.{expanded, line_rules, rules_from, rules, line_length, lengths_from, rule_lengths}
 use Rattle.sheet.proofs.CommentLaws.{comments-append, comments-one, comments_no, between_none, between-on}
 use Rattle.shown.proofs.Shows.{CommentShows, ItemShows, Shown}
@@ -60,11 +61,19 @@ unfolding L.flat
 words-comment ts i j h g = ap (L.flat text_words) (between-on ts i j h ∙ ap (λ (l : List Token). l ++ between ts (i + 1) j) (comments-one (peek ts i) g))
 
 -- ---- what is pending in the row and in the language
+-- if no item or failed line came earlier, all that is pending begins with the row
+begins_first : (p : Pending) → is_some p.from ≡ false → begins p ≡ 0
+begins_first p = go p.from
+  where
+    go : (o : Maybe ℕ) → is_some o ≡ false → unwrap_or o 0 ≡ 0
+    go None h = refl
+    go (Some k) h = let z : ◌≡◌ {A = ℕ} 0 1 = cc in absurd (omega (arith, z))
+
 pub record Pends (ts : List Token) (p : Pending) (i : ℕ) (seen : Bool) (old block : Comments) : Type 0 where
-  pub seen_is : p.seen ≡ seen
-  pub low : p.from ≤ p.block
+  pub seen_is : is_some p.from ≡ seen
+  pub low : begins p ≤ p.block
   pub high : p.block ≤ i
-  pub olds : L.flat text_words (between ts p.from p.block) ≡ L.flat L.located_words old
+  pub olds : L.flat text_words (between ts (begins p) p.block) ≡ L.flat L.located_words old
   pub blocks : L.flat text_words (between ts p.block i) ≡ L.flat L.located_words block
 
 pub pends_start : (ts : List Token) → Pends ts nothing 0 false [] []
@@ -73,9 +82,9 @@ pends_start ts = record { seen_is = refl; low = omega arith; high = omega arith;
 
 module _ (ts : List Token) (p : Pending) (i : ℕ) (seen : Bool) (old block : Comments) (g : Pends ts p i seen old block) where
   -- all that is pending
-  pends_all : words_in ts p.from i ≡ L.flat L.located_words (old ++ block)
+  pends_all : words_in ts (begins p) i ≡ L.flat L.located_words (old ++ block)
   pends_all =
-      words_join ts p.from p.block i g.low g.high ∙ ap (λ (l : List ℕ). l ++ words_in ts p.block i) g.olds
+      words_join ts (begins p) p.block i g.low g.high ∙ ap (λ (l : List ℕ). l ++ words_in ts p.block i) g.olds
       ∙ ap (λ (l : List ℕ). L.flat L.located_words old ++ l) g.blocks ∙ sym (flat_append L.located_words old block)
 
   pends_blank : (peek ts i).kind ≡ 13 → Pends ts (passed p i (peek ts i)) (next i (peek ts i)) seen (old ++ block) []
@@ -84,8 +93,8 @@ module _ (ts : List Token) (p : Pending) (i : ℕ) (seen : Bool) (old block : Co
       let k₁ : (peek ts i).kind < 16 = omega arith in
       let k₂ : (peek ts i).kind ≡ 12 → ⊥ = λ z. omega arith in
       let one : words_in ts i (i + 1) ≡ [] = words-other ts i (i + 1) (omega arith) k₂ ∙ words-none ts (i + 1) (i + 1) (omega arith) in
-      let all : words_in ts p.from (i + 1) ≡ L.flat L.located_words (old ++ block) =
-      words_join ts p.from i (i + 1) (omega (arith, g.low, g.high)) (omega arith) ∙ ap (λ (l : List ℕ). words_in ts p.from i ++ l) one ∙ append-nil (words_in ts p.from i) ∙ pends_all in
+      let all : words_in ts (begins p) (i + 1) ≡ L.flat L.located_words (old ++ block) =
+      words_join ts (begins p) i (i + 1) (omega (arith, g.low, g.high)) (omega arith) ∙ ap (λ (l : List ℕ). words_in ts (begins p) i ++ l) one ∙ append-nil (words_in ts (begins p) i) ∙ pends_all in
       let step : i + 1 + 0 ≡ i + 1 = omega arith in
       rw (lt-leb 16 (peek ts i).kind k₁, ne_eqb (peek ts i).kind 12 k₂, step)
       (record { seen_is = g.seen_is; low = omega (arith, g.low, g.high); high = omega arith; olds = all; blocks = words-none ts (i + 1) (i + 1) (omega arith) })
@@ -116,7 +125,7 @@ pends_after ts p i h =
 -- ---- the body
 -- the trailing comments, where p is pending behind all lines
 abbrev trailing_of : List Token → Pending → List Token
-trailing_of ts p = cond p.seen (between ts p.from (length ts)) []
+trailing_of ts p = cond (is_some p.from) (between ts (begins p) (length ts)) []
 
 -- what the lines from the index i on give, and a body of the language
 pub record Tied (b : ℕ) (ts : List Token) (p : Pending) (i : ℕ) (body : A.Body Place) : Type 0 where
@@ -130,22 +139,22 @@ module _ (b : ℕ) (ts : List Token) (p : Pending) (i : ℕ) (old block : Commen
   none_left : entries_at ts i ≡ []
   none_left = entries-end ts i (omega arith)
 
-  rest-words : (seen : Bool) → Pends ts p i seen old block → words_in ts p.from (length ts) ≡ L.flat L.located_words (old ++ block)
-  rest-words seen g = ap (words_in ts p.from) (sym end) ∙ pends_all ts p i seen old block g
+  rest-words : (seen : Bool) → Pends ts p i seen old block → words_in ts (begins p) (length ts) ≡ L.flat L.located_words (old ++ block)
+  rest-words seen g = ap (words_in ts (begins p)) (sym end) ∙ pends_all ts p i seen old block g
 
   tied_end : (seen : Bool) → Pends ts p i seen old block → Tied b ts p i (A.at_end seen (old ++ block))
   unfolding A.at_end header_from passed_all rules_from lengths_from A.expand_all L.rule_lengths L.flat
   tied_end true g = record {
-    header_is = ap (λ (es : List Entry). L.flat text_words (header_from ts p es)) none_left ∙ ap (λ (s : Bool). L.flat text_words (cond s [] (between ts p.from (length ts)))) g.seen_is;
-    trailing_is = ap (λ (es : List Entry). L.flat text_words (trailing_of ts (passed_all p es))) none_left ∙ ap (λ (s : Bool). L.flat text_words (cond s (between ts p.from (length ts)) [])) g.seen_is
+    header_is = ap (λ (es : List Entry). L.flat text_words (header_from ts p es)) none_left ∙ ap (λ (s : Bool). L.flat text_words (cond s [] (between ts 0 (length ts)))) g.seen_is;
+    trailing_is = ap (λ (es : List Entry). L.flat text_words (trailing_of ts (passed_all p es))) none_left ∙ ap (λ (s : Bool). L.flat text_words (cond s (between ts (begins p) (length ts)) [])) g.seen_is
         ∙ rest-words true g;
     rules_are = ap (rules_from b ts p) none_left;
     lengths_are = ap (lengths_from ts p) none_left;
   }
   tied_end false g = record {
-    header_is = ap (λ (es : List Entry). L.flat text_words (header_from ts p es)) none_left ∙ ap (λ (s : Bool). L.flat text_words (cond s [] (between ts p.from (length ts)))) g.seen_is
-        ∙ rest-words false g;
-    trailing_is = ap (λ (es : List Entry). L.flat text_words (trailing_of ts (passed_all p es))) none_left ∙ ap (λ (s : Bool). L.flat text_words (cond s (between ts p.from (length ts)) [])) g.seen_is;
+    header_is = ap (λ (es : List Entry). L.flat text_words (header_from ts p es)) none_left ∙ ap (λ (s : Bool). L.flat text_words (cond s [] (between ts 0 (length ts)))) g.seen_is
+        ∙ ap (λ (k : ℕ). words_in ts k (length ts)) (sym (begins_first p g.seen_is)) ∙ rest-words false g;
+    trailing_is = ap (λ (es : List Entry). L.flat text_words (trailing_of ts (passed_all p es))) none_left ∙ ap (λ (s : Bool). L.flat text_words (cond s (between ts (begins p) (length ts)) [])) g.seen_is;
     rules_are = ap (rules_from b ts p) none_left;
     lengths_are = ap (lengths_from ts p) none_left;
   }
@@ -262,7 +271,7 @@ module _ (ts : List Token) (p : Pending) (i : ℕ) where
     header-declared k q c n m =
         let t : Token = peek ts i in
         rw (le-ltb t.kind 16 (omega (arith, m.kind)), lt-ltb t.kind 27 (omega (arith, m.kind)))
-        (words_join ts p.from i t.value (omega (arith, g.low, g.high)) (omega (arith, m.low))
+        (words_join ts (begins p) i t.value (omega (arith, g.low, g.high)) (omega (arith, m.low))
         ∙ ap (λ (l : List ℕ). l ++ words_in ts i t.value) (pends_all ts p i seen old block g)
         ∙ ap (λ (l : List ℕ). L.flat L.located_words (old ++ block) ++ l) (words-other ts i t.value m.low (λ z. omega (arith, m.kind)) ∙ m.comment)
         ∙ sym (flat_append L.located_words (old ++ block) (A.of_option c)))
@@ -273,13 +282,23 @@ unfolding header_of A.unled L.flat
 header-rule ts p i true old block g k =
     rw (le-ltb (peek ts i).kind 16 (omega arith), le-ltb (peek ts i).kind 27 (omega arith), eq-eqb (peek ts i).kind 27 k, g.seen_is)
 header-rule ts p i false old block g k =
-    rw (le-ltb (peek ts i).kind 16 (omega arith), le-ltb (peek ts i).kind 27 (omega arith), eq-eqb (peek ts i).kind 27 k, g.seen_is) g.olds
+    rw (le-ltb (peek ts i).kind 16 (omega arith), le-ltb (peek ts i).kind 27 (omega arith), eq-eqb (peek ts i).kind 27 k, g.seen_is)
+    (ap (λ (k : ℕ). words_in ts k p.block) (sym (begins_first p g.seen_is)) ∙ g.olds)
+
+-- where the comments that lead a rule begin, as a test
+lead_by : (p : Pending) → lead_from p ≡ cond (is_some p.from) (begins p) p.block
+unfolding lead_from
+lead_by p = go p.from
+  where
+    go : (o : Maybe ℕ) → unwrap_or o p.block ≡ cond (is_some o) (unwrap_or o 0) p.block
+    go None = refl
+    go (Some k) = refl
 
 lead-rule : (ts : List Token) (p : Pending) (i : ℕ) (seen : Bool) (old block : Comments) → Pends ts p i seen old block
     → words_in ts (lead_from p) i ≡ L.flat L.located_words (A.leads seen old block)
 unfolding lead_from A.leads
-lead-rule ts p i true old block g = ap (λ (s : Bool). words_in ts (cond s p.from p.block) i) g.seen_is ∙ pends_all ts p i true old block g
-lead-rule ts p i false old block g = ap (λ (s : Bool). words_in ts (cond s p.from p.block) i) g.seen_is ∙ g.blocks
+lead-rule ts p i true old block g = ap (λ (k : ℕ). words_in ts k i) (lead_by p) ∙ ap (λ (s : Bool). words_in ts (cond s (begins p) p.block) i) g.seen_is ∙ pends_all ts p i true old block g
+lead-rule ts p i false old block g = ap (λ (k : ℕ). words_in ts k i) (lead_by p) ∙ ap (λ (s : Bool). words_in ts (cond s (begins p) p.block) i) g.seen_is ∙ g.blocks
 
 item_tied : {text : List ℕ} (b : ℕ) (ts : List Token) (p : Pending) (i : ℕ) (seen : Bool) (old block : Comments) (k : Item Place) (q : Place) (c : Option (Located Place (List ℕ))) (body : A.Body Place)
     → i < length ts → Pends ts p i seen old block → ItemShows text ts i k q c → Kinded k → Tied b ts (passed p i (peek ts i)) (next i (peek ts i)) body

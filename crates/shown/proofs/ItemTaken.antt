@@ -1,5 +1,5 @@
 -- What the line parser took for the value of an item: the answer of the value's parser, and its last token, which is no comment.
-use Rattle.parser.specs.declared.Code.{Code}
+use Rattle.diag.specs.declared.Code.{Code}
 use Rattle.std.specs.Prelude.{Err, None, Option, Some}
 use Rattle.parser.specs.Lines.{Parsed, Done, Failed, Empty, Comment, Read}
 use mathlib.Core.Path.{◌≡◌, refl, sym, ap, subst, ◌∙◌}
@@ -10,7 +10,7 @@ use native.Mathlib.Omega.{arith}
 use borrow.Author.Tests.{eqb-true, ne_eqb}
 use lib.Dec.{eqb}
 use Rattle.diag.proofs.Cases.{by_test_lem}
-use Rattle.lexer.specs.declared.Span.{Span as Place}
+use Rattle.diag.specs.declared.Span.{Span as Place}
 use Rattle.tokens.specs.declared.Token.{Token}
 use Rattle.parser.specs.declared.ItemKind.{ItemKind}
 use Rattle.parser.specs.declared.ItemKind.TheVariants.{Machine, Kind, Input, Output, Tapes, States, InputAlphabet, TapeAlphabet, Blank, Start, Final, Transition}

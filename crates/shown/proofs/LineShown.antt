@@ -12,7 +12,7 @@ use lib.Dec.{eqb}
 use lib.ListN.{length, take, drop}
 use lib.Seq.{get_or-drop, drop-drop}
 use Rattle.diag.proofs.Cases.{by_test_lem}
-use Rattle.lexer.specs.declared.Span.{Span as Place}
+use Rattle.diag.specs.declared.Span.{Span as Place}
 use Rattle.lexer.specs.Tokens.{Token as Lexed}
 use Rattle.lexer.proofs.Steps.{Good}
 use Rattle.lexer.proofs.Placed.{Placed, All}

@@ -11,7 +11,7 @@ use lib.Dec.{eqb, ltb}
 use lib.ListN.{length, take, drop, set, length-map}
 use lib.Seq.{get_or-take, get_or-drop, get_or-set_other, drop-cons, length-take-le}
 use Rattle.diag.proofs.Cases.{by_test_lem}
-use Rattle.lexer.specs.declared.Span.{Span as Place}
+use Rattle.diag.specs.declared.Span.{Span as Place}
 use Rattle.lexer.specs.Tokens.{TokenKind, newline, Token as Lexed}
 use Rattle.lexer.specs.Words.{kind_number}
 use Rattle.lexer.proofs.Placed.{Placed, All, all-at}

@@ -1,5 +1,5 @@
 -- The lists of a rule: their entries stand at every second index, or are sets, and are what the language sees in their tokens.
-use Rattle.parser.specs.declared.Code.{Code}
+use Rattle.diag.specs.declared.Code.{Code}
 use Rattle.parser.proofs.Lists.{done_same}
 use mathlib.Core.Path.{◌≡◌, refl, sym, ap, subst, ◌∙◌}
 use mathlib.Core.Bool.{Bool, true, false, cond}
@@ -12,7 +12,7 @@ use lib.Dec.{eqb}
 use lib.ListN.{length, take, drop}
 use lib.Seq.{drop-cons}
 use Rattle.diag.proofs.Cases.{by_test_lem}
-use Rattle.lexer.specs.declared.Span.{Span as Place}
+use Rattle.diag.specs.declared.Span.{Span as Place}
 use Rattle.lexer.specs.Tokens.{TokenKind, Token as Lexed}
 use Rattle.lexer.proofs.Steps.{Good}
 use Rattle.tokens.specs.declared.Token.{Token}

@@ -5,7 +5,6 @@ use mathlib.Core.Option.{Option, none}
 use Prim.Native.Nat.{ℕ, suc, ◌+◌, ◌*◌}
 use native.Mathlib.Omega.{arith}
 use lib.ListN.{length}
-use Rattle.lexer.specs.declared.Span.{Span as Place}
 use Rattle.diag.specs.declared.Span.{Span}
 use Rattle.tokens.specs.declared.Token.{Token}
 use Rattle.parser.specs.Row.{peek}
@@ -49,7 +48,7 @@ module _ {X Y : Type 0} (R : X → Y → Type 0) where
   both_choices (members {m = ts} p q) = both_each (length ts) p (both_choices q)
 
 -- ---- the tapes
-tape_shown : (b : ℕ) (t : Token) (s : Located Place RawSymbol) (w : Token) (x : Located Place (Option RawSymbol)) (d : Token) (y : Located Place Dir) → SymbolShows t s → WriteShows w x
+tape_shown : (b : ℕ) (t : Token) (s : Located Span RawSymbol) (w : Token) (x : Located Span (Option RawSymbol)) (d : Token) (y : Located Span Dir) → SymbolShows t s → WriteShows w x
     → MoveShows d y → tape_words b t w d ≡ L.action_words (record {
       read = record { value = A.resolve b s.value; place = s.place };
       write = record { value = A.written b s.value x.value; place = x.place };
@@ -65,7 +64,7 @@ tape_shown b t s w x d y p q r =
     ∙ ap (λ (l : List ℕ). read ∷ s.place.start ∷ s.place.end ∷ write ∷ l ++ move_of d ∷ []) q.place
     ∙ ap (λ (n : ℕ). read ∷ s.place.start ∷ s.place.end ∷ write ∷ x.place.start ∷ x.place.end ∷ n ∷ []) r
 
-pub tapes_shown : (b : ℕ) (ts : List Token) (w d : ℕ) (rs : List Token) (ss : List (Located Place RawSymbol)) (xs : List (Located Place (Option RawSymbol))) (ys : List (Located Place Dir))
+pub tapes_shown : (b : ℕ) (ts : List Token) (w d : ℕ) (rs : List Token) (ss : List (Located Span RawSymbol)) (xs : List (Located Span (Option RawSymbol))) (ys : List (Located Span Dir))
     → Both SymbolShows rs ss → Both WriteShows (every_second ts w xs) xs → Both MoveShows (every_second ts d ys) ys → length xs ≡ length ss → length ys ≡ length ss
     → tapes_words b ts w d rs ≡ L.flat L.action_words (A.actions b ss xs ys)
 unfolding tapes_words every_second L.flat A.actions
@@ -84,7 +83,7 @@ tapes_shown b ts w d (r ∷ rs) (s ∷ ss) (x ∷ xs) (y ∷ ys) (members e es) 
       dir = y.value;
     }) ++ l) (tapes_shown b ts (w + 2) (d + 2) rs ss xs ys es ps qs (omega arith) (omega arith))
 
-actions-length : (b : ℕ) (ss : List (Located Place RawSymbol)) (xs : List (Located Place (Option RawSymbol))) (ys : List (Located Place Dir)) → length xs ≡ length ss → length ys ≡ length ss
+actions-length : (b : ℕ) (ss : List (Located Span RawSymbol)) (xs : List (Located Span (Option RawSymbol))) (ys : List (Located Span Dir)) → length xs ≡ length ss → length ys ≡ length ss
     → length (A.actions b ss xs ys) ≡ length ss
 unfolding A.actions
 actions-length b [] xs ys h g = refl
@@ -93,20 +92,20 @@ actions-length b (s ∷ ss) (x ∷ xs) [] h g = absurd (omega arith)
 actions-length b (s ∷ ss) (x ∷ xs) (y ∷ ys) h g = ap suc (actions-length b ss xs ys (omega arith) (omega arith))
 
 -- ---- a rule
-length-located : (cs : List (Located Place (List ℕ))) → length (L.flat L.located_words cs) ≡ 2 * length cs
+length-located : (cs : List (Located Span (List ℕ))) → length (L.flat L.located_words cs) ≡ 2 * length cs
 unfolding L.flat
 length-located [] = refl
 length-located (c ∷ cs) = omega (arith, length-located cs)
 
-module _ (b : ℕ) (ts : List Token) (i : ℕ) (r : RawTransition Place) (m : RuleShows ts i r) (n : ℕ) (p : Place) (line : span_words (place_of (peek ts i)) ≡ L.place_words p)
-    (c : Option (Located Place (List ℕ))) (cs : List (Located Place (List ℕ))) where
-  abbrev rule_line : A.RuleLine Place
+module _ (b : ℕ) (ts : List Token) (i : ℕ) (r : RawTransition Span) (m : RuleShows ts i r) (n : ℕ) (p : Span) (line : span_words (place_of (peek ts i)) ≡ L.place_words p)
+    (c : Option (Located Span (List ℕ))) (cs : List (Located Span (List ℕ))) where
+  abbrev rule_line : A.RuleLine Span
   rule_line = record { raw = r; line = p; comment = c; leading = cs }
 
-  module _ (own : Option (Located Place (List ℕ))) (o : Span) (lead : List (Located Place (List ℕ))) (ls : List Token) (rs : List Token) (ss : List (Located Place RawSymbol))
+  module _ (own : Option (Located Span (List ℕ))) (o : Span) (lead : List (Located Span (List ℕ))) (ls : List Token) (rs : List Token) (ss : List (Located Span RawSymbol))
       (same-own : span_words o ≡ L.place_words (L.place_or_none own)) (same-lead : L.flat text_words ls ≡ L.flat L.located_words lead) (same_read : Both SymbolShows rs ss)
       (arity : length ss ≡ length r.read) where
-    abbrev made : List (Action Place)
+    abbrev made : List (Action Span)
     made = A.actions b ss r.write r.dir
 
     same_length : length made ≡ length rs
@@ -140,7 +139,7 @@ module _ (b : ℕ) (ts : List Token) (i : ℕ) (r : RawTransition Place) (m : Ru
         ∙ ap (λ (l : List ℕ). (L.rule_length (length made) (length lead) ∷ L.place_words r.from.place ++ L.place_words r.to.place ++ L.place_words p ++ L.place_words (L.place_or_none own)
         ++ length made ∷ length lead ∷ []) ++ (L.flat L.action_words made ++ l)) same-lead
 
-  more_shown : (rss : List (List Token)) (sss : List (List (Located Place RawSymbol))) → Both (Long SymbolShows (length r.read)) rss sss
+  more_shown : (rss : List (List Token)) (sss : List (List (Located Span RawSymbol))) → Both (Long SymbolShows (length r.read)) rss sss
       → L.flat (rule_words b ts (rule_at ts i n) no_span []) rss ≡ L.flat L.rule_words (map (A.rule_of b rule_line none []) sss)
   unfolding L.flat L.place_or_none
   more_shown [] [] no_members = refl
@@ -150,7 +149,7 @@ module _ (b : ℕ) (ts : List Token) (i : ℕ) (r : RawTransition Place) (m : Ru
       ap (λ (l : List ℕ). l ++ L.flat (rule_words b ts (rule_at ts i n) no_span []) rss) (rule_shown none no_span [] [] rs ss refl refl e.0 e.1)
       ∙ ap (λ (l : List ℕ). L.rule_words (A.rule_of b rule_line none [] ss) ++ l) (more_shown rss sss es)
 
-  dressed_shown : (o : Span) (ls : List Token) (rss : List (List Token)) (sss : List (List (Located Place RawSymbol))) → span_words o ≡ L.place_words (L.place_or_none c)
+  dressed_shown : (o : Span) (ls : List Token) (rss : List (List Token)) (sss : List (List (Located Span RawSymbol))) → span_words o ≡ L.place_words (L.place_or_none c)
       → L.flat text_words ls ≡ L.flat L.located_words cs → Both (Long SymbolShows (length r.read)) rss sss → dressed b ts (rule_at ts i n) o ls rss ≡ L.flat L.rule_words (A.dressed b rule_line sss)
   unfolding dressed A.dressed L.flat
   dressed_shown o ls [] [] p q no_members = refl
@@ -161,8 +160,8 @@ module _ (b : ℕ) (ts : List Token) (i : ℕ) (r : RawTransition Place) (m : Ru
       ∙ ap (λ (l : List ℕ). L.rule_words (A.rule_of b rule_line c cs ss) ++ l) (more_shown rss sss es)
 
 -- the rules of a line
-module _ (b : ℕ) (ts : List Token) (l i : ℕ) (r : RawTransition Place) (m : RuleShows ts i r) (p : Place) (line : span_words (place_of (peek ts i)) ≡ L.place_words p)
-    (c : Option (Located Place (List ℕ))) (cs : List (Located Place (List ℕ))) (own : span_words (own_place ts i) ≡ L.place_words (L.place_or_none c))
+module _ (b : ℕ) (ts : List Token) (l i : ℕ) (r : RawTransition Span) (m : RuleShows ts i r) (p : Span) (line : span_words (place_of (peek ts i)) ≡ L.place_words p)
+    (c : Option (Located Span (List ℕ))) (cs : List (Located Span (List ℕ))) (own : span_words (own_place ts i) ≡ L.place_words (L.place_or_none c))
     (lead : L.flat text_words (between ts l i) ≡ L.flat L.located_words cs) where
   pub line_shown : expanded b ts l i ≡ L.flat L.rule_words (A.expand b (record { raw = r; line = p; comment = c; leading = cs }))
   unfolding expanded A.expand

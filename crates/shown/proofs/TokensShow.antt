@@ -8,7 +8,7 @@ use native.Mathlib.Omega.{arith}
 use native.Mathlib.Nat.{mod-eq_of_lt}
 use lib.Dec.{eqb}
 use lib.ListN.{length}
-use Rattle.lexer.specs.declared.Span.{Span as Place}
+use Rattle.diag.specs.declared.Span.{Span as Place}
 use Rattle.lexer.specs.Tokens.{TokenKind, word, number, quoted, str, sign, comment, newline, unterminated_string, unterminated_quote, Token as Lexed}
 use Rattle.lexer.specs.Words.{kind_number, token_value, word_value, value, value_from, sign_number}
 use Rattle.lexer.specs.Tokens.{is_ascii_digit}

@@ -1,1 +1,3 @@
 pub mod View
+pub mod Row
+pub mod Listed

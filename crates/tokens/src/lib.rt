@@ -1,11 +1,13 @@
 // What the layers above ask of a token.
 #![tactic(auto)]
 
-ghost use Rattle.std.specs.Prelude.{◌≡◌, ◌+◌, ◌*◌, ◌≤◌, length};
+ghost use Rattle.std.specs.Prelude.{◌≡◌, ◌+◌, ◌*◌, ◌<◌, ◌≤◌, length};
 ghost use Rattle.lexer.specs.Tokens.{span};
 ghost use Rattle.tokens.specs.View.{token_in};
+ghost use Rattle.tokens.specs.Row.{peek, rows};
 
-use lexer::Span;
+use diag::Span;
+use lexer::kind;
 
 // A token as its four words: kind, start, end and value.
 #[derive(Clone, Copy, Debug, PartialEq, Eq)]
@@ -37,5 +39,57 @@ pub fn span_of(t: Token) -> Span
     Span {
         start: t.start,
         end: t.end,
+    }
+}
+
+// The tokens at the front of a row of words. Their number stands beside the row: a slice of just their words would be divided at each look.
+#[derive(Clone, Copy)]
+pub struct Tokens<'a> {
+    pub words: &'a [u32],
+    pub count: usize,
+    pub ghost within: { 4 * count ≤ length words.now },
+}
+
+impl<'a> Tokens<'a> {
+    ghost use Rattle.tokens.specs.Listed.{tokens_of};
+
+    // The first `count` tokens of a row.
+    pub fn new(words: &'a [u32], count: usize) -> Self
+        requires { 4 * count ≤ length words.now }
+        ensures tokens { tokens_of result ≡ rows count words.now }
+        ensures count { result.count ≡ count }
+    {
+        Self { words, count }
+    }
+
+    // How many they are.
+    pub fn len(&self) -> usize
+        ensures tokens { result ≡ length (tokens_of self.now) }
+        ensures count { result ≡ self.now.count }
+    {
+        self.count
+    }
+
+    // The token at an index that is known to be inside.
+    pub fn known(&self, i: usize) -> Token
+        requires { i < self.now.count }
+        ensures { result ≡ peek (tokens_of self.now) i }
+    {
+        token_at(self.words, i)
+    }
+
+    // The token at an index; past the last one, a line feed of no length.
+    pub fn at(&self, i: usize) -> Token
+        ensures { result ≡ peek (tokens_of self.now) i }
+    {
+        if i < self.count {
+            return self.known(i);
+        }
+        Token {
+            kind: kind::NEWLINE,
+            start: 0,
+            end: 0,
+            value: 0,
+        }
     }
 }

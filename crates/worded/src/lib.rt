@@ -6,17 +6,9 @@ ghost use Rattle.language.specs.Outcome.{read_outcome};
 ghost use Rattle.answer.specs.Answer.{read_in};
 
 use answer::{Answer, Refusal};
-use diag::{Diagnostic, Span};
 
 // The number of records.
 pub const RECORDS: usize = 1024;
-
-// A record that is all zero.
-const UNUSED: Diagnostic = Diagnostic {
-    code: 0,
-    span: Span { start: 0, end: 0 },
-    related: Span { start: 0, end: 0 },
-};
 
 // Reads a text as `reader::read` does with a log of 5,120 zeros: the log's records are copied to `words`.
 pub fn read(
@@ -28,7 +20,7 @@ pub fn read(
     requires { length words.old ≡ 5120 }
     ensures { read_in result words.new sheet.new ≡ read_outcome text.now (length work.old) (replicate 5120 0) sheet.old }
 {
-    let mut log = [UNUSED; RECORDS];
+    let mut log = [records::UNUSED; RECORDS];
     let answer = reading::read(text, work, &mut log, sheet);
     records::spill(&log, words, RECORDS);
     answer

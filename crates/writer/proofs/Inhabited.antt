@@ -19,7 +19,7 @@ use Rattle.language.proofs.Samples.{bytes}
 use Rattle.language.proofs.Claim.{not-refused, read_is}
 use Rattle.machine.specs.Head as M
 use Rattle.machine.specs.declared.Head.{Head}
-use Rattle.machine.specs.declared.Span.{Span}
+use Rattle.diag.specs.declared.Span.{Span}
 use Rattle.machine.specs.declared.Kind.TheVariants.{Transducer}
 use Rattle.machine.specs.declared.Decoder.TheVariants.{Word}
 use Rattle.machine.specs.Meaning.{head_in}

@@ -17,7 +17,9 @@ pub fn write(
     sheet: &mut [u32],
     output: &mut [u8],
 ) -> Result<WriteAnswer, WriteRefusal>
-    ensures { (write_in result log.new sheet.new output.new ≡ write_outcome text.now (length work.old) log.old sheet.old output.old) × (leaves_work (write_reply_in result) ≡ true → work.new ≡ work.old) }
+    ensures { (write_in result log.new sheet.new output.new
+        ≡ write_outcome text.now (length work.old) log.old sheet.old output.old)
+        × (leaves_work (write_reply_in result) ≡ true → work.new ≡ work.old) }
 {
     let answer = reader::read(text, work, log, sheet);
     fit::write_answer(answer, text, sheet, output)
@@ -33,7 +35,9 @@ pub extern "C" fn pevzoncs_write(
     output: &mut [u8],
     answer: &mut [u32],
 ) -> u32
-    ensures { (given result answer.new log.new sheet.new output.new ≡ given_by (write_outcome text.now (length work.old) log.old sheet.old output.old) answer.old) × (leaves_work_number result ≡ true → work.new ≡ work.old) }
+    ensures { (given result answer.new log.new sheet.new output.new
+        ≡ given_by (write_outcome text.now (length work.old) log.old sheet.old output.old) answer.old)
+        × (leaves_work_number result ≡ true → work.new ≡ work.old) }
 {
     reply::words::give(write(text, work, log, sheet, output), answer)
 }

@@ -11,6 +11,7 @@ use diag::Diagnostic;
 use reply::{WriteAnswer, WriteRefusal};
 
 // Writes the plain form of a text: answers its length; or the number of diagnostics, which the log holds; or a refusal.
+// This is writer's `write` over `reading::read`: the C interface has both logs, and one function would take what reads.
 pub fn write(
     text: &[u8],
     work: &mut [u32],
@@ -18,7 +19,9 @@ pub fn write(
     sheet: &mut [u32],
     output: &mut [u8],
 ) -> Result<WriteAnswer, WriteRefusal>
-    ensures { (write_in result log.new sheet.new output.new ≡ write_records text.now (length work.old) log.old sheet.old output.old) × (leaves_work (write_reply_in result) ≡ true → work.new ≡ work.old) }
+    ensures { (write_in result log.new sheet.new output.new
+        ≡ write_records text.now (length work.old) log.old sheet.old output.old)
+        × (leaves_work (write_reply_in result) ≡ true → work.new ≡ work.old) }
 {
     let answer = reading::read(text, work, log, sheet);
     fit::write_answer(answer, text, sheet, output)
@@ -34,7 +37,9 @@ pub extern "C" fn pevzoncs_write_records(
     output: &mut [u8],
     answer: &mut [u32],
 ) -> u32
-    ensures { (given result answer.new log.new sheet.new output.new ≡ given_by (write_records text.now (length work.old) log.old sheet.old output.old) answer.old) × (leaves_work_number result ≡ true → work.new ≡ work.old) }
+    ensures { (given result answer.new log.new sheet.new output.new
+        ≡ given_by (write_records text.now (length work.old) log.old sheet.old output.old) answer.old)
+        × (leaves_work_number result ≡ true → work.new ≡ work.old) }
 {
     reply::words::give(write(text, work, log, sheet, output), answer)
 }

@@ -18,7 +18,9 @@ pub extern "C" fn pevzoncs_write_records(
     output: &mut [u8],
     answer: &mut [u32],
 ) -> u32
-    ensures { (given result answer.new log.new sheet.new output.new ≡ given_by (write_records text.now (length work.old) log.old sheet.old output.old) answer.old) × (leaves_work_number result ≡ true → work.new ≡ work.old) }
+    ensures { (given result answer.new log.new sheet.new output.new
+        ≡ given_by (write_records text.now (length work.old) log.old sheet.old output.old) answer.old)
+        × (leaves_work_number result ≡ true → work.new ≡ work.old) }
 {
     writing::pevzoncs_write_records(text, work, log, sheet, output, answer)
 }

@@ -4,15 +4,15 @@ use Rattle.equal_names.proofs.intern.Goals as goal
 
 pub give-requires-clause-row : goal.give-requires-clause-row
 give-requires-clause-row c =
-    omega (arith, part_count c.args.count c.args.a c.args.b c.args.work.now _ _ c.requires.0 c.requires.1 (omega (arith, c.requires)) c.split_at_mut-front.ensures.front c.split_at_mut-tokens.ensures.front, c.split_at_mut-tokens.ensures.back_len, c.split_at_mut-front.ensures.front_len, c.requires)
+    omega (arith, part_count c.args.count c.args.a c.args.b c.args.work.now _ _ c.requires.0 c.requires.1 (omega (arith, c.requires)) c.split_at_mut-front.ensures.front c.split_at_mut-words.ensures.front, c.split_at_mut-words.ensures.back_len, c.split_at_mut-front.ensures.front_len, c.requires)
 
 pub give-requires-clause-free : goal.give-requires-clause-free
 give-requires-clause-free c =
-    omega (arith, part_count c.args.count c.args.a c.args.b c.args.work.now _ _ c.requires.0 c.requires.1 (omega (arith, c.requires)) c.split_at_mut-front.ensures.front c.split_at_mut-tokens.ensures.front, c.split_at_mut-front.ensures.back_len, length-take c.args.size c.split_at_mut-front.result.1.now, c.requires)
+    omega (arith, part_count c.args.count c.args.a c.args.b c.args.work.now _ _ c.requires.0 c.requires.1 (omega (arith, c.requires)) c.split_at_mut-front.ensures.front c.split_at_mut-words.ensures.front, c.split_at_mut-front.ensures.back_len, length-take c.args.size c.split_at_mut-front.result.1.now, c.requires)
 
 pub returns : goal.returns
 returns c =
-    let row : length c.give.new.row + c.args.a ≡ c.args.b = omega (arith, c.give.auto.row, c.split_at_mut-tokens.ensures.back_len, c.split_at_mut-front.ensures.front_len) in
+    let row : length c.give.new.row + c.args.a ≡ c.args.b = omega (arith, c.give.auto.row, c.split_at_mut-words.ensures.back_len, c.split_at_mut-front.ensures.front_len) in
     let free : length (c.give.new.free ++ drop c.args.size c.split_at_mut-front.result.1.now) + c.args.b ≡ length c.args.work.now =
     omega (
       arith,
@@ -23,5 +23,5 @@ returns c =
       length-drop c.args.size c.split_at_mut-front.result.1.now,
       c.requires,
     ) in
-    let part = parts_kept c.args.count c.args.a c.args.b c.args.work.now _ _ c.requires.0 c.requires.1 (omega (arith, c.requires)) c.split_at_mut-front.ensures.front c.split_at_mut-tokens.ensures.front _ _ row free in
-    (part, parts_interned c.args.count c.args.a c.args.b c.args.work.now _ _ c.requires.0 c.requires.1 (omega (arith, c.requires)) c.split_at_mut-front.ensures.front c.split_at_mut-tokens.ensures.front _ _ row free c.args.text.now c.give.ensures)
+    let part = parts_kept c.args.count c.args.a c.args.b c.args.work.now _ _ c.requires.0 c.requires.1 (omega (arith, c.requires)) c.split_at_mut-front.ensures.front c.split_at_mut-words.ensures.front _ _ row free in
+    (part, parts_interned c.args.count c.args.a c.args.b c.args.work.now _ _ c.requires.0 c.requires.1 (omega (arith, c.requires)) c.split_at_mut-front.ensures.front c.split_at_mut-words.ensures.front _ _ row free c.args.text.now c.give.ensures)

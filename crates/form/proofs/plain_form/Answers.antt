@@ -6,5 +6,5 @@ use Rattle.form.proofs.plain_form.Goals as goal
 
 pub returns : goal.returns
 returns c =
-    let e = form-held _ _ _ (omega arith) c.all_lines.ensures in
+    let e = form-held _ _ _ (omega arith) c.lines.ensures in
     grind (arith, common_steps, e)

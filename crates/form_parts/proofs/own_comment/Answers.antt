@@ -5,8 +5,8 @@ use Rattle.form_parts.proofs.own_comment.Goals as goal
 
 ruleset laws = (rules, own_none, own_text)
 
-pub returns-then-not-is_none : goal.returns-then-not-is_none
-returns-then-not-is_none c = search laws
+pub returns-then-ne : goal.returns-then-ne
+returns-then-ne c = search laws
 
-pub returns-else-not-is_none : goal.returns-else-not-is_none
-returns-else-not-is_none c = search laws
+pub returns-else-ne : goal.returns-else-ne
+returns-else-ne c = search laws

@@ -1,6 +1,5 @@
 -- The names of the states that are left go behind those that are printed.
 use Rattle.std.proofs.Common.{ap, sym, ◌∙◌, arith, get_or}
-use Rattle.machine.specs.Head.{span_in}
 use Rattle.list_lines.specs.Listing.{named, names}
 use Rattle.list_lines.proofs.Chain.{same}
 use Rattle.list_lines.proofs.Lists.{list_start, groups-start, due_all, due_last, not_due, names-on, names-pass, names-end}
@@ -23,7 +22,7 @@ loop-i-preserved c =
               | then-all-via-then-all v ↦ due_all _ _ v.if-all.true
               | then-all-via-else-all+then-word-eq1 v ↦ due_last all last (sym v.word.ensures ∙ v.if-word-eq1.true)
             ])
-            w.separator.ensures (same (ap (λ p. named c.args.text.now (span_in p)) w.place_at.ensures) w.named.ensures));
+            w.separator.ensures (same (ap (λ p. named c.args.text.now p) w.place_at.ensures) w.named.ensures));
       }
       | else-all+else-word-eq1 w ↦ record {
         few = omega arith;

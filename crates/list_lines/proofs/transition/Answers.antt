@@ -1,7 +1,6 @@
 -- The pieces one after the other.
 use Rattle.std.proofs.Common.{ap, ap₂}
 use Rattle.language.specs.Agreement.{groups}
-use Rattle.machine.specs.Head.{span_in}
 use Rattle.list_lines.specs.Listing.{named, parted, codes, moves, transition}
 use Rattle.list_lines.proofs.Chain.{said, same, ◌▹◌}
 use Rattle.list_lines.proofs.transition.Goals as goal
@@ -11,8 +10,8 @@ unfolding transition
 returns c =
     let actions = ap₂ (groups 7) c.word-n.ensures c.after-actions.ensures in
     let text = c.args.text.now in
-    said c.bytes.ensures ▹ same (ap (λ p. named text (span_in p)) c.place_at.ensures) c.named.ensures
+    said c.bytes.ensures ▹ same (ap (λ p. named text p) c.place_at.ensures) c.named.ensures
     ▹ said c.bytes-2.ensures ▹ same (ap (λ a. parted 0x2C (codes 0 a)) actions) c.codes.ensures
-    ▹ said c.bytes-3.ensures ▹ same (ap (λ p. named text (span_in p)) c.place_at-2.ensures) c.named-2.ensures
+    ▹ said c.bytes-3.ensures ▹ same (ap (λ p. named text p) c.place_at-2.ensures) c.named-2.ensures
     ▹ said c.bytes-4.ensures ▹ same (ap (λ a. parted 0x2C (codes 3 a)) actions) c.codes-2.ensures
     ▹ said c.bytes-5.ensures ▹ same (ap (λ a. parted 0x2C (moves a)) actions) c.directions.ensures ▹ said c.bytes-6.ensures

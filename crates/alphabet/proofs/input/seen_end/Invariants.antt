@@ -1,11 +1,10 @@
--- The loop's invariant: from here on as much is still to be noted as from the beginning on.
+-- From here on as much is still to be noted as from the beginning on.
 use Rattle.std.proofs.Common.{◌-◌, false, length}
-use Rattle.alphabet.specs.Codes.{held}
 use Rattle.alphabet.proofs.InputLaws.{Passed}
 use Rattle.alphabet.proofs.input.seen_end.Given as goal
 
 abbrev pub invariant-loop-c : goal.invariant-loop-c
-invariant-loop-c l = Passed l.text (held l.base l.n l.work) false l.fn.at l.i
+invariant-loop-c l = Passed l.text false l.codes l.fn.at l.i
 
 abbrev pub decreases-loop-c : goal.decreases-loop-c
 decreases-loop-c l = length l.text - l.i

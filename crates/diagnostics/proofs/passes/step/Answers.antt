@@ -1,13 +1,13 @@
 -- The last pass is at a line, since something is to be found.
-use Rattle.diagnostics.proofs.Steps.{stands_room, rules-inside, rule-stepped}
+use Rattle.diagnostics.proofs.Steps.{rules-inside, rule-stepped}
 use Rattle.diagnostics.proofs.passes.step.Goals as goal
 
 pub rule-requires : goal.rule-requires
 rule-requires c =
     let p = c.requires in
-    (stands_room _ _ _ p.0, p.0.laid.few, rules-inside _ _ _ p.0 c.in-Rules.is p.1, p.0.tally)
+    (p.0.laid.few, rules-inside _ _ _ p.0 c.in-Rules.is p.1, p.0.tally)
 
 pub returns-in-Rules : goal.returns-in-Rules
 returns-in-Rules c =
     let p = c.requires in
-    rule-stepped _ _ _ p.0 c.in-Rules.is _ (rules-inside _ _ _ p.0 c.in-Rules.is p.1) c.rule.ensures.0 c.rule.ensures.1
+    rule-stepped _ _ _ p.0 c.in-Rules.is _ (rules-inside _ _ _ p.0 c.in-Rules.is p.1) c.rule.ensures.taken c.rule.ensures.search

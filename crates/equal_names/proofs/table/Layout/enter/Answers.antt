@@ -1,6 +1,6 @@
 use Rattle.std.proofs.Common.{arith, refl, sym, ap, ◌∙◌}
 use Rattle.equal_names.specs.Index.{own_slot}
-use Rattle.parser.proofs.Laws.{length-tokens}
+use Rattle.tokens.proofs.Rows.{length-rows}
 use Rattle.equal_names.proofs.IndexLaws.{own_low, enter-letter, enter-word}
 use Rattle.equal_names.proofs.table.Layout.enter.Goals as goal
 
@@ -8,7 +8,7 @@ pub store-requires-clause-slot : goal.store-requires-clause-slot
 store-requires-clause-slot c = omega (arith, own_low _ _ _ (sym c.in-Some.is ∙ c.own_slot.ensures), c.args.self.begins, c.requires.slots)
 
 pub store-requires-clause-few : goal.store-requires-clause-few
-store-requires-clause-few c = omega (arith, c.requires.inside, c.args.words.now.few, length-tokens c.args.words.now.tokens.now)
+store-requires-clause-few c = omega (arith, c.requires.inside, c.args.words.now.few, length-rows _ _ c.args.words.now.tokens.within)
 
 pub returns-in-Some : goal.returns-in-Some
 returns-in-Some c =
@@ -16,7 +16,7 @@ returns-in-Some c =
     c.in-Some.slot (sym c.in-Some.is ∙ c.own_slot.ensures) _ _ c.store.ensures.row c.store.ensures.slots
 
 pub store-requires-2-clause-few : goal.store-requires-2-clause-few
-store-requires-2-clause-few c = omega (arith, c.requires.inside, c.args.words.now.few, length-tokens c.args.words.now.tokens.now)
+store-requires-2-clause-few c = omega (arith, c.requires.inside, c.args.words.now.few, length-rows _ _ c.args.words.now.tokens.within)
 
 pub returns : goal.returns
 returns c =

@@ -1,0 +1,14 @@
+-- Marks in a row of their own, for the names of a text.
+use Rattle.std.specs.Prelude.{ℕ, List}
+use Rattle.tokens.specs.declared.Token.{Token}
+use Rattle.tokens.specs.Listed.{tokens_of}
+use Rattle.assembler.specs.declared.finals.Names.{Names}
+use Rattle.assembler.specs.Finals.{MarkedIn}
+
+-- the tokens
+abbrev pub row_of : Names → List Token
+row_of n = tokens_of n.tokens
+
+-- the mark of each name
+abbrev pub Marked : Names → List ℕ → List ℕ → List ℕ → Type 0
+Marked n marks qs before = MarkedIn n.text.now (row_of n) n.firsts.now marks qs before
