@@ -1,5 +1,5 @@
 -- Laws of the blank, Σ and Γ.
-use mathlib.Core.Path.{◌≡◌, refl, sym, ap, subst, ◌∙◌}
+use mathlib.Core.Path.{◌≡◌, refl, sym, ap, ◌∙◌}
 use mathlib.Core.Bool.{Bool, true, false, cond}
 use mathlib.Core.Logic.{◌⊎◌, inl, inr, ⊎_elim}
 use mathlib.Core.List.{List, [], ◌∷◌, ◌++◌, append-nil, append_assoc}
@@ -31,7 +31,7 @@ use Rattle.sheet.proofs.Puts.{puts_none, puts_as, ◌▹◌, Left, left_on, left
 use Rattle.alphabet.specs.Symbols.{range, past_comma, quoted_pair, symbols, symbols_in, is_blank, has_blank, line_range, rules_symbols}
 use Rattle.alphabet.specs.Alphabets.{listed_words, inferred_words, other_words, symbol_words, candidates, gamma_codes, declared_gamma, gamma_words, inferred_sigma, sigma_words}
 use Rattle.alphabet.specs.Input.{input_of}
-use Rattle.alphabet.specs.Codes.{noted, noted_all, Hinted}
+use Rattle.alphabet.specs.Codes.{noted, noted_all}
 use Rattle.alphabet.specs.Notes.{listed, Sound, Notes, Uses}
 use Rattle.alphabet.specs.declared.codes.Codes.{Codes}
 use Rattle.alphabet.proofs.Noting.{notes_as, notes_then, uses_as}
@@ -255,9 +255,9 @@ line-has blank ts i t e b f g = ap (λ (t : Token). has_blank blank (range ts (i
 
 -- ---- Γ's codes where it is not declared
 module _ (text : List ℕ) (blank : ℕ) (ts : List Token) (first : List ℕ) (s p r : Codes) where
-  pub candidates-declared : get_or first 6 0 < length ts → Uses blank (symbols_in ts (get_or first 6 0)) s p → Uses blank (rules_symbols ts (entries ts)) p r → Notes (candidates text blank ts first) s r
+  pub candidates-declared : (i : ℕ) → i ≡ get_or first 6 0 → get_or first 6 0 < length ts → Uses blank (symbols_in ts i) s p → Uses blank (rules_symbols ts (entries ts)) p r → Notes (candidates text blank ts first) s r
   unfolding candidates
-  candidates-declared h u v = notes_as (rw (lt-ltb (get_or first 6 0) (length ts) h)) (notes_then u.notes v.notes)
+  candidates-declared i e h u v = notes_as (rw (lt-ltb (get_or first 6 0) (length ts) h, ← e)) (notes_then u.notes v.notes)
 
   pub candidates-not : length ts ≤ get_or first 6 0 → Uses blank (rules_symbols ts (entries ts)) s p → Notes (input_of text ts (get_or first 2 0)) p r → Notes (candidates text blank ts first) s r
   unfolding candidates
@@ -269,23 +269,23 @@ module _ (blank : ℕ) (ts : List Token) (first cs : List ℕ) (s r : Sheet) whe
   unfolding gamma_words
   gamma-codes h u = puts_as (rw (le-ltb (get_or first 7 0) (length ts) h)) u
 
-  pub gamma-has : get_or first 7 0 < length ts → has_blank blank (line_range ts (get_or first 7 0)) ≡ true → Puts (flat (listed_words blank) (symbols_in ts (get_or first 7 0))) s r → Puts (gamma_words blank ts first cs) s r
+  pub gamma-has : (i : ℕ) → i ≡ get_or first 7 0 → get_or first 7 0 < length ts → has_blank blank (line_range ts i) ≡ true → Puts (flat (listed_words blank) (symbols_in ts i)) s r → Puts (gamma_words blank ts first cs) s r
   unfolding gamma_words declared_gamma
-  gamma-has h b u = puts_as (rw (lt-ltb (get_or first 7 0) (length ts) h, b) (append-nil (flat (listed_words blank) (symbols_in ts (get_or first 7 0))))) u
+  gamma-has i e h b u = puts_as (rw (lt-ltb (get_or first 7 0) (length ts) h, ← e, b) (append-nil (flat (listed_words blank) (symbols_in ts i)))) u
 
-  pub gamma-lacks : get_or first 7 0 < length ts → has_blank blank (line_range ts (get_or first 7 0)) ≡ false → (p : Sheet) → Puts (flat (listed_words blank) (symbols_in ts (get_or first 7 0))) s p
+  pub gamma-lacks : (i : ℕ) → i ≡ get_or first 7 0 → get_or first 7 0 < length ts → has_blank blank (line_range ts i) ≡ false → (p : Sheet) → Puts (flat (listed_words blank) (symbols_in ts i)) s p
       → Puts (blank ∷ 0 ∷ 0 ∷ []) p r → Puts (gamma_words blank ts first cs) s r
   unfolding gamma_words declared_gamma
-  gamma-lacks h b p u v = puts_as (rw (lt-ltb (get_or first 7 0) (length ts) h, b)) (u ▹ v)
+  gamma-lacks i e h b p u v = puts_as (rw (lt-ltb (get_or first 7 0) (length ts) h, ← e, b)) (u ▹ v)
 
-  pub sigma-declared : get_or first 6 0 < length ts → Puts (flat (listed_words blank) (symbols_in ts (get_or first 6 0))) s r → Puts (sigma_words blank ts first cs) s r
+  pub sigma-declared : (i : ℕ) → i ≡ get_or first 6 0 → get_or first 6 0 < length ts → Puts (flat (listed_words blank) (symbols_in ts i)) s r → Puts (sigma_words blank ts first cs) s r
   unfolding sigma_words
-  sigma-declared h u = puts_as (rw (lt-ltb (get_or first 6 0) (length ts) h)) u
+  sigma-declared i e h u = puts_as (rw (lt-ltb (get_or first 6 0) (length ts) h, ← e)) u
 
   module _ (no : length ts ≤ get_or first 6 0) where
-    pub sigma-line : get_or first 7 0 < length ts → Puts (flat (other_words blank) (symbols_in ts (get_or first 7 0))) s r → Puts (sigma_words blank ts first cs) s r
+    pub sigma-line : (i : ℕ) → i ≡ get_or first 7 0 → get_or first 7 0 < length ts → Puts (flat (other_words blank) (symbols_in ts i)) s r → Puts (sigma_words blank ts first cs) s r
     unfolding sigma_words inferred_sigma
-    sigma-line h u = puts_as (rw (le-ltb (get_or first 6 0) (length ts) no, lt-ltb (get_or first 7 0) (length ts) h)) u
+    sigma-line i e h u = puts_as (rw (le-ltb (get_or first 6 0) (length ts) no, lt-ltb (get_or first 7 0) (length ts) h, ← e)) u
 
     pub sigma-codes : length ts ≤ get_or first 7 0 → Puts (flat inferred_words (drop 1 cs)) s r → Puts (sigma_words blank ts first cs) s r
     unfolding sigma_words inferred_sigma
@@ -318,9 +318,3 @@ module _ (blank : ℕ) (text first row : List ℕ) (ts : List Token) (fits : len
 
     pub gamma-counted : n ≡ length (gamma_codes text blank ts first)
     gamma-counted = omega (arith, number, ap length all-listed, length-take-le r.count r.row.now (noted-both.sound sound).low)
-
-    -- the hints that stand in the row are those of these codes
-    pub gamma-hinted : (last : List ℕ) → last ≡ r.row.now → (k : ℕ) → a.hints ≡ k → Hinted k n last
-    gamma-hinted last e k many =
-        subst (λ (k : ℕ). Hinted k n last) (noted-both.many ∙ many)
-        (subst (λ (n : ℕ). Hinted r.hints n last) (sym number) (subst (λ (w : List ℕ). Hinted r.hints r.count w) (sym e) (noted-both.sound sound).hints))

@@ -8,7 +8,7 @@ ghost use Rattle.alphabet.specs.Symbols.{range, symbols, is_new, takes, walked, 
 use crate::codes::Codes;
 use assembler::{entry, seek};
 use lexer::kind;
-use parser::{ItemKind, view};
+use parser::view;
 use sheet::rules;
 use tokens::{Token, Tokens};
 
@@ -100,12 +100,7 @@ impl<'a> Symbols<'a> {
     pub(crate) fn note_range(&self, from: usize, to: usize, codes: &mut Codes)
         ensures { Uses self.now.blank (symbols (range (row_of self.now) from to)) codes.old codes.new }
     {
-        let mut last = Token {
-            kind: kind::NEWLINE,
-            start: 0,
-            end: 0,
-            value: 0,
-        };
+        let mut last = Token::FEED;
         for i in from..to {
             let t = self.tokens.at(i);
             if is_new(last, t) {
@@ -200,7 +195,7 @@ impl<'a> Symbols<'a> {
         ensures { Uses self.now.blank (rule_symbols (row_of self.now) (entry_at (row_of self.now) e)) codes.old codes.new }
     {
         let t = self.tokens.at(e);
-        if t.kind == entry::ITEM + ItemKind::Transition as u32 {
+        if t.kind == entry::RULE {
             let q = self.tokens.at(e + 3);
             let p = Parts {
                 from: e + 4,

@@ -11,6 +11,7 @@ ghost use Rattle.alphabet.specs.Alphabets.{inferred_words, symbol_words, candida
 use crate::codes::Codes;
 use crate::glyphs::Symbols;
 use crate::input;
+use assembler::declarations::line;
 use diag::Span;
 use lexer::kind;
 use parser::{ItemKind, view};
@@ -148,8 +149,8 @@ impl<'a> Symbols<'a> {
     fn note_candidates(&self, text: &[u8], first: &[u32; 11], codes: &mut Codes)
         ensures { Notes (candidates text.now self.now.blank (row_of self.now) first.now) codes.old codes.new }
     {
-        let s = first[ItemKind::InputAlphabet as usize] as usize;
-        if s < self.tokens.len() {
+        let n = self.tokens.len();
+        if let Some(s) = line(first[ItemKind::InputAlphabet as usize], n) {
             let t = self.tokens.at(s);
             self.note_range(s + 1, t.value as usize, codes);
             return self.note_rules(codes);
@@ -176,10 +177,9 @@ impl<'a> Symbols<'a> {
     pub fn gamma(&self, codes: &[u32], first: &[u32; 11], sheet: &mut Sheet)
         ensures { Puts (gamma_words self.now.blank (row_of self.now) first.now codes.now) sheet.old sheet.new }
     {
-        let g = first[ItemKind::TapeAlphabet as usize] as usize;
-        if self.tokens.len() <= g {
+        let Some(g) = line(first[ItemKind::TapeAlphabet as usize], self.tokens.len()) else {
             return put_codes(codes, sheet);
-        }
+        };
         self.put_line(g, false, sheet);
         let t = self.tokens.at(g);
         if !self.has_blank(g + 1, t.value as usize) {
@@ -191,12 +191,11 @@ impl<'a> Symbols<'a> {
     pub fn sigma(&self, codes: &[u32], first: &[u32; 11], sheet: &mut Sheet)
         ensures { Puts (sigma_words self.now.blank (row_of self.now) first.now codes.now) sheet.old sheet.new }
     {
-        let s = first[ItemKind::InputAlphabet as usize] as usize;
-        if s < self.tokens.len() {
+        let n = self.tokens.len();
+        if let Some(s) = line(first[ItemKind::InputAlphabet as usize], n) {
             return self.put_line(s, false, sheet);
         }
-        let g = first[ItemKind::TapeAlphabet as usize] as usize;
-        if g < self.tokens.len() {
+        if let Some(g) = line(first[ItemKind::TapeAlphabet as usize], n) {
             return self.put_line(g, true, sheet);
         }
         if let [_, others @ ..] = codes {

@@ -1,5 +1,5 @@
 // An answer in words: the reply's number, its value and the head.
-ghost use Rattle.std.specs.Prelude.{◌≡◌, ◌∷◌, ◌/◌, ◌%◌, ◌^◌};
+ghost use Rattle.std.specs.Prelude.{◌≡◌, ◌∷◌, ◌/◌, ◌%◌, ◌^◌, take, drop};
 ghost use Rattle.language.specs.Layout.{decoder_words, head_words};
 ghost use Rattle.language.specs.Outcome.{reply_number, reply_value, reply_head, reply_words};
 ghost use Rattle.machine.specs.Meaning.{decoder_in, head_in};
@@ -27,12 +27,11 @@ fn decoder_words(d: Decoder) -> [u32; 2]
     }
 }
 
-// A head, in the order of the definition.
-fn head_words(head: Head) -> [u32; HEAD_WORDS]
-    ensures { result ≡ head_words (head_in head) }
+// What stands before the places of the source: decoder, name, input, kind, tapes, blank, what is declared, and where the machine starts.
+fn front_words(head: Head) -> [u32; 16]
+    ensures { result ≡ take 16 (head_words (head_in head)) }
 {
-    let Head { declared, map, .. } = head;
-    let counts = head.counts;
+    let declared = head.declared;
     let [tag, value] = decoder_words(head.output);
     [
         tag,
@@ -51,6 +50,15 @@ fn head_words(head: Head) -> [u32; HEAD_WORDS]
         u32::from(declared.blank),
         head.start.start,
         head.start.end,
+    ]
+}
+
+// The places of the source, and then how many of each there are.
+fn back_words(head: Head) -> [u32; 17]
+    ensures { result ≡ drop 16 (head_words (head_in head)) }
+{
+    let Head { map, counts, .. } = head;
+    [
         map.kind.start,
         map.kind.end,
         map.input.start,
@@ -69,6 +77,16 @@ fn head_words(head: Head) -> [u32; HEAD_WORDS]
         counts.trailing,
         counts.rules,
     ]
+}
+
+// A head, in the order of the definition.
+fn head_words(head: Head) -> [u32; HEAD_WORDS]
+    ensures { result ≡ head_words (head_in head) }
+{
+    let mut words = [0; HEAD_WORDS];
+    words[..16].copy_from_slice(&front_words(head));
+    words[16..].copy_from_slice(&back_words(head));
+    words
 }
 
 // The number of an answer: the first column of paper 01's table, which no derive gives, since the cases stand in two enums.

@@ -1,10 +1,9 @@
 -- Laws of assembly as a whole: each pass leaves what the next one asks, and all together give the language's diagnostics.
 use mathlib.Core.Path.{◌≡◌, refl, sym, ap, subst, ◌∙◌}
-use mathlib.Core.Bool.{Bool, true, false, cond}
+use mathlib.Core.Bool.{Bool, true, false, cond, ◌||◌}
 use mathlib.Core.List.{List, [], ◌∷◌, ◌++◌, map}
 use Prim.Native.Nat.{ℕ, zero, suc, ◌+◌, ◌*◌, ◌≤◌, ◌<◌, ◌^◌}
 use native.Mathlib.Omega.{arith}
-use borrow.Author.Tests.{lt-ltb, le-ltb}
 use mir.Syntax.{w64}
 use mir.Val.{Fits}
 use lib.Dec.{eqb, ltb}
@@ -50,8 +49,6 @@ use Rattle.assembler.proofs.PartLaws.{part-rows, part-kept}
 use Rattle.assembler.proofs.FailureLaws.{line_error-one}
 use Rattle.assembler.proofs.DeclarationLaws.{one_wrong}
 use Rattle.assembler.proofs.RuleLaws.{one-rule}
-use Rattle.assembler.specs.declared.finals.Names.{Names}
-use Rattle.assembler.specs.Marked.{row_of}
 use Rattle.assembler.proofs.FinalLaws.{one-final, finals-none}
 use Rattle.assembler.proofs.Means.{AllMean, records-append, line_errors_mean, declarations_mean, table_empty}
 use Rattle.assembler.proofs.RulesMean.{RulesOf, rule_errors_mean, rule_count_mean}
@@ -89,37 +86,21 @@ module _ (text : List ℕ) (count : ℕ) (w₀ : List ℕ) (p : S.Tokenized text
         size = ap length e ∙ length-onto (entered (rows count w₀)) w₀ (omega (arith, size, enter_room));
       }
 
--- ---- whether there may be states: what `||` gives, by the branch that was taken
-module _ (v b : Bool) where
-  pub or_below : (x n : ℕ) → v ≡ ltb x n → x < n → v ≡ cond (ltb x n) true b
-  or_below x n e h = rw (lt-ltb x n h) (e ∙ lt-ltb x n h)
-
-  pub or_above : (x n : ℕ) → n ≤ x → v ≡ b → v ≡ cond (ltb x n) true b
-  or_above x n h e = rw (le-ltb x n h) e
-
-  pub or_true : (u : Bool) → v ≡ u → u ≡ true → v ≡ cond u true b
-  or_true u e h = e ∙ h ∙ sym (ap (λ (u : Bool). cond u true b) h)
-
-  pub or_false : (u : Bool) → u ≡ false → v ≡ b → v ≡ cond u true b
-  or_false u h e = e ∙ sym (ap (λ (u : Bool). cond u true b) h)
-
-or_nested : (a b c d : Bool) → cond (cond (cond a true b) true c) true d ≡ cond a true (cond b true (cond c true d))
+-- ---- whether there may be states
+or_nested : (a b c d : Bool) → (((a || b) || c) || d) ≡ cond a true (cond b true (cond c true d))
 or_nested true b c d = refl
 or_nested false true c d = refl
-or_nested false false c d = refl
+or_nested false false true d = refl
+or_nested false false false d = refl
 
-module _ (count : ℕ) (first : List ℕ) (rules : ℕ) (u v : Bool) (one : u ≡ cond (ltb (get_or first 5 0) count) true (ltb (get_or first 9 0) count)) (two : v ≡ cond u true (ltb (get_or first 10 0) count)) where
-  states_are : cond v true (ltb 0 rules) ≡ S.has_states count first rules
-  unfolding S.has_states
-  states_are =
-      ap (λ (v : Bool). cond v true (ltb 0 rules)) (two ∙ ap (λ (u : Bool). cond u true (ltb (get_or first 10 0) count)) one)
-      ∙ or_nested (ltb (get_or first 5 0) count) (ltb (get_or first 9 0) count) (ltb (get_or first 10 0) count) (ltb 0 rules)
-
-  pub states_yes : v ≡ true → v ≡ S.has_states count first rules
-  states_yes h = h ∙ sym (ap (λ (v : Bool). cond v true (ltb 0 rules)) h) ∙ states_are
-
-  pub states_by_rules : v ≡ false → ltb 0 rules ≡ S.has_states count first rules
-  states_by_rules h = sym (ap (λ (v : Bool). cond v true (ltb 0 rules)) h) ∙ states_are
+pub states_are : (count : ℕ) (first : List ℕ) (rules : ℕ) {q s f : Bool} → q ≡ ltb (get_or first 5 0) count → s ≡ ltb (get_or first 9 0) count → f ≡ ltb (get_or first 10 0) count
+    → (((q || s) || f) || ltb 0 rules) ≡ S.has_states count first rules
+unfolding S.has_states
+states_are count first rules {q} {s} {f} is-q is-s is-f =
+    or_nested q s f (ltb 0 rules)
+    ∙ ap (λ (q : Bool). cond q true (cond s true (cond f true (ltb 0 rules)))) is-q
+    ∙ ap (λ (s : Bool). cond (ltb (get_or first 5 0) count) true (cond s true (cond f true (ltb 0 rules)))) is-s
+    ∙ ap (λ (f : Bool). cond (ltb (get_or first 5 0) count) true (cond (ltb (get_or first 9 0) count) true (cond f true (ltb 0 rules)))) is-f
 
 -- ---- the row of first equal words
 pub kept_fewer : (a b : ℕ) (u v : List ℕ) → a ≤ b → Kept b u v → Kept a u v
@@ -244,11 +225,7 @@ module _ (text : List ℕ) (count : ℕ) (w₀ w₁ first : List ℕ)
                 (ap (λ (ts : List Token). finals_errors text ts first ++ rule_errors no_rules (entries ts)) same-row),
           )
 
--- the diagnostics of F where it was looked at, and where there is none
-pub finals_said : (names : Names) (text : List ℕ) (ts : List Token) (first : List ℕ) (l l' : D.Log) → names.text.now ≡ text → row_of names ≡ ts
-    → Appends l l' (finals_errors names.text.now (row_of names) first) → Appends l l' (finals_errors text ts first)
-finals_said names text ts first l l' e f p = appends_as l l' _ _ p (ap (λ (x : List ℕ). finals_errors x (row_of names) first) e ∙ ap (λ (ts : List Token). finals_errors text ts first) f)
-
+-- without F there is no diagnostic of it
 pub finals_unsaid : (text : List ℕ) (count : ℕ) (w first : List ℕ) (l : D.Log) → 4 * count ≤ length w → count ≤ get_or first 10 0 → Appends l l (finals_errors text (rows count w) first)
 finals_unsaid text count w first l room h = appends_nothing l _ (finals-none text (rows count w) first (omega (arith, length-rows count w room)))
 

@@ -19,7 +19,9 @@ use Rattle.parser.specs.Lines.{line_length}
 use Rattle.assembler.specs.Rows.{rows, place_of}
 use Rattle.assembler.specs.Entries.{Entry, entry_at, behind, entries}
 use Rattle.assembler.specs.Feeds.{Fed}
-use Rattle.assembler.specs.Declarations.{declares, name_of, declare, declarations, tapes_error, declaration_error, declaration_errors}
+use Rattle.assembler.specs.Declarations.{line, declares, name_of, declare, declarations, tapes_error, declaration_error, declaration_errors}
+use Rattle.std.specs.Prelude.{Option, Some, None}
+use Rattle.assembler.proofs.FirstLines.{there_is, there-inside, none-outside}
 use Rattle.assembler.proofs.Rows.{length-rows, entries_at, entries-step, entries-end, fed_next}
 use Rattle.assembler.proofs.Passes.{at_most_one, Passing, passing_start, passing_step, passing_end, passing_room}
 
@@ -69,14 +71,14 @@ module _ (ts : List Token) (i : ℕ) (t : Token) (at : t ≡ peek ts i) (n : ℕ
     pub declare_high : 11 ≤ k → first ≡ declare n first (entry_at ts i)
     declare_high h = none-declared (declares_high t k enough name h)
 
-    module _ (low : k < 11) (f : ℕ) (there : f ≡ get_or first k 0) where
-      pub declare_again : (first' : List ℕ) → first' ≡ first → f < n → first' ≡ declare n first (entry_at ts i)
+    module _ (low : k < 11) (o : Option ℕ) (told : o ≡ line n (get_or first k 0)) where
+      pub declare_again : (f : ℕ) → o ≡ Some f → (first' : List ℕ) → first' ≡ first → first' ≡ declare n first (entry_at ts i)
       unfolding declare
-      declare_again first' e h = e ∙ rw (← at, declares-name t k enough name low, ← name, ← there, lt-ltb f n h)
+      declare_again f there first' e = e ∙ rw (← at, declares-name t k enough name low, ← name, lt-ltb (get_or first k 0) n (there-inside n (get_or first k 0) told there))
 
-      pub declare-first : (first' : List ℕ) → first' ≡ set first k i → n ≤ f → first' ≡ declare n first (entry_at ts i)
+      pub declare-first : o ≡ None → (first' : List ℕ) → first' ≡ set first k i → first' ≡ declare n first (entry_at ts i)
       unfolding declare
-      declare-first first' e h = e ∙ rw (← at, declares-name t k enough name low, ← name, ← there, le-ltb f n h)
+      declare-first none first' e = e ∙ rw (← at, declares-name t k enough name low, ← name, le-ltb (get_or first k 0) n (none-outside n (get_or first k 0) told none))
 
 -- the diagnostics
 module _ (ts : List Token) (i : ℕ) (t : Token) (at : t ≡ peek ts i) (first : List ℕ) where
@@ -91,14 +93,22 @@ module _ (ts : List Token) (i : ℕ) (t : Token) (at : t ≡ peek ts i) (first :
     pub wrong_high : 11 ≤ k → [] ≡ declaration_error ts first (entry_at ts i)
     wrong_high h = none_wrong (declares_high t k enough name h)
 
-    module _ (low : k < 11) (n f : ℕ) (there : f ≡ get_or first k 0) (all : length ts ≡ n) where
-      pub wrong_again : f < n → with_related (error 11 (place_of t)) (place_of (peek ts f)) ∷ [] ≡ declaration_error ts first (entry_at ts i)
+    module _ (low : k < 11) (n : ℕ) (o : Option ℕ) (told : o ≡ line n (get_or first k 0)) (all : length ts ≡ n) where
+      pub wrong_again : (f : ℕ) → o ≡ Some f → with_related (error 11 (place_of t)) (place_of (peek ts f)) ∷ [] ≡ declaration_error ts first (entry_at ts i)
       unfolding declaration_error
-      wrong_again h = rw (← at, declares-name t k enough name low, ← name, ← there, all, lt-ltb f n h)
+      wrong_again f there =
+          rw (
+            ← at,
+            declares-name t k enough name low,
+            ← name,
+            all,
+            lt-ltb (get_or first k 0) n (there-inside n (get_or first k 0) told there),
+            ← there_is n (get_or first k 0) told there,
+          )
 
-      pub wrong_first : n ≤ f → tapes_error (entry_at ts i) ≡ declaration_error ts first (entry_at ts i)
+      pub wrong_first : o ≡ None → tapes_error (entry_at ts i) ≡ declaration_error ts first (entry_at ts i)
       unfolding declaration_error
-      wrong_first h = rw (← at, declares-name t k enough name low, ← name, ← there, all, le-ltb f n h)
+      wrong_first none = rw (← at, declares-name t k enough name low, ← name, all, le-ltb (get_or first k 0) n (none-outside n (get_or first k 0) told none))
 
 pub one_wrong : (ts : List Token) (first : List ℕ) (e : Entry) → length (declaration_error ts first e) ≤ 1
 unfolding declaration_error tapes_error

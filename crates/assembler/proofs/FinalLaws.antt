@@ -191,14 +191,16 @@ pub record Listing (names : Names) (d : Bool) (qs : List ℕ) (all : List Diagno
   pub marked : Marked names marks qs before
   pub few : length done ≤ i
 
-pub listing_start : (names : Names) (d : Bool) (qs : List ℕ) (l : Log) (marks : List ℕ) (f : ℕ) → Marked names marks qs []
-    → Listing names d qs (final_errors names.text.now (row_of names) d qs [] (names_of (row_of names) f)) l l marks (f + 1)
+pub listing_start : (names : Names) (d e : Bool) (qs : List ℕ) (l : Log) (marks : List ℕ) (f : ℕ) → d ≡ e → Marked names marks qs []
+    → Listing names d qs (final_errors names.text.now (row_of names) e qs [] (names_of (row_of names) f)) l l marks (f + 1)
 unfolding names_of
-listing_start names d qs l marks f p = record {
+listing_start names d e qs l marks f said p = record {
   before = [];
   done = [];
   given = appends_none l;
-  whole = ap (λ (k : ℕ). final_errors names.text.now (row_of names) d qs [] (names_from k (drop k (row_of names)))) (add-one f);
+  whole =
+      ap (λ (k : ℕ). final_errors names.text.now (row_of names) d qs [] (names_from k (drop k (row_of names)))) (add-one f)
+      ∙ ap (λ (d : Bool). final_errors names.text.now (row_of names) d qs [] (names_of (row_of names) f)) said;
   marked = p;
   few = omega arith;
 }

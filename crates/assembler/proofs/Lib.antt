@@ -3,6 +3,7 @@ pub mod Rows
 pub mod RowWords
 pub mod Passes
 pub mod FailureLaws
+pub mod FirstLines
 pub mod DeclarationLaws
 pub mod RuleLaws
 pub mod SurveyLaws

@@ -79,9 +79,6 @@ pub record Seeking (count : ℕ) (work : List ℕ) (a i : ℕ) : Type 0 where
   pub left : i + line_length (drop i (rows count work)) ≡ a + line_length (drop a (rows count work))
   pub within : i ≤ count
 
-pub seeking_start : (count : ℕ) (work : List ℕ) (a : ℕ) → a < count → Seeking count work a a
-seeking_start count work a h = record { left = refl; within = omega arith }
-
 module _ (count : ℕ) (work : List ℕ) (a i : ℕ) (s : Seeking count work a i) (room : 4 * count ≤ length work) where
   here_by : (b : Bool) → i < count → eqb (peek (rows count work) i).kind 13 ≡ b → line_length (drop i (rows count work)) ≡ elim b [ true ↦ 0 | false ↦ suc (line_length (drop (suc i) (rows count work))) ]
   unfolding line_length

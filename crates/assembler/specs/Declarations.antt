@@ -1,5 +1,5 @@
 -- The first declaration of each name, and the diagnostics of declarations.
-use Rattle.std.specs.Prelude.{ℕ, ◌-◌, Bool, false, cond, List, [], ◌∷◌, ◌++◌, eqb, leb, ltb, length, get_or, set, replicate}
+use Rattle.std.specs.Prelude.{ℕ, ◌-◌, Bool, false, cond, List, [], ◌∷◌, ◌++◌, Option, None, Some, eqb, leb, ltb, length, get_or, set, replicate}
 use Rattle.tokens.specs.declared.Token.{Token}
 use Rattle.diag.specs.declared.Diagnostic.{Diagnostic}
 use Rattle.diag.specs.Log.{error, with_related}
@@ -25,6 +25,10 @@ unfolding declares
 declare n first e =
     let k = name_of e.first in
     cond (declares e.first) (cond (ltb (get_or first k 0) n) first (set first k e.at)) first
+
+-- the line of a first declaration, an index among n tokens; a number that is none of their indices stands for none
+abbrev pub line : ℕ → ℕ → Option ℕ
+line n f = cond (ltb f n) (Some f) None
 
 -- the indices of the first declarations
 unfoldable pub declarations : ℕ → List ℕ → List Entry → List ℕ

@@ -10,7 +10,7 @@ ghost use Rattle.tokens.specs.Listed.{tokens_of};
 ghost use Rattle.assembler.specs.Rows.{place_of};
 ghost use Rattle.assembler.specs.Entries.{entry_at, entries};
 ghost use Rattle.assembler.specs.Feeds.{Fed};
-ghost use Rattle.assembler.specs.Declarations.{declare, declarations, tapes_error, declaration_error, declaration_errors};
+ghost use Rattle.assembler.specs.Declarations.{line, declare, declarations, tapes_error, declaration_error, declaration_errors};
 
 use crate::{entry, seek};
 use diag::{Code, Diagnostic, Log};
@@ -19,6 +19,15 @@ use tokens::{Token, Tokens, span_of};
 
 // The number of names: the items before a rule's.
 pub const NAMES: usize = ItemKind::Transition as usize;
+
+// The line of a first declaration among so many tokens; a number that is no index of theirs stands for none.
+pub fn line(first: u32, count: usize) -> Option<usize>
+    ensures { result ≡ line count first }
+{
+    let at = first as usize;
+    let inside = at < count;
+    inside.then_some(at)
+}
 
 // Tapes above 255: at the value.
 pub fn tapes_error(tokens: &Tokens, at: usize, log: &mut Log)
@@ -58,8 +67,7 @@ pub fn declaration(tokens: &Tokens, at: usize, first: &mut [u32; 11], log: &mut 
     if NAMES <= k {
         return;
     }
-    let f = first[k] as usize;
-    if f < tokens.count {
+    if let Some(f) = line(first[k], tokens.count) {
         duplicate(tokens, f, t, log);
         return;
     }

@@ -3,12 +3,16 @@ ghost use Rattle.std.specs.Prelude.{◌≡◌, ◌+◌, ◌<◌, ◌^◌};
 ghost use Rattle.assembler.specs.Entries.{behind};
 
 use lexer::kind;
+use parser::ItemKind;
 use tokens::Token;
 
 // The kind of an item's entry: this and its number. These two are bases of numbers, and no enum, since entries stand in a row of words that C lends.
 pub const ITEM: u32 = 16;
 // The kind of a failed line's entry: this and its code.
 pub const FAILED: u32 = 32;
+
+// The kind of a rule's entry.
+pub const RULE: u32 = ITEM + ItemKind::Transition as u32;
 
 // The index behind the line that begins with the token t at an index.
 pub fn next_line(t: Token, at: usize) -> usize

@@ -113,15 +113,14 @@ impl<'a> Names<'a> {
     }
 
     // The names of the set in the line at f, as those that F lists; those of the set at q are marked.
-    fn final_errors(&self, marks: &mut [u32], q: usize, f: usize, log: &mut Log)
-        requires line { f < 2 ^ 32 }
+    fn final_errors(&self, marks: &mut [u32], q: u32, f: u32, log: &mut Log)
         requires room { (self.now.tokens.count ≤ length marks.old) × (log.old.count + self.now.tokens.count < 2 ^ 64) }
         requires marks { Marked self.now marks.old (names_of (row_of self.now) q) [] }
         ensures { Appends log.old log.new (final_errors self.now.text.now (row_of self.now) (ltb q self.now.tokens.count)
             (names_of (row_of self.now) q) [] (names_of (row_of self.now) f)) }
     {
-        let declared = q < self.tokens.count;
-        for i in f + 1..self.tokens.count {
+        let declared = declarations::line(q, self.tokens.count).is_some();
+        for i in f as usize + 1..self.tokens.count {
             if self.tokens.at(i).kind == kind::NEWLINE {
                 return;
             }
@@ -134,9 +133,9 @@ impl<'a> Names<'a> {
         requires room { (self.now.tokens.count ≤ length marks.old) × (log.old.count + self.now.tokens.count < 2 ^ 64) }
         ensures { Appends log.old log.new (finals_errors self.now.text.now (row_of self.now) first.now) }
     {
-        let q = first[ItemKind::States as usize] as usize;
-        let f = first[ItemKind::Final as usize] as usize;
-        self.mark_states(marks, q);
+        let q = first[ItemKind::States as usize];
+        let f = first[ItemKind::Final as usize];
+        self.mark_states(marks, q as usize);
         self.final_errors(marks, q, f, log);
     }
 }
@@ -157,7 +156,7 @@ pub fn finals(
         → FirstsOf text.now (tokens_of tokens.now) tokens.now.count firsts.now }
     ensures { Appends log.old log.new (finals_errors text.now (tokens_of tokens.now) first.now) }
 {
-    if (first[ItemKind::Final as usize] as usize) < tokens.count {
+    if declarations::line(first[ItemKind::Final as usize], tokens.count).is_some() {
         Names::new(text, *tokens, firsts).finals(marks, first, log);
     }
 }

@@ -22,14 +22,16 @@ pub mod seek;
 pub mod sets;
 pub mod survey;
 
+use declarations::line;
 use diag::Log;
 use parser::ItemKind;
 use tokens::Tokens;
 
-// What assembly finds: the entry of the first declaration of each name, a value that is no index for none; the number of rules; and the number of
-// diagnostics. No Option says that there is none: past the last token stands a line feed, so that a walk over such a line finds nothing without a test.
+// What assembly finds: the first declaration of each name, the number of rules, and the number of diagnostics.
 #[derive(Clone, Copy, Debug, PartialEq, Eq)]
 pub struct Assembled {
+    // For each name the index of its line, or a number that is no index of a token where none declares it: `declarations::line` tells which. Options would not
+    // say that such a line is among the tokens, and each function would have to ask that of its callers, of whom none is asked now.
     pub first: [u32; 11],
     pub rules: usize,
     pub errors: usize,
@@ -39,10 +41,10 @@ pub struct Assembled {
 pub fn has_states(count: usize, first: &[u32; 11], rules: usize) -> bool
     ensures { result ≡ has_states count first.now rules }
 {
-    (first[ItemKind::States as usize] as usize) < count
-        || (first[ItemKind::Start as usize] as usize) < count
-        || (first[ItemKind::Final as usize] as usize) < count
-        || 0 < rules
+    let states = line(first[ItemKind::States as usize], count).is_some();
+    let start = line(first[ItemKind::Start as usize], count).is_some();
+    let finals = line(first[ItemKind::Final as usize], count).is_some();
+    states | start | finals | (0 < rules)
 }
 
 // Puts the row of first equal words behind the tokens, where it is looked at: F lists names, or there is none of `wrong` diagnostics, so that a machine
@@ -53,7 +55,7 @@ fn names(text: &[u8], work: &mut [u32], count: usize, first: &[u32; 11], wrong: 
         × (6 * length text.now + 6 ≤ length work.old) }
     ensures { Kept (words_from (length text.now)) work.old work.new × Named text.now count work.new first.now wrong rules }
 {
-    let listed = (first[ItemKind::Final as usize] as usize) < count;
+    let listed = line(first[ItemKind::Final as usize], count).is_some();
     if !listed && (0 < wrong || !has_states(count, first, rules)) {
         return;
     }

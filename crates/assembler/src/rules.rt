@@ -9,7 +9,6 @@ ghost use Rattle.assembler.specs.Rules.{same_arity, verdict, after, rule_error, 
 
 use crate::{entry, seek, sets};
 use diag::{Code, Diagnostic, Log, Span};
-use parser::ItemKind;
 use tokens::{Token, Tokens, span_of};
 
 // More rules than this are too many.
@@ -61,7 +60,7 @@ pub fn verdict_at(tokens: &Tokens, at: usize, n: usize) -> Verdict
     requires tally { n ≤ 262144 }
     ensures { result ≡ verdict n (entry_at (tokens_of tokens.now) at) }
 {
-    if tokens.known(at).kind != entry::ITEM + ItemKind::Transition as u32 {
+    if tokens.known(at).kind != entry::RULE {
         return Verdict::Other;
     }
     if !same_arity(tokens.at(at + 1)) {

@@ -28,22 +28,19 @@ impl Sets {
         }
         if view::is_symbol(t) {
             return Self {
-                product: self.product,
                 size: self.size + 1,
+                ..self
             };
         }
         if t.kind == kind::L_BRACE {
-            return Self {
-                product: self.product,
-                size: 0,
-            };
+            return Self { size: 0, ..self };
         }
         if t.kind != kind::R_BRACE {
             return self;
         }
         Self {
             product: (self.product * self.size).min(MAX_TRANSITIONS + 1),
-            size: self.size,
+            ..self
         }
     }
 }

@@ -1,12 +1,16 @@
 -- Runs of characters of the set: what the definitions say of a text behind one is what they say before it.
 use mathlib.Core.Path.{◌≡◌, refl, sym, ap, subst, ◌∙◌}
-use Prim.Native.Nat.{ℕ, zero, suc, ◌+◌, ◌-◌, ◌≤◌, ◌<◌}
+use Prim.Native.Nat.{ℕ, zero, suc, ◌+◌, ◌-◌, ◌*◌, ◌/◌, ◌%◌, ◌≤◌, ◌<◌}
 use native.Mathlib.Omega.{arith}
 use native.Mathlib.Nat.{add-zero}
 use mathlib.Core.Bool.{Bool, true, false, cond, not}
 use lib.Dec.{leb, ltb}
 use borrow.Author.Tests.{leb-false, ltb-false}
-use Rattle.std.specs.List.{position_or_len}
+use Rattle.std.specs.List.{position_or_len, AllWithin, HoldsAt}
+use Rattle.std.specs.Option.{MatchOption}
+use Rattle.std.specs.Simd.{first_chunks}
+use Rattle.std.proofs.lemmas.List.{get_or-take}
+use lib.Seq.{get_or-drop}
 use mathlib.Core.List.{List, [], ◌∷◌}
 use lib.Bits.{bit_or, or_add_and, and_le_l, and_le_r}
 use lib.ListN.{length, get_or, take, drop, length-take}
@@ -112,15 +116,30 @@ eight_ascii t i x e l =
     (omega (arith, or_left b6 b7))
     (omega (arith, or_right b6 b7))
 
+-- ---- blocks of eight bytes
+-- a byte of a block is one of the bytes
+block_byte : (xs : List ℕ) (k j b : ℕ) (d : List ℕ) → j < k → b < 8 → get_or (get_or (first_chunks 8 k xs) j d) b 0 ≡ get_or xs (8 * j + b) 0
+block_byte xs zero j b d h l = absurd (omega arith)
+block_byte xs (suc k) zero b d h l =
+    let e : b ≡ 8 * zero + b = omega arith in
+    get_or-take 8 xs b 0 l ∙ ap (λ (i : ℕ). get_or xs i 0) e
+block_byte xs (suc k) (suc j) b d h l =
+    let e : 8 + (8 * j + b) ≡ 8 * suc j + b = omega arith in
+    block_byte (drop 8 xs) k j b d (omega arith) l ∙ get_or-drop 8 xs (8 * j + b) 0 ∙ ap (λ (i : ℕ). get_or xs i 0) e
+
+-- what holds of each byte of the first n blocks holds of the bytes before their end
+pub in_blocks : (P : ℕ → Type 0) (xs : List ℕ) (k n : ℕ) → n ≤ k → ((j b : ℕ) → j < n → b < 8 → P (get_or (get_or (first_chunks 8 k xs) j []) b 0)) → (m : ℕ) → m < 8 * n → P (get_or xs m 0)
+in_blocks P xs k n h f m l =
+    let e : 8 * (m / 8) + m % 8 ≡ m = omega arith in
+    let p = block_byte xs k (m / 8) (m % 8) [] (omega arith) (omega arith) ∙ ap (λ (i : ℕ). get_or xs i 0) e in
+    subst P p (f (m / 8) (m % 8) (omega arith) (omega arith))
+
 -- two bytes whose or is below 80 are ASCII
 or_ascii : (a b : ℕ) → bit_or a b < 0x80 → (a < 0x80) × (b < 0x80)
 or_ascii a b l = (omega (arith, or_left a b), omega (arith, or_right a b))
 
--- blocks of eight and of two bytes, and two bytes behind an ASCII byte
+-- two bytes, and two behind an ASCII byte
 module _ (t : List ℕ) (i : ℕ) where
-  pub passes-eight : (x : ℕ) → 8 ≤ length t - i → x ≡ ors t i → x < 0x80 → Passes t i (i + 8)
-  passes-eight x h e l = passes-many t 8 i (omega arith) (eight_ascii t i x e l)
-
   pub passes-two : i + 2 ≤ length t → bit_or (get_or t i 0) (get_or t (i + 1) 0) < 0x80 → Passes t i (i + 2)
   passes-two h l =
       let w = or_ascii (get_or t i 0) (get_or t (i + 1) 0) l in
@@ -168,6 +187,21 @@ passes-prefix t i n h q =
     let p = ascii_prefix (take (length t - i) (drop i t)) in
     let e = q ∙ position_first (take (length t - i) (drop i t)) in
     passes-many t n i (omega (arith, p.0, length-take (length t - i) (drop i t))) (λ j g. subst (λ (x : ℕ). x < 0x80) (rest_bytes t i h j) (p.1 j (omega arith)))
+
+-- the blocks of ASCII bytes at a place, as many as there are
+module _ (t : List ℕ) (i : ℕ) (h : i ≤ length t) (blocks : List (List ℕ)) (e : blocks ≡ first_chunks 8 (length (take (length t - i) (drop i t)) / 8) (take (length t - i) (drop i t)))
+    (long : length blocks ≡ length (take (length t - i) (drop i t)) / 8) where
+  passes-front : (n : ℕ) → n ≤ length blocks → AllWithin (λ b. ors b 0 < 0x80) blocks 0 n → Passes t i (i + 8 * n)
+  passes-front n g f =
+      let xs : List ℕ = take (length t - i) (drop i t) in
+      let all : AllWithin (λ b. ors b 0 < 0x80) (first_chunks 8 (length xs / 8) xs) 0 n = subst (λ (bs : List (List ℕ)). AllWithin (λ b. ors b 0 < 0x80) bs 0 n) e f in
+      let each = in_blocks (λ (x : ℕ). x < 0x80) xs (length xs / 8) n (omega arith) (λ j b p q. let z : 0 + b ≡ b = omega arith in rw z at (eight_ascii (get_or (first_chunks 8 (length xs / 8) xs) j []) 0 _ refl (all j [] (omega arith) p) b q)) in
+      passes-many t (8 * n) i (omega (arith, length-take (length t - i) (drop i t))) (λ j p. subst (λ (x : ℕ). x < 0x80) (rest_bytes t i h j) (each j p))
+
+  pub passes-blocks : (r : Option ℕ) → MatchOption r (AllWithin (λ b. ors b 0 < 0x80) blocks 0 (length blocks)) (λ n. (n < length blocks) × HoldsAt (λ b. 0x80 ≤ ors b 0) blocks n × AllWithin (λ b. ors b 0 < 0x80) blocks 0 n)
+      → Passes t i (i + 8 * unwrap_or r (length blocks))
+  passes-blocks None f = passes-front (length blocks) (omega arith) f
+  passes-blocks (Some n) w = passes-front n (omega (arith, w.0)) w.2
 
 -- ---- the loop of `plain_up_to`
 module _ (t : List ℕ) (at : ℕ) (p : Passes t 0 at) where

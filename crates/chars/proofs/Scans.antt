@@ -9,7 +9,7 @@ use Rattle.chars.specs.Utf8.{sizes, front, decode, valid_up_to, decoded_at}
 use Rattle.chars.specs.Ranges.{within}
 use Rattle.chars.specs.Class.{admitted, outside_from, first_outside}
 use Rattle.std.specs.Prelude.{Option, Some, None}
-use Rattle.chars.proofs.Laws.{char_decode, char_next, none_decode}
+use Rattle.chars.proofs.Laws.{char_decode, char_next, char_le, char_falls, none_decode}
 
 pub valid_start : (t : List ℕ) → 0 + sizes (decode (drop 0 t)) ≡ valid_up_to t
 unfolding valid_up_to
@@ -42,3 +42,8 @@ module _ (t : List ℕ) (i : ℕ) (r : Option (ℕ × ℕ)) (s : r ≡ decoded_a
     pub outside_none : r ≡ None → None ≡ v
     unfolding outside_from
     outside_none e = rw (none_decode t i r s e, outside_from) at p
+
+-- what closes the goals of a scan that goes from character to character
+pub ruleset valid = (char_le, char_falls, valid_start, valid_on, valid_none)
+
+pub ruleset outside = (char_le, char_falls, outside-start, outside-on, outside_here, outside_none)

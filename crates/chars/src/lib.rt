@@ -183,6 +183,7 @@ pub fn above_end(text: &[u8], at: usize) -> usize
 }
 
 // The length of the longest UTF-8 beginning.
+#[tactic(auto, using(crate::proofs::Scans::valid))]
 pub fn valid_up_to(text: &[u8]) -> usize
     ensures { result ≡ valid_up_to text.now }
 {
@@ -201,6 +202,7 @@ pub fn is_admitted(c: u32) -> bool
 }
 
 // The place of the first character outside that set, in the longest UTF-8 beginning.
+#[tactic(auto, using(crate::proofs::Scans::outside))]
 pub fn first_outside(text: &[u8]) -> Option<usize>
     ensures { result ≡ first_outside text.now }
 {
@@ -237,8 +239,6 @@ fn ascii_two(text: &[u8], at: usize) -> usize
 }
 
 // A place before which all bytes are ASCII, from one on: blocks of eight are passed over; where the third byte says that there is none, two bytes.
-// A `while` and no `chunks_exact`: `take_while` and `count` would give a number of blocks, of which the place and what the contract says of it would be
-// counted once more.
 fn ascii_blocks(text: &[u8], at: usize) -> usize
     requires { at ≤ length text.now }
     ensures { Passes text.now at result }
@@ -249,11 +249,9 @@ fn ascii_blocks(text: &[u8], at: usize) -> usize
     if 0x80 <= text[at + 2] {
         return ascii_two(text, at);
     }
-    let mut i = at;
-    while 8 <= text.len() - i && eight(text, i) < 0x80 {
-        i += 8;
-    }
-    i
+    let (blocks, _) = text[at..].as_chunks::<8>();
+    let other = blocks.iter().position(|b| 0x80 <= eight(b, 0));
+    at + 8 * other.unwrap_or(blocks.len())
 }
 
 // How many ASCII bytes stand at a text's front.
@@ -296,6 +294,7 @@ fn plain_short(text: &[u8], at: usize) -> Option<usize>
 }
 
 // The place behind the character of the set at a place whose first byte is above ASCII, if one stands there: the first bytes tell it for nearly all.
+#[tactic(auto, using(crate::proofs::Short::next_char, crate::proofs::Short::next_none))]
 fn plain_next(text: &[u8], at: usize) -> Option<usize>
     requires inside { at < length text.now }
     requires above { 0x80 ≤ get_or text.now at 0 }

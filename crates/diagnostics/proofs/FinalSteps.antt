@@ -163,13 +163,13 @@ module _ (text w₀ : List ℕ) (s : Search) (st : Stands text w₀ s) where
     newline_stepped r t h et k e =
         ended-stepped r (names_stop (rows c w₀) s.at (omega (arith, stands_size text w₀ s st)) (ap (λ (t : Token). t.kind) (sym et) ∙ k)) e
 
-    pub listed-stepped : (w : List ℕ) (r : Step) (t : Token) (x : ℕ) → s.at < s.count → t ≡ peek (rows s.count w₀) s.at → (t.kind ≡ 13 → ⊥) → x ≡ get_or s.first 5 0
+    pub listed-stepped : (w : List ℕ) (r : Step) (t : Token) (declared : Bool) → s.at < s.count → t ≡ peek (rows s.count w₀) s.at → (t.kind ≡ 13 → ⊥) → declared ≡ ltb (get_or s.first 5 0) s.count
         → Kept (marks_from (length text)) w₀ w → r.search ≡ moved s Finals (s.at + 1)
         → ((qs before : List ℕ) → Marks text (rows s.count w₀) (words_from (length text)) (marks_from (length text)) w₀ qs before
-        → (taken r ≡ final_error_at text (rows s.count w₀) (ltb x s.count) qs before s.at)
+        → (taken r ≡ final_error_at text (rows s.count w₀) declared qs before s.at)
         × Marks text (rows s.count w₀) (words_from (length text)) (marks_from (length text)) w qs (before ++ name_at s.at (peek (rows s.count w₀) s.at))) → Stepped text w₀ w s r
     unfolding pending_in
-    listed-stepped w r t x h et k ex kept to all =
+    listed-stepped w r t declared h et k said kept to all =
         let ts : List Token = rows c w₀ in
         let i : ℕ = suc s.at in
         let size : length ts ≡ c = stands_size text w₀ s st in
@@ -178,7 +178,7 @@ module _ (text w₀ : List ℕ) (s : Search) (st : Stands text w₀ s) where
         let d : Bool = ltb q (length ts) in
         let ds : List Diagnostic = final_error_at text ts d (names_of ts q) before s.at in
         let p = all (names_of ts q) before (st.marks two) in
-        let same : ltb x c ≡ d = ap (λ (x : ℕ). ltb x c) ex ∙ ap (ltb q) (sym size) in
+        let same : declared ≡ d = said ∙ ap (ltb q) (sym size) in
         let took : taken r ≡ ds = p.0 ∙ ap (λ (d : Bool). final_error_at text ts d (names_of ts q) before s.at) same in
         let m : Marks text ts a b w (names_of ts q) (names_before ts f i) = subst (λ (l : List ℕ). Marks text ts a b w (names_of ts q) l) (sym (before_on ts f s.at (st.behind two) low)) p.1 in
         let rest : List Diagnostic = rule_errors s.tally (entries ts) in

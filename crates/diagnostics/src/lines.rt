@@ -23,11 +23,7 @@ use tokens::{Tokens, span_of};
 fn stepped(search: Search, row: &[u32; 5], n: usize) -> Step
     ensures { result ≡ stepped search row.now n }
 {
-    let found = if n == 1 {
-        Some(diag::record_at(row, 0))
-    } else {
-        None
-    };
+    let found = (n == 1).then_some(diag::record_at(row, 0));
     Step { search, found }
 }
 

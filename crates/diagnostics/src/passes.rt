@@ -7,6 +7,7 @@ ghost use Rattle.diagnostics.specs.Pending.{pending};
 ghost use Rattle.diagnostics.specs.Stands.{Stands, Stepped};
 
 use crate::{Pass, Search, Step, lines};
+use assembler::declarations;
 use assembler::finals::Names;
 use lexer::kind;
 use parser::ItemKind;
@@ -62,10 +63,10 @@ fn behind_names(text: &[u8], work: &mut [u32], s: Search) -> Step
     ensures { Stepped text.now work.old work.new s result }
 {
     let first = s.first;
-    if s.count <= first[ItemKind::Final as usize] as usize {
-        return onward(s, Pass::Rules, 0);
+    if declarations::line(first[ItemKind::Final as usize], s.count).is_some() {
+        return enter_finals(text, work, s);
     }
-    enter_finals(text, work, s)
+    onward(s, Pass::Rules, 0)
 }
 
 // Of the declarations.
@@ -97,14 +98,14 @@ fn at_listed(text: &[u8], work: &mut [u32], s: Search) -> Step
     }
     let base = text.len() + 1;
     let first = s.first;
-    let q = first[ItemKind::States as usize] as usize;
+    let declared = declarations::line(first[ItemKind::States as usize], s.count).is_some();
     let (front, marks) = work.split_at_mut(5 * base);
     let (words, firsts) = front.split_at(4 * base);
     let tokens = Tokens {
         words,
         count: s.count,
     };
-    lines::listed(&Names::new(text, tokens, firsts), marks, s, q < s.count)
+    lines::listed(&Names::new(text, tokens, firsts), marks, s, declared)
 }
 
 // Of F.

@@ -47,6 +47,7 @@ fn kind(out: &mut Output, k: Kind)
 }
 
 // How the output is read.
+#[tactic(auto, using(pieces::proofs::Chain::chain))]
 fn decoder(out: &mut Output, d: Decoder)
     requires { DecoderFormed (decoder_in d) }
     ensures { Writes (decoder (decoder_in d)) out.old out.new }
@@ -63,6 +64,7 @@ fn decoder(out: &mut Output, d: Decoder)
 }
 
 // `Q`, if declared.
+#[tactic(auto, using(pieces::proofs::Chain::chain), unfolding(crate::specs::Sections::states_line, language::specs::Plain::name_set))]
 fn states_line(out: &mut Output, text: &[u8], declared: bool, n: u32, words: &[u32])
     requires { Every (NameIn text.now) (groups 3 n words.now) }
     ensures { Writes (states_line text.now declared n words.now) out.old out.new }
@@ -75,6 +77,7 @@ fn states_line(out: &mut Output, text: &[u8], declared: bool, n: u32, words: &[u
 }
 
 // `Σ` or `Γ`, by its letter, if declared.
+#[tactic(auto, using(pieces::proofs::Chain::chain), unfolding(crate::specs::Sections::symbols_line, language::specs::Plain::symbol_set))]
 fn symbols_line(out: &mut Output, letter: u32, declared: bool, n: u32, words: &[u32])
     requires { (scalar letter ≡ true) × (declared ≡ true → scalars (column 3 0 n words.now) ≡ true) }
     ensures { Writes (symbols_line letter declared n words.now) out.old out.new }
@@ -100,6 +103,7 @@ fn blank_line(out: &mut Output, declared: bool, c: u32)
 }
 
 // `start`, if declared.
+#[tactic(auto, using(pieces::proofs::Chain::chain), unfolding(crate::specs::Sections::start_line))]
 fn start_line(out: &mut Output, text: &[u8], declared: bool, p: Span)
     requires { Utf8At text.now p }
     ensures { Writes (start_line text.now declared p) out.old out.new }
@@ -112,6 +116,7 @@ fn start_line(out: &mut Output, text: &[u8], declared: bool, p: Span)
 }
 
 // `F`, which is always there.
+#[tactic(auto, using(pieces::proofs::Chain::chain), unfolding(crate::specs::Sections::finals_line, language::specs::Plain::name_set))]
 fn finals_line(out: &mut Output, text: &[u8], n: u32, words: &[u32])
     requires { Every (NameIn text.now) (groups 3 n words.now) }
     ensures { Writes (finals_line text.now n words.now) out.old out.new }

@@ -1,9 +1,8 @@
--- Comments: whether there is a text behind the slashes, and whether there is a comment at all.
+-- Comments: whether there is a text behind the slashes.
 use mathlib.Core.Path.{◌≡◌, refl, sym, ap, ◌∙◌}
 use Prim.Native.Nat.{ℕ}
 use native.Mathlib.Omega.{arith}
-use mathlib.Core.Bool.{Bool, true, false, not, ◌&&◌, false≢true}
-use mathlib.Core.Option.{Option, none, some}
+use mathlib.Core.Bool.{true, false, false≢true}
 use mathlib.Core.List.{List, [], ◌∷◌, ◌++◌}
 use lib.Dec.{eqb}
 use lib.ListN.{length}
@@ -12,14 +11,13 @@ use Rattle.chars.specs.Utf8.{encode, decode}
 use Rattle.chars.proofs.Laws.{decode-nil}
 use Rattle.chars.proofs.Theorems.{encode-append}
 use Rattle.lexer.specs.Tokens.{Span}
-use Rattle.language.specs.Plain.{say, verbatim, comment, own_comment}
-use Rattle.language.specs.Agreement.{characters_at, comment_at}
+use Rattle.language.specs.Plain.{say, verbatim, comment}
+use Rattle.language.specs.Agreement.{characters_at}
 use Rattle.emit.specs.declared.Output.{Output}
 use Rattle.emit.specs.Appends.{Appends}
 use Rattle.pieces.specs.Writes.{Writes}
 use Rattle.form_parts.specs.Places.{bytes_at, Utf8At}
 use Rattle.pieces.proofs.Chain.{known, ◌▹◌}
-use Rattle.pieces.proofs.Chain as C
 
 empty : (l : List ℕ) → length l ≡ 0 → l ≡ []
 empty [] h = refl
@@ -41,32 +39,3 @@ module _ (text : List ℕ) (p : Span) (h : Utf8At text p) (bytes : List ℕ) (e 
       go (c ∷ cs) q =
           known {p = say "// "} (0x2F ∷ 0x2F ∷ 0x20 ∷ []) (λ rest. refl) u
           ▹ known {p = verbatim (c ∷ cs)} bytes (λ rest. encode-append (c ∷ cs) rest ∙ ap (λ l. l ++ encode rest) q) v
-
--- ---- none
-
-not_false : (b : Bool) → not b ≡ false → b ≡ true
-not_false true h = refl
-not_false false h = absurd (false≢true (sym h))
-
-not_true : (b : Bool) → not b ≡ true → b ≡ false
-not_true true h = absurd (false≢true h)
-not_true false h = refl
-
--- t tells whether the place is another than that of none
-module _ (text : List ℕ) (p : Span) (t : Bool) (q : t ≡ not (eqb p.start 4294967295 && eqb p.end 4294967295)) (o : Output) where
-  abbrev test : Bool
-  test = eqb p.start 4294967295 && eqb p.end 4294967295
-
-  -- a comment by whether there is none
-  by : Bool → Option (List ℕ)
-  by b = elim b [ true ↦ none | false ↦ some (characters_at text p) ]
-
-  pub own_none : t ≡ false → Writes (own_comment (comment_at text p)) o o
-  unfolding comment_at by
-  own_none e = let c : comment_at text p ≡ none = ap by (not_false test (sym q ∙ e)) in rw c (C.none o)
-
-  pub own_text : (a r : Output) → t ≡ true → Appends (0x20 ∷ []) o a → Writes (comment (characters_at text p)) a r → Writes (own_comment (comment_at text p)) o r
-  unfolding comment_at by encode
-  own_text a r e u v =
-      let c : comment_at text p ≡ some (characters_at text p) = ap by (not_true test (sym q ∙ e)) in
-      rw c (known {p = say " "} (0x20 ∷ []) (λ rest. refl) u ▹ v)

@@ -1,4 +1,3 @@
-pub mod Places
 pub mod Comments
 pub mod Lists
 pub mod Finals

@@ -190,19 +190,3 @@ module _ (k o n : ℕ) (ws : List ℕ) where
 
   pub moves-end : (i : ℕ) (f : Output) (p₀ : Piece) (o₀ : Output) → n ≤ i → Goes (more direction i (map dir_of (codes k o n i ws))) f p₀ o₀ → Writes p₀ o₀ f
   moves-end i f p₀ o₀ h g = goes_end (λ rest. ap (λ l. more direction i (map dir_of l) rest) (codes-none i h) ∙ more_none direction i rest) g
-
--- a move
-module _ (d : ℕ) (o r : Output) where
-  pub move_left : d ≡ 0 → Appends (0x4C ∷ []) o r → Writes (direction (dir_of d)) o r
-  unfolding encode
-  move_left e a = rw e (known (0x4C ∷ []) (λ rest. refl) a)
-
-  pub move_right : d ≡ 1 → Appends (0x52 ∷ []) o r → Writes (direction (dir_of d)) o r
-  unfolding encode
-  move_right e a = rw e (known (0x52 ∷ []) (λ rest. refl) a)
-
-pub move_stay : (d : ℕ) (o r : Output) → (d ≡ 0 → ⊥) → (d ≡ 1 → ⊥) → Appends (0x4E ∷ []) o r → Writes (direction (dir_of d)) o r
-unfolding encode
-move_stay zero o r h k a = absurd (h refl)
-move_stay (suc zero) o r h k a = absurd (k refl)
-move_stay (suc (suc d)) o r h k a = known (0x4E ∷ []) (λ rest. refl) a

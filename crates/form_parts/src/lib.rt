@@ -32,6 +32,7 @@ fn part(text: &[u8], p: Span) -> &[u8]
 // ---- characters
 
 // The characters at a place.
+#[tactic(auto, using(pieces::proofs::Chain::chain))]
 pub fn verbatim(out: &mut Output, text: &[u8], p: Span)
     requires { Utf8At text.now p }
     ensures { Writes (verbatim (characters_at text.now p)) out.old out.new }
@@ -40,6 +41,7 @@ pub fn verbatim(out: &mut Output, text: &[u8], p: Span)
 }
 
 // The string at a place, in quotes.
+#[tactic(auto, using(pieces::proofs::Chain::chain), unfolding(language::specs::Plain::string, language::specs::Agreement::string_at, language::specs::Agreement::characters_at))]
 pub fn string(out: &mut Output, text: &[u8], p: Span)
     requires { Whole (characters_at text.now p) }
     ensures { Writes (string (string_at text.now p)) out.old out.new }
@@ -65,6 +67,7 @@ pub fn comment(out: &mut Output, text: &[u8], p: Span)
 }
 
 // A rule's own comment, if it has one.
+#[tactic(auto, using(pieces::proofs::Chain::chain), unfolding(language::specs::Agreement::comment_at))]
 pub fn own_comment(out: &mut Output, text: &[u8], p: Span)
     requires { Utf8At text.now p }
     ensures { Writes (own_comment (comment_at text.now p)) out.old out.new }
@@ -113,6 +116,7 @@ pub fn symbols(out: &mut Output, words: &[u32], k: usize, o: usize, n: u32)
 }
 
 // The move of a head, by its number in the sheet, which C reads too.
+#[tactic(auto, using(pieces::proofs::Chain::chain))]
 fn direction(out: &mut Output, d: u32)
     ensures { Writes (direction (dir_of d)) out.old out.new }
 {

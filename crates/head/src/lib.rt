@@ -6,25 +6,14 @@ ghost use Rattle.tokens.specs.Listed.{tokens_of};
 ghost use Rattle.head.specs.Heads.{said, place_at, text_of, text_at, kind_of, kind_at, order_of, decoder_of, decoder_at};
 ghost use Rattle.head.specs.Heads.{tapes_at, blank_at, start_at, declared_in, map_in, head_at};
 
+use lexer::keyword;
 use machine::{BitOrder, Counts, Declared, Decoder, Head, Kind, SourceMap, Span};
+use parser::ItemKind;
 use sheet::rules;
 use tokens::{Token, Tokens};
 
 // The blank unless another is declared.
 pub const BLANK: u32 = 0x2423;
-// The values of the words that say a kind of machine, an output or an order of bits. They are numbers, and no enum, since a keyword's value stands in a
-// row of words that C lends, and each is looked at in one place.
-const ACCEPTOR: u32 = 0x110010;
-
-const ENUMERATOR: u32 = 0x110012;
-
-const BEAVER: u32 = 0x110013;
-
-const UNARY: u32 = 0x110015;
-
-const BINARY: u32 = 0x110016;
-
-const MSB: u32 = 0x110018;
 
 // Here and below the tokens and a line's index are two parameters: each part of a head stands in another line, and Tokens is another crate's, so that these
 // are no methods of it.
@@ -36,11 +25,7 @@ fn said(tokens: &Tokens, f: u32, j: usize) -> Option<Token>
     ensures { result ≡ said (tokens_of tokens.now) f j }
 {
     let i = f as usize;
-    if i < tokens.len() {
-        Some(tokens.at(i + j))
-    } else {
-        None
-    }
+    (i < tokens.len()).then_some(tokens.at(i + j))
 }
 
 // Its place.
@@ -117,11 +102,11 @@ fn map_in(tokens: &Tokens, first: &[u32; 11]) -> SourceMap
     ensures { result ≡ map_in (tokens_of tokens.now) first.now }
 {
     SourceMap {
-        kind: place_at(tokens, first[1], 0),
-        input: place_at(tokens, first[2], 1),
-        tapes: place_at(tokens, first[4], 2),
-        start: place_at(tokens, first[9], 2),
-        states: place_at(tokens, first[5], 0),
+        kind: place_at(tokens, first[ItemKind::Kind as usize], 0),
+        input: place_at(tokens, first[ItemKind::Input as usize], 1),
+        tapes: place_at(tokens, first[ItemKind::Tapes as usize], 2),
+        start: place_at(tokens, first[ItemKind::Start as usize], 2),
+        states: place_at(tokens, first[ItemKind::States as usize], 0),
     }
 }
 
@@ -141,9 +126,9 @@ fn kind_of(v: u32) -> Kind
     ensures { result ≡ kind_of v }
 {
     match v {
-        ACCEPTOR => Kind::Acceptor,
-        ENUMERATOR => Kind::Enumerator,
-        BEAVER => Kind::Beaver,
+        keyword::ACCEPTOR => Kind::Acceptor,
+        keyword::ENUMERATOR => Kind::Enumerator,
+        keyword::BEAVER => Kind::Beaver,
         _ => Kind::Transducer,
     }
 }
@@ -153,7 +138,7 @@ fn kind_of(v: u32) -> Kind
 fn order_of(v: u32) -> BitOrder
     ensures { result ≡ order_of v }
 {
-    if v == MSB {
+    if v == keyword::MSB {
         BitOrder::Msb
     } else {
         BitOrder::Lsb
@@ -166,8 +151,8 @@ fn decoder_of(blank: u32, v: u32, t: Token) -> Decoder
     ensures { result ≡ decoder_of blank v t }
 {
     match v {
-        UNARY => Decoder::Unary(rules::resolve(blank, t)),
-        BINARY => Decoder::Binary(order_of(t.value)),
+        keyword::UNARY => Decoder::Unary(rules::resolve(blank, t)),
+        keyword::BINARY => Decoder::Binary(order_of(t.value)),
         _ => Decoder::Word,
     }
 }
@@ -178,11 +163,11 @@ fn declared_in(count: usize, first: &[u32; 11]) -> Declared
     ensures { result ≡ declared_in count first.now }
 {
     Declared {
-        states: (first[5] as usize) < count,
-        input_alphabet: (first[6] as usize) < count,
-        tape_alphabet: (first[7] as usize) < count,
-        start: (first[9] as usize) < count,
-        blank: (first[8] as usize) < count,
+        states: (first[ItemKind::States as usize] as usize) < count,
+        input_alphabet: (first[ItemKind::InputAlphabet as usize] as usize) < count,
+        tape_alphabet: (first[ItemKind::TapeAlphabet as usize] as usize) < count,
+        start: (first[ItemKind::Start as usize] as usize) < count,
+        blank: (first[ItemKind::Blank as usize] as usize) < count,
     }
 }
 
@@ -202,16 +187,16 @@ pub fn blank_at(tokens: &Tokens, f: u32) -> u32
 pub fn head(tokens: &Tokens, first: &[u32; 11], s: Span, n: Counts) -> Head
     ensures { result ≡ head_at (tokens_of tokens.now) first.now s n }
 {
-    let blank = blank_at(tokens, first[8]);
+    let blank = blank_at(tokens, first[ItemKind::Blank as usize]);
     Head {
-        output: decoder_at(tokens, first[3], blank),
-        name: text_at(tokens, first[0]),
-        input: text_at(tokens, first[2]),
-        kind: kind_at(tokens, first[1]),
-        tapes: tapes_at(tokens, first[4]),
+        output: decoder_at(tokens, first[ItemKind::Output as usize], blank),
+        name: text_at(tokens, first[ItemKind::Machine as usize]),
+        input: text_at(tokens, first[ItemKind::Input as usize]),
+        kind: kind_at(tokens, first[ItemKind::Kind as usize]),
+        tapes: tapes_at(tokens, first[ItemKind::Tapes as usize]),
         blank,
         declared: declared_in(tokens.len(), first),
-        start: start_at(tokens, first[9], s),
+        start: start_at(tokens, first[ItemKind::Start as usize], s),
         map: map_in(tokens, first),
         counts: n,
     }

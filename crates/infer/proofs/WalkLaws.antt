@@ -109,6 +109,6 @@ pub start_none : (ts : List Token) (s : ℕ) → length ts ≤ s → start_name 
 unfolding start_name
 start_none ts s h = rw (le-ltb s (length ts) h)
 
-pub start_there : (ts : List Token) (s : ℕ) → s < length ts → start_name ts s ≡ (s + 2) ∷ []
+pub start_there : (ts : List Token) (s i : ℕ) → i ≡ s → s < length ts → start_name ts s ≡ (i + 2) ∷ []
 unfolding start_name
-start_there ts s h = rw (lt-ltb s (length ts) h)
+start_there ts s i e h = rw (lt-ltb s (length ts) h, ← e)

@@ -9,7 +9,7 @@ ghost use Rattle.infer.specs.Page.{indices_in};
 ghost use Rattle.infer.specs.States.{Inside, list_final, list_finals, finals, mention_at, all_mentions, start_name, inferred};
 ghost use Rattle.infer.specs.States.{states_add, states_mark, section};
 
-use assembler::{entry, seek};
+use assembler::{declarations, entry, seek};
 use lexer::kind;
 use parser::{ItemKind, view};
 use sheet::put::Sheet;
@@ -92,7 +92,7 @@ impl<'a> Names<'a> {
         requires first { t ≡ peek (row_of self.now) e }
         ensures { Named self.now false (mention_at (row_of self.now) e) marks.old marks.new out.old out.new }
     {
-        if t.kind != entry::ITEM + ItemKind::Transition as u32 {
+        if t.kind != entry::RULE {
             return;
         }
         let comma = self.tokens.at(e + 3);
@@ -119,8 +119,7 @@ impl<'a> Names<'a> {
         requires marks { length self.now.firsts.now ≤ length marks.old }
         ensures { Named self.now false (start_name (row_of self.now) start) marks.old marks.new out.old out.new }
     {
-        let s = start as usize;
-        if s < self.tokens.len() {
+        if let Some(s) = declarations::line(start, self.tokens.len()) {
             self.name(s + 2, false, marks, out);
         }
     }
@@ -151,7 +150,7 @@ impl<'a> Names<'a> {
         ensures marked { marks.new ≡ states_mark self.now.firsts.now (row_of self.now) first.now marks.old }
     {
         let q = first[ItemKind::States as usize];
-        if (q as usize) < self.tokens.len() {
+        if declarations::line(q, self.tokens.len()).is_some() {
             return self.names_in(q, true, marks, out);
         }
         let start = first[ItemKind::Start as usize];

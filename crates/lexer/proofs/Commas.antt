@@ -120,3 +120,6 @@ module _ (t w₀ w : List ℕ) (at n : ℕ) (st : State t w₀ w at n) (w'' : Li
       subst (λ (i : ℕ). State t w₀ w'' i n') (sym p.place) (subst (λ (i : ℕ). State t w₀ w'' (p.end + p.commas) i) (sym p.count)
       (state_both t w₀ w at n (Tok 0 p.end p.value p.end) st p.token 0 p.end p.value p.end refl
       (sets w (4 * n) (0 ∷ at ∷ p.end ∷ p.value ∷ [])) refl p.commas w'' p.comma p.words))
+
+-- what a word adds to a row and a place fits
+pub ruleset fits = (word_end_fits, word-place_fits)

@@ -293,3 +293,6 @@ module _ (k b c : ℕ) (e : c ≡ b) where
   pub value-code : (k ≡ 1 → ⊥) → (k ≡ 13 → ⊥) → c ≡ quick_value k b
   unfolding quick_value
   value-code f g = rw (ne_eqb k 1 f, ne_eqb k 13 g, e)
+
+-- the value of a word of one character, and of a longer one
+pub ruleset values = (value-one, value_long)

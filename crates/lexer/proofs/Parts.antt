@@ -1,17 +1,21 @@
 -- Eight bytes at once: what the definitions say of a line and of a string behind them is what they say before them.
-use mathlib.Core.Path.{◌≡◌, refl, sym, ap, ◌∙◌}
-use Prim.Native.Nat.{ℕ, ◌+◌, ◌-◌, ◌≤◌, ◌<◌}
+use mathlib.Core.Path.{◌≡◌, refl, sym, ap, subst, ◌∙◌}
+use Prim.Native.Nat.{ℕ, ◌+◌, ◌-◌, ◌*◌, ◌/◌, ◌≤◌, ◌<◌}
 use native.Mathlib.Omega.{arith}
 use mathlib.Core.Bool.{Bool, true, false, ◌&&◌, not}
-use mathlib.Core.List.{List}
+use mathlib.Core.List.{List, []}
 use lib.Dec.{leb, ltb, eqb}
-use lib.ListN.{length, get_or, drop}
+use lib.ListN.{length, get_or, take, drop, length-take}
 use borrow.Author.Tests.{leb-true, ltb-true, eqb-false}
 use Rattle.chars.specs.Utf8.{front, decode, decoded_at}
-use Rattle.std.specs.Prelude.{Option as Perhaps, Some}
+use Rattle.std.specs.Prelude.{Option as Perhaps, Some, None, unwrap_or}
+use Rattle.std.specs.Bool.{⊤}
+use Rattle.std.specs.List.{AllWithin, HoldsAt}
+use Rattle.std.specs.Option.{MatchOption}
+use Rattle.std.specs.Simd.{first_chunks}
 use Rattle.chars.proofs.Tests.{and_both}
-use Rattle.chars.proofs.Front.{char_at_ascii}
-use Rattle.chars.proofs.Blocks.{many}
+use Rattle.chars.proofs.Front.{char_at_ascii, rest_bytes}
+use Rattle.chars.proofs.Blocks.{many, in_blocks}
 use Rattle.lexer.specs.Tokens.{is_whitespace}
 use Rattle.lexer.specs.Places.{string_end}
 use Rattle.lexer.specs.Blocks.{plain_byte, inner_byte}
@@ -87,6 +91,10 @@ module _ (t : List ℕ) (at i last : ℕ) (h : 8 ≤ length t - i) (st : Lined t
       rw u at m
 
 -- ---- a string
+-- each of eight bytes stands for itself
+abbrev pub AllInner : List ℕ → Type 0
+AllInner b = (j : ℕ) → j < 8 → inner_byte (get_or b j 0) ≡ true
+
 string_inner : (t : List ℕ) (i : ℕ) (v : Perhaps ℕ) → i < length t → inner_byte (get_or t i 0) ≡ true → string_end false i (decode (drop i t)) ≡ v → string_end false (i + 1) (decode (drop (i + 1) t)) ≡ v
 string_inner t i v h p q =
     let c : ℕ = get_or t i 0 in
@@ -94,8 +102,18 @@ string_inner t i v h p q =
     sym (ap (λ (b : Bool). string_end b (i + 1) (decode (drop (i + 1) t))) w.3)
     ∙ string-plain t 0 i false (Some (c, i + 1)) (char_at_ascii t i c h refl w.1) v q c (i + 1) refl (λ (z : c ≡ 10). omega arith) refl (eqb-false c 0x22 w.2)
 
-pub string-eight : (t : List ℕ) (i : ℕ) (v : Perhaps ℕ) → 8 ≤ length t - i → ((j : ℕ) → j < 8 → true ≡ inner_byte (get_or t (i + j) 0))
-    → string_end false i (decode (drop i t)) ≡ v → string_end false (i + 8) (decode (drop (i + 8) t)) ≡ v
-string-eight t i v h e q =
-    many t (λ (j : ℕ). string_end false j (decode (drop j t)) ≡ v) (λ (x : ℕ). inner_byte x ≡ true) (λ j g r s. string_inner t j v g r s) 8 i (omega arith)
-    (λ j l. sym (e j l)) q
+-- the blocks of such bytes at a place, as many as there are
+module _ (t : List ℕ) (at : ℕ) (v : Perhaps ℕ) (h : at ≤ length t) (blocks : List (List ℕ)) (e : blocks ≡ first_chunks 8 (length (take (length t - at) (drop at t)) / 8) (take (length t - at) (drop at t)))
+    (long : length blocks ≡ length (take (length t - at) (drop at t)) / 8) (p : string_end false at (decode (drop at t)) ≡ v) where
+  string-front : (n : ℕ) → n ≤ length blocks → AllWithin AllInner blocks 0 n → string_end false (at + 8 * n) (decode (drop (at + 8 * n) t)) ≡ v
+  string-front n g f =
+      let xs : List ℕ = take (length t - at) (drop at t) in
+      let all : AllWithin AllInner (first_chunks 8 (length xs / 8) xs) 0 n = subst (λ (bs : List (List ℕ)). AllWithin AllInner bs 0 n) e f in
+      let each = in_blocks (λ (x : ℕ). inner_byte x ≡ true) xs (length xs / 8) n (omega arith) (λ j b m l. all j [] (omega arith) m b l) in
+      many t (λ (j : ℕ). string_end false j (decode (drop j t)) ≡ v) (λ (x : ℕ). inner_byte x ≡ true) (λ j l r s. string_inner t j v l r s) (8 * n) at
+      (omega (arith, length-take (length t - at) (drop at t))) (λ j l. subst (λ (x : ℕ). inner_byte x ≡ true) (rest_bytes t at h j) (each j l)) p
+
+  pub string-blocks : (r : Perhaps ℕ) → MatchOption r (AllWithin AllInner blocks 0 (length blocks)) (λ n. (n < length blocks) × HoldsAt (λ _. ⊤) blocks n × AllWithin AllInner blocks 0 n)
+      → string_end false (at + 8 * unwrap_or r (length blocks)) (decode (drop (at + 8 * unwrap_or r (length blocks)) t)) ≡ v
+  string-blocks None f = string-front (length blocks) (omega arith) f
+  string-blocks (Some n) w = string-front n (omega (arith, w.0)) w.2

@@ -61,16 +61,14 @@ pub(crate) fn line_part(text: &[u8], at: usize) -> Line
     Line { trimmed, end: i }
 }
 
-// A place inside a string, from behind its quote: blocks without a quote or a backslash are passed over. A `while` for the same reason.
+// A place inside a string, from behind its quote: blocks without a quote or a backslash are passed over.
 pub(crate) fn string_part(text: &[u8], at: usize) -> usize
     ensures { string_end false result (rest text.now result) ≡ string_end false at (rest text.now at) }
 {
     if text.len() < at {
         return at;
     }
-    let mut i = at;
-    while 8 <= text.len() - i && all_eight(text, i, is_inner) {
-        i += 8;
-    }
-    i
+    let (blocks, _) = text[at..].as_chunks::<8>();
+    let other = blocks.iter().position(|b| !all_eight(b, 0, is_inner));
+    at + 8 * other.unwrap_or(blocks.len())
 }

@@ -8,10 +8,11 @@ ghost use Rattle.lexer.specs.Places.{Tok, rest, piece_of, piece};
 ghost use Rattle.lexer.specs.Quick.{WordAt};
 
 use crate::kind::TokenKind;
-use crate::{Piece, names, scan};
+use crate::{Piece, keyword, names, scan};
 use chars::Class;
 
 // The kind of a sign.
+#[tactic(auto, using(chars::proofs::Tests::tests, crate::proofs::Pieces::sign_of), unfolding(crate::specs::Words::sign_number))]
 fn sign_kind(c: u32) -> TokenKind
     ensures { kind_word result ≡ sign_number c }
 {
@@ -28,6 +29,7 @@ fn sign_kind(c: u32) -> TokenKind
 }
 
 // The value of the word at a place that begins with an ASCII character, from where it ends. More than a conversion: a longer word is looked up.
+#[tactic(auto, using(crate::proofs::Pieces::word_fits, crate::proofs::Leads::values))]
 pub(crate) fn word_value(text: &[u8], at: usize, end: usize) -> u32
     requires word { WordAt text.now at }
     requires end { end ≡ at + 1 + sizes (run is_word_continue (rest text.now (at + 1))) }
@@ -36,7 +38,7 @@ pub(crate) fn word_value(text: &[u8], at: usize, end: usize) -> u32
     if end == at + 1 {
         return u32::from(text[at]);
     }
-    0x110000 + names::keyword_of(names::part_of(text, at, end))
+    keyword::LONGER + names::keyword_of(names::part_of(text, at, end))
 }
 
 // A double quote at a place: a string, or the rest of the line, trimmed.
@@ -111,7 +113,7 @@ impl Head<'_> {
             return Piece::token(TokenKind::Word, end, self.c);
         }
         let k = names::keyword_of(names::part_of(self.text, self.at, end));
-        Piece::token(TokenKind::Word, end, 0x110000 + k)
+        Piece::token(TokenKind::Word, end, keyword::LONGER + k)
     }
 
     // A number whose first digit this is.

@@ -12,6 +12,7 @@ ghost use Rattle.lexer.specs.Places.{Tok};
 ghost use Rattle.lexer.specs.Quick.{WordAt, comma_words, WordPut};
 
 mod block;
+pub mod keyword;
 pub mod kind;
 mod lex;
 pub mod names;
@@ -108,6 +109,7 @@ fn comma(text: &[u8], at: usize, work: &mut [u32], n: usize) -> usize
 }
 
 // The word at a place that begins with an ASCII character, as token number n, together with a comma behind it.
+#[tactic(auto, using(crate::proofs::Commas::fits))]
 fn word(text: &[u8], at: usize, work: &mut [u32], n: usize) -> Cursor
     requires { (length text.now ≤ 0x400000)
         × (4 * length text.now + 4 ≤ length work.old)
@@ -131,8 +133,7 @@ fn fill(table: Table, text: &[u8], work: &mut [u32]) -> usize
     requires { (length text.now ≤ 0x400000) × (4 * length text.now + 4 ≤ length work.old) }
     ensures { (result ≡ length (tokens (decode text.now))) × (work.new ≡ onto (flat (tokens (decode text.now))) work.old) }
 {
-    let mut at = 0;
-    let mut n = 0;
+    let (mut at, mut n) = (0, 0);
     // How far a turn goes depends on what stands there, so that no `for` counts it.
     loop {
         let k = table.lead_at(text, at);
@@ -144,9 +145,7 @@ fn fill(table: Table, text: &[u8], work: &mut [u32]) -> usize
         } else if k == quick::BLANK {
             at += 1;
         } else if k == quick::LONG_WORD {
-            let c = word(text, at, work, n);
-            at = c.at;
-            n = c.n;
+            Cursor { at, n } = word(text, at, work, n);
         } else {
             match lex::piece_at(text, at) {
                 Piece::Token {
@@ -160,9 +159,7 @@ fn fill(table: Table, text: &[u8], work: &mut [u32]) -> usize
                     n = n + 1 + m;
                     at = next + m;
                 }
-                Piece::Gap(next) => {
-                    at = next;
-                }
+                Piece::Gap(next) => at = next,
                 Piece::End => {
                     push(work, n, kind::NEWLINE, at as u32, at as u32, 0);
                     return n + 1;
@@ -184,6 +181,7 @@ pub fn tokenize(text: &[u8], work: &mut [u32]) -> usize
 
 // The same for callers in other languages; a text that is too long or work that is too short is left as it is, and the answer is all ones.
 #[unsafe(no_mangle)]
+#[tactic(auto, using(crate::proofs::Writes::refused_long, crate::proofs::Writes::refused_short, crate::proofs::Writes::answered))]
 pub extern "C" fn pevzoncs_tokenize(text: &[u8], work: &mut [u32]) -> usize
     ensures { (result, work.new) ≡ tokenized text.now work.old }
 {

@@ -1,10 +1,8 @@
 -- Pieces one after the other: what one leaves, the next goes on from.
 use mathlib.Core.Path.{◌≡◌, refl, sym, ap, ◌∙◌}
-use Prim.Native.Nat.{ℕ, ◌≤◌, ◌<◌}
-use mathlib.Core.List.{List, [], ◌∷◌}
-use lib.Dec.{ltb}
-use borrow.Author.Tests.{lt-ltb, le-ltb}
-use Rattle.language.specs.Plain.{Piece, nothing, only, verbatim, ◌⨾◌}
+use Prim.Native.Nat.{ℕ}
+use mathlib.Core.List.{List, ◌++◌}
+use Rattle.language.specs.Plain.{Piece, nothing, verbatim, ◌⨾◌}
 use Rattle.emit.specs.Output.{appended}
 use Rattle.emit.specs.Decimal.{decimal}
 use Rattle.emit.specs.declared.Output.{Output}
@@ -18,10 +16,17 @@ use Rattle.list_lines.specs.Puts.{Puts}
 pub said : {bytes : List ℕ} {o r : Output} → Appends bytes o r → Puts (verbatim bytes) o r
 said {bytes} {o} a = record { put = λ rest. ap (λ x. appended x rest) a.appends ∙ appended-append (held o) a.short bytes rest; same_row = a.same_row }
 
+-- a number is its digits
+pub number_digits : (n : ℕ) (rest : List ℕ) → number n rest ≡ decimal n ++ rest
+unfolding number decimal
+number_digits n rest = digits-rest 19 n rest
+
 -- a number that was appended in decimal
 pub counted : {n m : ℕ} {o r : Output} → n ≡ m → Appends (decimal n) o r → Puts (number m) o r
-unfolding number decimal
-counted {n} {m} {o} {r} e a = rw (← e) (record { put = λ rest. (said a).put rest ∙ ap (appended (held o)) (sym (digits-rest 19 n rest)); same_row = a.same_row })
+counted {n} {m} {o} {r} e a = rw (← e) (record { put = λ rest. (said a).put rest ∙ ap (appended (held o)) (sym (number_digits n rest)); same_row = a.same_row })
+
+-- bytes behind bytes
+pub ruleset chain = (appended-append, number_digits)
 
 -- nothing was printed
 pub none : {o : Output} → Puts nothing o o
@@ -35,13 +40,6 @@ pub ◌▹◌ : {p q : Piece} {o a r : Output} → Puts p o a → Puts q a r →
 -- another name for the same piece
 pub same : {p q : Piece} {o r : Output} → p ≡ q → Puts p o r → Puts q o r
 same e u = rw e at u
-
--- a byte before every member but the first
-pub separated : {i sep : ℕ} {o r : Output} → 0 < i → Appends (sep ∷ []) o r → Puts (only (ltb 0 i) (λ rest. sep ∷ rest)) o r
-separated {i} h a = rw (lt-ltb 0 i h) (said a)
-
-pub not_separated : {i : ℕ} (sep : ℕ) {o : Output} → i ≤ 0 → Puts (only (ltb 0 i) (λ rest. sep ∷ rest)) o o
-not_separated {i} sep h = rw (le-ltb 0 i h) none
 
 -- ---- what is still to be printed
 

@@ -22,6 +22,7 @@ use sheet_words::{after, place_at, record_at, word};
 // ---- names and lists
 
 // The bytes at a place of the text.
+#[tactic(auto, using(crate::proofs::Chain::chain), unfolding(crate::specs::Listing::named))]
 fn named(out: &mut Output, text: &[u8], at: Span)
     ensures { Puts (named text.now at) out.old out.new }
 {
@@ -29,6 +30,7 @@ fn named(out: &mut Output, text: &[u8], at: Span)
 }
 
 // A byte before every member of a list but the first.
+#[tactic(auto, using(crate::proofs::Chain::chain))]
 fn separator(out: &mut Output, i: u32, sep: u8)
     ensures { Puts (only (ltb 0 i) (λ rest. sep ∷ rest)) out.old out.new }
 {
@@ -171,6 +173,7 @@ fn transition(out: &mut Output, text: &[u8], words: &[u32])
 }
 
 // n states: all, the final ones, and the start.
+#[tactic(auto, using(crate::proofs::Chain::chain), unfolding(crate::specs::Listing::state_lines))]
 fn state_lines(out: &mut Output, text: &[u8], n: u32, start: Span, states: &[u32])
     ensures { Puts (state_lines text.now n start states.now) out.old out.new }
 {
@@ -184,6 +187,7 @@ fn state_lines(out: &mut Output, text: &[u8], n: u32, start: Span, states: &[u32
 }
 
 // n symbols of Σ and m of Γ.
+#[tactic(auto, using(crate::proofs::Chain::chain), unfolding(crate::specs::Listing::symbol_lines))]
 fn symbol_lines(out: &mut Output, n: u32, sigma: &[u32], m: u32, gamma: &[u32])
     ensures { Puts (symbol_lines n sigma.now m gamma.now) out.old out.new }
 {
@@ -231,6 +235,7 @@ fn machine_lines(out: &mut Output, text: &[u8], head: &Head, sheet: &[u32])
 // ---- the whole
 
 // The first line of all others: the text's length.
+#[tactic(auto, using(crate::proofs::Chain::chain), unfolding(crate::specs::Listing::bytes_line))]
 fn bytes_line(out: &mut Output, text: &[u8])
     ensures { Puts (bytes_line text.now) out.old out.new }
 {
@@ -240,6 +245,7 @@ fn bytes_line(out: &mut Output, text: &[u8])
 }
 
 // The line that stands alone: a refusal's number and value.
+#[tactic(auto, using(crate::proofs::Chain::chain), unfolding(crate::specs::Listing::refused_line))]
 pub fn refused(out: &mut Output, n: u32, v: u64)
     ensures { Puts (refused_line n v) out.old out.new }
 {

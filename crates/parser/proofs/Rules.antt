@@ -12,7 +12,6 @@ use lib.Seq.{drop-cons}
 use lib.Dec.{eqb}
 use mir.Syntax.{w64}
 use mir.Val.{Fits}
-use borrow.Author.Rules.{rules}
 use borrow.Author.Tests.{eq-eqb, ne_eqb}
 use Rattle.parser.specs.Row.{tokens_in, ended, peek}
 use Rattle.parser.specs.Views.{is_kind, is_choice, is_state, is_symbol, is_write}
@@ -186,4 +185,15 @@ module _ (w : List ℕ) (i v : ℕ) (inv : line_end (tokens_in w) i ≡ v) (t : 
     pub end_fits : length w < 2 ^ 64 → Fits w64 (i + 1)
     end_fits g = next_fits w i end-inside g
 
-pub ruleset ends = (rules, end_here, end_on, end_falls, end_fits)
+-- the same, said of the row
+module _ (w : List ℕ) (i : ℕ) where
+  pub line_here : (peek (tokens_in w) i).kind ≡ 13 → i ≡ line_end (tokens_in w) i
+  line_here f = end_here w i (line_end (tokens_in w) i) refl (peek (tokens_in w) i) refl f
+
+  pub line_on : ((peek (tokens_in w) i).kind ≡ 13 → ⊥) → line_end (tokens_in w) (i + 1) ≡ line_end (tokens_in w) i
+  line_on f = end_on w i (line_end (tokens_in w) i) refl (peek (tokens_in w) i) refl f
+
+  pub line_fits : ((peek (tokens_in w) i).kind ≡ 13 → ⊥) → length w < 2 ^ 64 → Fits w64 (i + 1)
+  line_fits f g = end_fits w i (line_end (tokens_in w) i) refl (peek (tokens_in w) i) refl f g
+
+pub ruleset ends = (line_here, line_on, line_fits)

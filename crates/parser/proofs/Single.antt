@@ -58,3 +58,10 @@ module _ (w : List ℕ) (i : ℕ) (t : Token) (at : t ≡ peek (tokens_in w) i) 
   pub sign_fits : (k : ℕ) → t.kind ≡ k → k < 13 → length w < 2 ^ 64 → Fits w64 (i + 1)
   unfolding is_kind
   sign_fits k e h g = one_fits (is_kind k) true (sym (eq-eqb t.kind k e)) (kind-ended k h) refl g
+
+-- a token of a kind below a line feed's has a next one
+pub before_feed : (w : List ℕ) (i : ℕ) → (peek (tokens_in w) i).kind < 13 → length w < 2 ^ 64 → Fits w64 (i + 1)
+before_feed w i h g = sign_fits w i (peek (tokens_in w) i) refl (peek (tokens_in w) i).kind refl h g
+
+-- the tokens of a row are fewer than its words
+pub ruleset few = (length-tokens)

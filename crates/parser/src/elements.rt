@@ -8,7 +8,7 @@ ghost use Rattle.parser.specs.Calls.{Tells, Reads, ReadsEntries};
 use crate::row::Row;
 use crate::{Failure, Parsed, view};
 use diag::Code;
-use lexer::kind;
+use lexer::{keyword, kind};
 use tokens::{Token, span_of};
 
 // E002 for an unterminated string, E001 for any other token that is not what is due.
@@ -110,7 +110,7 @@ impl Row<'_> {
 
     // Behind an entry: a comma, and 1 for more to come; or the closing sign, and 0.
     // A count and no `bool`, so that it is a parser as the others are and their laws hold of it.
-    #[tactic(auto, unfolding(crate::specs::Lines::separator))]
+    #[tactic(auto, using(crate::proofs::Single::before_feed), unfolding(crate::specs::Lines::separator))]
     fn separator(self, at: usize, close: u32) -> Parsed<usize>
         requires { close < 13 }
         ensures { result ≡ separator close (tokens_in self.entry.words.now) at }
@@ -196,7 +196,7 @@ impl Row<'_> {
     }
 
     // What a rule reads on one tape: a symbol, or a set that is not empty.
-    #[tactic(auto, using(crate::proofs::Single::sign_fits), unfolding(crate::specs::Lines::then, crate::specs::Lines::read_entry))]
+    #[tactic(auto, using(crate::proofs::Single::before_feed), unfolding(crate::specs::Lines::then, crate::specs::Lines::read_entry))]
     fn read_entry(self, at: usize) -> Parsed<usize>
         ensures { result ≡ read_entry (tokens_in self.entry.words.now) at }
     {
@@ -208,7 +208,7 @@ impl Row<'_> {
     }
 
     // A set, which may be empty; `list` reads its entries, and `}`.
-    #[tactic(auto, using(crate::proofs::Single::sign_fits), unfolding(crate::specs::Lines::then, crate::specs::Lines::set))]
+    #[tactic(auto, using(crate::proofs::Single::before_feed), unfolding(crate::specs::Lines::then, crate::specs::Lines::set))]
     fn set<F: Fn(usize) -> Parsed<usize>>(self, at: usize, list: F) -> Parsed<usize>
         requires callable { F.IsAlwaysCallable list }
         ensures { (p : Parser) → Reads (F.post list) (λ i. entries p 7 (tokens_in self.entry.words.now) i 0)
@@ -236,7 +236,7 @@ impl Row<'_> {
     }
 
     // One entry, or one for each tape in parentheses.
-    #[tactic(auto, using(crate::proofs::Single::sign_fits), unfolding(crate::specs::Lines::tuple))]
+    #[tactic(auto, using(crate::proofs::Single::before_feed), unfolding(crate::specs::Lines::tuple))]
     fn tuple<F: Fn(usize) -> Parsed<usize>>(self, at: usize, entry: F) -> Parsed<usize>
         requires callable { F.IsAlwaysCallable entry }
         requires reads { (p : Parser) × ReadsEntries (F.post entry) p (tokens_in self.words.now) }
@@ -276,10 +276,10 @@ impl Row<'_> {
     pub(crate) fn output(self, at: usize) -> Parsed<usize>
         ensures { result ≡ output (tokens_in self.entry.words.now) at }
     {
-        let (next, _) = self.choice(at, 0x11_0014, 0x11_0016)?;
+        let (next, _) = self.choice(at, keyword::WORD, keyword::BINARY)?;
         match self.token(at).value {
-            0x11_0015 => self.symbol(next),
-            0x11_0016 => self.choice(next, 0x11_0017, 0x11_0018),
+            keyword::UNARY => self.symbol(next),
+            keyword::BINARY => self.choice(next, keyword::LSB, keyword::MSB),
             _ => Ok((next, 1)),
         }
     }

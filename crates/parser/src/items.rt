@@ -6,7 +6,7 @@ ghost use Rattle.parser.specs.Lines.{side, equals, left_parts, left, right, tran
 use crate::row::Row;
 use crate::{Failure, Item, ItemKind, Lead, Line, Parsed, Parts, elements, view};
 use diag::Span;
-use lexer::kind;
+use lexer::{keyword, kind};
 
 // A value without parts.
 #[tactic(auto, unfolding(crate::specs::Lines::then, crate::specs::Lines::plain))]
@@ -92,7 +92,7 @@ impl Row<'_> {
     {
         match kind {
             ItemKind::Machine | ItemKind::Input => plain(self.expect(at, kind::STR)),
-            ItemKind::Kind => plain(self.choice(at, 0x11_0010, 0x11_0013)),
+            ItemKind::Kind => plain(self.choice(at, keyword::ACCEPTOR, keyword::BEAVER)),
             ItemKind::Output => plain(self.output(at)),
             ItemKind::Tapes => plain(self.expect(at, kind::NUMBER)),
             ItemKind::States | ItemKind::Final => plain(self.state_set(at)),
@@ -115,7 +115,7 @@ impl Row<'_> {
     }
 
     // The index of what ends the line behind an item, a comment passed over.
-    #[tactic(auto, unfolding(crate::specs::Lines::newline_at))]
+    #[tactic(auto, using(crate::proofs::Single::before_feed), unfolding(crate::specs::Lines::newline_at))]
     fn newline_at(self, at: usize) -> usize
         ensures { result ≡ newline_at (tokens_in self.entry.words.now) at }
     {
@@ -156,7 +156,7 @@ impl Row<'_> {
     }
 
     // Where the value of an item begins.
-    #[tactic(auto, unfolding(crate::specs::Lines::value_at))]
+    #[tactic(auto, using(crate::proofs::Single::few), unfolding(crate::specs::Lines::value_at))]
     fn value_at(self, at: usize, lead: Lead) -> Parsed<usize>
         requires { at < length (tokens_in self.words.now) }
         ensures { result ≡ value_at lead (tokens_in self.entry.words.now) at }
@@ -192,7 +192,7 @@ impl Row<'_> {
     }
 
     // A comment with nothing behind it.
-    #[tactic(auto, unfolding(crate::specs::Lines::is_comment))]
+    #[tactic(auto, using(crate::proofs::Single::before_feed), unfolding(crate::specs::Lines::is_comment))]
     fn is_comment(self, at: usize) -> bool
         ensures { result ≡ is_comment (tokens_in self.entry.words.now) at }
     {
@@ -216,6 +216,7 @@ pub fn line(work: &[u32], at: usize) -> Result<Line, Failure>
 }
 
 // The index of the line feed that ends the line; the next line begins behind it.
+#[tactic(auto, using(crate::proofs::Rules::ends))]
 pub fn line_end(work: &[u32], at: usize) -> usize
     ensures { result ≡ line_end (tokens_in work.now) at }
 {

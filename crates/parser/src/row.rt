@@ -2,7 +2,6 @@
 ghost use Rattle.std.specs.Prelude.{◌≡◌};
 ghost use Rattle.parser.specs.Row.{tokens_in, peek};
 
-use lexer::kind;
 use tokens::Token;
 
 // A row of words, four for each token; the parsers are its functions. Their number is not beside it, as in `Tokens`: a line is read to the end of its row.
@@ -19,11 +18,6 @@ impl Row<'_> {
         if at < self.words.len() / 4 {
             return tokens::token_at(self.words, at);
         }
-        Token {
-            kind: kind::NEWLINE,
-            start: 0,
-            end: 0,
-            value: 0,
-        }
+        Token::FEED
     }
 }

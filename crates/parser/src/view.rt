@@ -3,7 +3,7 @@ ghost use Rattle.std.specs.Prelude.{◌≡◌};
 ghost use Rattle.parser.specs.Views.{is_kind, is_choice, is_state, is_symbol, is_write, is_move, is_direction, is_text, keyword_of, lead_of};
 
 use crate::{ItemKind, Lead};
-use lexer::kind;
+use lexer::{keyword, kind};
 use tokens::Token;
 
 // A token of a kind.
@@ -27,7 +27,7 @@ pub(crate) fn is_choice(t: Token, first: u32, last: u32) -> bool
 pub fn is_state(t: Token) -> bool
     ensures { result ≡ is_state t }
 {
-    t.kind == kind::WORD && t.value != 0x5F
+    t.kind == kind::WORD && t.value != '_' as u32
 }
 
 // A word or a number of one character, a quoted character, or another sign but `;`.
@@ -38,12 +38,12 @@ pub fn is_symbol(t: Token) -> bool
     // One comparison leaves three kinds: one match of all four is 8 in a hundred slower where a text is a list of symbols.
     if t.kind < kind::STR {
         return match t.kind {
-            kind::WORD => t.value < 0x11_0000,
+            kind::WORD => t.value < keyword::LONGER,
             kind::NUMBER => u64::from(t.start) + 1 == u64::from(t.end),
             _ => true,
         };
     }
-    t.kind == kind::OTHER && t.value != 0x3B
+    t.kind == kind::OTHER && t.value != ';' as u32
 }
 
 // A symbol, or `*` for the symbol read.
@@ -59,7 +59,7 @@ pub(crate) fn is_write(t: Token) -> bool
 pub(crate) fn is_move(c: u32) -> bool
     ensures { result ≡ is_move c }
 {
-    matches!(c, 0x4C | 0x52 | 0x4E)
+    c == 'L' as u32 || c == 'R' as u32 || c == 'N' as u32
 }
 
 // L, R or N, as a word or quoted.
@@ -78,8 +78,7 @@ pub(crate) fn is_text(t: Token) -> bool
     t.kind < kind::STR || matches!(t.kind, kind::STAR | kind::OTHER)
 }
 
-// The item that a word starts: by its code if it is one character, else by its number among the keywords. Here and where choices are read these stay
-// numbers, since they are words of tokens, which C lends.
+// The item that a word starts.
 #[tactic(auto, unfolding(crate::specs::Views::keyword_of, crate::specs::Views::lookup))]
 pub(crate) fn keyword(t: Token) -> Option<ItemKind>
     ensures { result ≡ keyword_of t }
@@ -88,18 +87,18 @@ pub(crate) fn keyword(t: Token) -> Option<ItemKind>
         return None;
     }
     match t.value {
-        0x11_0001 => Some(ItemKind::Machine),
-        0x11_0002 => Some(ItemKind::Kind),
-        0x11_0003 => Some(ItemKind::Input),
-        0x11_0004 => Some(ItemKind::Output),
-        0x11_0005 => Some(ItemKind::Tapes),
-        0x51 => Some(ItemKind::States),
-        0x3A3 | 0x11_0008 => Some(ItemKind::InputAlphabet),
-        0x393 | 0x11_000A => Some(ItemKind::TapeAlphabet),
-        0x11_000B => Some(ItemKind::Blank),
-        0x11_000C => Some(ItemKind::Start),
-        0x46 => Some(ItemKind::Final),
-        0x3B4 | 0x11_000F => Some(ItemKind::Transition),
+        keyword::MACHINE => Some(ItemKind::Machine),
+        keyword::KIND => Some(ItemKind::Kind),
+        keyword::INPUT => Some(ItemKind::Input),
+        keyword::OUTPUT => Some(ItemKind::Output),
+        keyword::TAPES => Some(ItemKind::Tapes),
+        keyword::Q => Some(ItemKind::States),
+        keyword::SIGMA_SIGN | keyword::SIGMA => Some(ItemKind::InputAlphabet),
+        keyword::GAMMA_SIGN | keyword::GAMMA => Some(ItemKind::TapeAlphabet),
+        keyword::BLANK => Some(ItemKind::Blank),
+        keyword::START => Some(ItemKind::Start),
+        keyword::F => Some(ItemKind::Final),
+        keyword::DELTA_SIGN | keyword::DELTA => Some(ItemKind::Transition),
         _ => None,
     }
 }

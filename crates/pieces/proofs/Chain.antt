@@ -1,9 +1,11 @@
 -- Pieces one after the other: what one leaves, the next goes on from.
 use mathlib.Core.Path.{◌≡◌, refl, sym, ap, ◌∙◌}
-use Prim.Native.Nat.{ℕ}
+use Prim.Native.Nat.{ℕ, ◌<◌}
 use Prim.Native.String as S
-use mathlib.Core.List.{List, [], ◌++◌}
-use Rattle.chars.specs.Utf8.{encode}
+use mathlib.Core.List.{List, [], ◌∷◌, ◌++◌}
+use borrow.Author.Tests.{lt-ltb}
+use Rattle.chars.specs.Utf8.{encode_one, encode}
+use Rattle.chars.proofs.Theorems.{encode-append}
 use Rattle.language.specs.Plain.{Piece, nothing, say, ◌⨾◌}
 use Rattle.emit.specs.Output.{appended}
 use Rattle.emit.specs.declared.Output.{Output}
@@ -14,6 +16,19 @@ use Rattle.pieces.specs.Writes.{Writes}
 -- what follows bytes that were appended goes behind them
 pub added : (bytes : List ℕ) (o r : Output) → Appends bytes o r → (rest : List ℕ) → appended (held r) rest ≡ appended (held o) (bytes ++ rest)
 added bytes o r a rest = ap (λ x. appended x rest) a.appends ∙ appended-append (held o) a.short bytes rest
+
+-- a character is its bytes
+pub encode_next : (c : ℕ) (rest : List ℕ) → encode (c ∷ rest) ≡ encode_one c ++ encode rest
+unfolding encode
+encode_next c rest = refl
+
+-- in ASCII it is its own byte
+pub ascii : (c : ℕ) (rest : List ℕ) → c < 0x80 → encode (c ∷ rest) ≡ c ∷ encode rest
+unfolding encode encode_one
+ascii c rest h = rw (lt-ltb c 0x80 h)
+
+-- bytes behind bytes, and text behind text
+pub ruleset chain = (appended-append, encode-append, ascii)
 
 -- a piece whose bytes are known
 pub known : {p : Piece} (bytes : List ℕ) {o r : Output} → ((rest : List ℕ) → encode (p rest) ≡ bytes ++ encode rest) → Appends bytes o r → Writes p o r

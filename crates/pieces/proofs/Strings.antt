@@ -7,51 +7,23 @@ use mathlib.Core.Option.{Option, none, some}
 use mathlib.Core.List.{List, [], ◌∷◌, ◌++◌}
 use lib.Dec.{eqb}
 use lib.ListN.{length, drop}
-use borrow.Author.Tests.{eqb-true, ne_eqb}
-use Rattle.chars.specs.Utf8.{encode, decode, front, decoded_at}
+use borrow.Author.Tests.{eqb-true}
+use Rattle.chars.specs.Utf8.{decode, front, decoded_at}
 use Rattle.std.specs.Prelude as P
 use Rattle.std.specs.Prelude.{Some, None}
 use Rattle.chars.proofs.Laws.{char_decode, none_decode}
 use Rattle.lexer.specs.Tokens.{escape, Inner, ends, breaks, escapes, stands, inner_of, Inside, closed, unclosed, put, pass, inside, unescape}
-use Rattle.language.specs.Plain.{Piece, say, escaped, in_string, escaped_text}
+use Rattle.language.specs.Plain.{Piece, escaped, in_string, escaped_text}
 use Rattle.language.proofs.Every.{by_test}
 use Rattle.emit.specs.declared.Output.{Output}
-use Rattle.emit.specs.Appends.{Appends}
 use Rattle.pieces.specs.Writes.{Writes}
 use Rattle.pieces.specs.Strings.{is_escape, rewritten, Whole}
-use Rattle.pieces.proofs.Chain.{known, same, ◌▹◌, Goes, goes_start, goes_on, goes_end}
-use Rattle.pieces.proofs.Chain as C
-
--- ---- one character, escaped
-
-module _ (c : ℕ) (o r : Output) where
-  pub in_quote : c ≡ 0x22 → Appends (0x5C ∷ 0x22 ∷ []) o r → Writes (in_string (escaped c) c) o r
-  unfolding encode in_string escaped
-  in_quote e a = rw e (known (0x5C ∷ 0x22 ∷ []) (λ rest. refl) a)
-
-  pub in_slash : c ≡ 0x5C → Appends (0x5C ∷ 0x5C ∷ []) o r → Writes (in_string (escaped c) c) o r
-  unfolding encode in_string escaped
-  in_slash e a = rw e (known (0x5C ∷ 0x5C ∷ []) (λ rest. refl) a)
-
-  pub in_feed : c ≡ 10 → Appends (0x5C ∷ 0x6E ∷ []) o r → Writes (in_string (escaped c) c) o r
-  unfolding encode in_string escaped
-  in_feed e a = rw e (known (0x5C ∷ 0x6E ∷ []) (λ rest. refl) a)
-
-  pub in_tab : c ≡ 9 → Appends (0x5C ∷ 0x74 ∷ []) o r → Writes (in_string (escaped c) c) o r
-  unfolding encode in_string escaped
-  in_tab e a = rw e (known (0x5C ∷ 0x74 ∷ []) (λ rest. refl) a)
-
-  -- any other stands for itself
-  pub in_plain : (c ≡ 0x22 → ⊥) → (c ≡ 0x5C → ⊥) → (c ≡ 10 → ⊥) → (c ≡ 9 → ⊥) → Writes (λ rest. c ∷ rest) o r → Writes (in_string (escaped c) c) o r
-  unfolding in_string escaped
-  in_plain h k l m w =
-      let e : escaped c ≡ none = rw (ne_eqb c 0x22 h, escaped) (rw (ne_eqb c 0x5C k, ne_eqb c 10 l, ne_eqb c 9 m)) in
-      same (λ rest. ap (λ x. in_string x c rest) e) w
+use Rattle.pieces.proofs.Chain.{Goes, goes_start, goes_on, goes_end}
 
 -- ---- escapes
 
 -- an escape as it is written again
-escape-written : (c : ℕ) → is_escape c ≡ true → (rest : List ℕ) → rewritten true c rest ≡ 0x5C ∷ c ∷ rest
+pub escape-written : (c : ℕ) → is_escape c ≡ true → (rest : List ℕ) → rewritten true c rest ≡ 0x5C ∷ c ∷ rest
 unfolding is_escape rewritten
 escape-written c h rest =
     by_test (eqb c 0x22) (λ e. rw (eqb-true c 0x22 e))
@@ -63,7 +35,7 @@ escape-written c h rest =
     absurd (false≢true (sym (ap (λ (x : Option ℕ). elim x [ some v ↦ true | none ↦ false ]) p) ∙ h))
 
 -- a backslash that stands for itself, and the character behind it
-other-written : (c : ℕ) → is_escape c ≡ false → (rest : List ℕ) → rewritten true c rest ≡ 0x5C ∷ 0x5C ∷ in_string (escaped c) c rest
+pub other-written : (c : ℕ) → is_escape c ≡ false → (rest : List ℕ) → rewritten true c rest ≡ 0x5C ∷ 0x5C ∷ in_string (escaped c) c rest
 unfolding is_escape rewritten
 other-written c h rest = go (escape c) refl
   where
@@ -71,28 +43,7 @@ other-written c h rest = go (escape c) refl
     go none e = rw (e, rewritten)
     go (some v) e = absurd (false≢true (sym (sym (ap (λ (x : Option ℕ). elim x [ some v ↦ true | none ↦ false ]) e) ∙ h)))
 
-module _ (c : ℕ) (o a r : Output) (w : Appends (0x5C ∷ []) o a) (t : Bool) (q : t ≡ is_escape c) where
-  pub behind-escape : t ≡ true → Writes (λ rest. c ∷ rest) a r → Writes (rewritten true c) o r
-  unfolding encode
-  behind-escape e u = same (escape-written c (sym q ∙ e)) (known {p = say "\\"} (0x5C ∷ []) (λ rest. refl) w ▹ u)
-
-  pub behind-other : (b : Output) → t ≡ false → Appends (0x5C ∷ []) a b → Writes (in_string (escaped c) c) b r → Writes (rewritten true c) o r
-  unfolding encode
-  behind-other b e v u =
-      same (other-written c (sym q ∙ e)) (known {p = say "\\"} (0x5C ∷ []) (λ rest. refl) w ▹ known {p = say "\\"} (0x5C ∷ []) (λ rest. refl) v ▹ u)
-
--- ---- behind a backslash or not
-
-pub rewritten-behind : (s : Bool) (c : ℕ) (o r : Output) → s ≡ true → Writes (rewritten true c) o r → Writes (rewritten s c) o r
-rewritten-behind s c o r e w = rw e w
-
-pub rewritten-waits : (s : Bool) (c : ℕ) (o : Output) → s ≡ false → c ≡ 0x5C → Writes (rewritten s c) o o
-unfolding rewritten
-rewritten-waits s c o e h = rw (e, h) (C.none o)
-
-pub rewritten-plain : (s : Bool) (c : ℕ) (o r : Output) → s ≡ false → (c ≡ 0x5C → ⊥) → Writes (in_string (escaped c) c) o r → Writes (rewritten s c) o r
-unfolding rewritten
-rewritten-plain s c o r e h w = rw e (same (λ rest. rw (ne_eqb c 0x5C h)) w)
+pub ruleset slashes = (escape-written, other-written)
 
 -- a backslash waits unless it stands behind one that waits
 pub waits_then : (s b : Bool) → not s ≡ true → b ≡ (not s && b)

@@ -14,6 +14,7 @@ ghost use Rattle.pieces.specs.Strings.{is_escape, rewritten, Whole};
 use emit::Output;
 
 // A character.
+#[tactic(auto, using(crate::proofs::Chain::chain, crate::proofs::Chain::encode_next, crate::proofs::Characters::scalar_below))]
 pub fn character(out: &mut Output, c: u32)
     requires { scalar c ≡ true }
     ensures { Writes (λ rest. c ∷ rest) out.old out.new }
@@ -22,6 +23,7 @@ pub fn character(out: &mut Output, c: u32)
 }
 
 // A symbol, which is always quoted.
+#[tactic(auto, using(crate::proofs::Chain::chain))]
 pub fn symbol(out: &mut Output, c: u32)
     requires { scalar c ≡ true }
     ensures { Writes (symbol c) out.old out.new }
@@ -32,6 +34,7 @@ pub fn symbol(out: &mut Output, c: u32)
 }
 
 // A comma before every member of a list but the first.
+#[tactic(auto, using(crate::proofs::Chain::chain))]
 pub fn comma(out: &mut Output, i: usize)
     ensures { Writes (only (ltb 0 i) (say ", ")) out.old out.new }
 {
@@ -41,6 +44,7 @@ pub fn comma(out: &mut Output, i: usize)
 }
 
 // A character of a string, escaped where it has to be.
+#[tactic(auto, using(crate::proofs::Chain::chain), unfolding(language::specs::Plain::in_string, language::specs::Plain::escaped))]
 fn in_string(out: &mut Output, c: u32)
     requires { scalar c ≡ true }
     ensures { Writes (in_string (escaped c) c) out.old out.new }
@@ -63,6 +67,7 @@ fn is_escape(c: u32) -> bool
 }
 
 // A character behind a backslash: an escape is written as it stands, else the backslash is a character of its own.
+#[tactic(auto, using(crate::proofs::Chain::chain, crate::proofs::Strings::slashes))]
 fn behind_slash(out: &mut Output, c: u32)
     requires { scalar c ≡ true }
     ensures { Writes (rewritten true c) out.old out.new }
@@ -76,6 +81,7 @@ fn behind_slash(out: &mut Output, c: u32)
 }
 
 // A character between the quotes as it is written again. A backslash waits for the character behind it.
+#[tactic(auto, using(crate::proofs::Chain::chain), unfolding(crate::specs::Strings::rewritten))]
 fn rewritten(out: &mut Output, slash: bool, c: u32)
     requires { scalar c ≡ true }
     ensures { Writes (rewritten slash c) out.old out.new }

@@ -15,6 +15,7 @@ impl Position {
     ghost use Rattle.positions.specs.Positions.{next};
 
     // The position behind a byte.
+    #[tactic(auto, using(std::proofs::Common::tests), unfolding(crate::specs::Positions::next))]
     fn next(self, b: u8) -> Self
         requires { (self.line < usize.MAX) × (self.column < usize.MAX) }
         ensures { result ≡ next self b }

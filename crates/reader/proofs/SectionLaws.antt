@@ -48,6 +48,13 @@ pub record Ordered (a₁ a₂ a₃ a₄ a₅ a₆ : ℕ) : Type 0 where
   pub header : (a₄ ≤ a₅) × (a₅ < 2 ^ 32)
   pub trailing : (a₅ ≤ a₆) × (a₆ < 2 ^ 32)
 
+-- what the sections leave in the sheet when they end at the indices a₁ to a₆, and how many members they then have
+pub record Stored (s : Source) (row : List ℕ) (b : ℕ) (s₀ s₆ : Sheet) (a₁ a₂ a₃ a₄ a₅ a₆ : ℕ) : Type 0 where
+  pub written : Puts (joined (sections_in s b row)) s₀ s₆
+  pub ends : Ordered a₁ a₂ a₃ a₄ a₅ a₆
+  pub counts : (m₁ m₂ m₃ m₄ m₅ m₆ n : ℕ) → m₁ ≡ (a₁ - 0) / 3 → m₂ ≡ (a₂ - a₁) / 3 → m₃ ≡ (a₃ - a₂) / 3 → m₄ ≡ (a₄ - a₃) / 2 → m₅ ≡ (a₅ - a₄) / 2 → m₆ ≡ (a₆ - a₅) / 2 → n ≡ s.assembled.now.rules
+      → ◌≡◌ {A = Counts} (record { states = m₁; sigma = m₂; gamma = m₃; finals = m₄; header = m₅; trailing = m₆; rules = n }) (counts_of (sections_in s b row) s.assembled.now.rules)
+
 module _ (s : Source) (row : List ℕ) (p : Parted s row) where
   abbrev text : List ℕ
   text = s.text.now
@@ -222,7 +229,7 @@ module _ (s : Source) (row : List ℕ) (p : Parted s row) where
       unfolding sections_of
       v₆ = u₆
 
-      pub sections-written : Puts (joined (sections_in s b row)) s₀ s₆
+      sections-written : Puts (joined (sections_in s b row)) s₀ s₆
       sections-written = v₁ ▹ v₂ ▹ v₃ ▹ v₄ ▹ v₅ ▹ v₆
 
       -- ---- where each ends
@@ -248,7 +255,7 @@ module _ (s : Source) (row : List ℕ) (p : Parted s row) where
       at₆ = put_at x.trailing s₅ s₆ (omega (arith, at₁, at₂, at₃, at₄, at₅, low, joined_length)) v₆
 
       module _ (a₁ a₂ a₃ a₄ a₅ a₆ : ℕ) (b₁ : a₁ ≡ (held s₁).at) (b₂ : a₂ ≡ (held s₂).at) (b₃ : a₃ ≡ (held s₃).at) (b₄ : a₄ ≡ (held s₄).at) (b₅ : a₅ ≡ (held s₅).at) (b₆ : a₆ ≡ (held s₆).at) where
-        pub ordered : Ordered a₁ a₂ a₃ a₄ a₅ a₆
+        ordered : Ordered a₁ a₂ a₃ a₄ a₅ a₆
         ordered =
             let e₁ : a₁ ≡ length x.states = omega (arith, b₁, at₁) in
             let e₂ : a₂ ≡ a₁ + length x.sigma = omega (arith, b₁, b₂, at₂) in
@@ -266,7 +273,7 @@ module _ (s : Source) (row : List ℕ) (p : Parted s row) where
             }
 
         -- how many members each has
-        pub counts_are : (m₁ m₂ m₃ m₄ m₅ m₆ n : ℕ) → m₁ ≡ (a₁ - 0) / 3 → m₂ ≡ (a₂ - a₁) / 3 → m₃ ≡ (a₃ - a₂) / 3 → m₄ ≡ (a₄ - a₃) / 2 → m₅ ≡ (a₅ - a₄) / 2 → m₆ ≡ (a₆ - a₅) / 2 → n ≡ s.assembled.now.rules
+        counts_are : (m₁ m₂ m₃ m₄ m₅ m₆ n : ℕ) → m₁ ≡ (a₁ - 0) / 3 → m₂ ≡ (a₂ - a₁) / 3 → m₃ ≡ (a₃ - a₂) / 3 → m₄ ≡ (a₄ - a₃) / 2 → m₅ ≡ (a₅ - a₄) / 2 → m₆ ≡ (a₆ - a₅) / 2 → n ≡ s.assembled.now.rules
             → ◌≡◌ {A = Counts} (record { states = m₁; sigma = m₂; gamma = m₃; finals = m₄; header = m₅; trailing = m₆; rules = n }) (counts_of (sections_in s b row) s.assembled.now.rules)
         counts_are m₁ m₂ m₃ m₄ m₅ m₆ n e₁ e₂ e₃ e₄ e₅ e₆ q =
             let c₁ : m₁ ≡ length x.states / 3 = omega (arith, e₁, b₁, at₁) in
@@ -276,3 +283,6 @@ module _ (s : Source) (row : List ℕ) (p : Parted s row) where
             let c₅ : m₅ ≡ length x.header / 2 = omega (arith, e₅, b₄, b₅, at₅) in
             let c₆ : m₆ ≡ length x.trailing / 2 = omega (arith, e₆, b₅, b₆, at₆) in
             λ j. record { states = c₁ j; sigma = c₂ j; gamma = c₃ j; finals = c₄ j; header = c₅ j; trailing = c₆ j; rules = q j }
+
+        pub stored : Stored s row b s₀ s₆ a₁ a₂ a₃ a₄ a₅ a₆
+        stored = record { written = sections-written; ends = ordered; counts = counts_are }

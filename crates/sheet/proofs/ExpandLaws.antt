@@ -124,13 +124,13 @@ entries_are ts line i q e f = rw (e, f)
 
 -- what writing its rules asks for
 module _ (ts : List Token) (line n count : ℕ) (r : Rule) (is_rule : r ≡ rule_at ts line n) (few : n ≤ count) where
-  pub line_placed : r.write ≤ 2 ^ 32 → r.dir ≤ 2 ^ 32 → line < count → 9 * count + 11 < 2 ^ 32 → Placed count r
+  pub line_fits : r.write ≤ 2 ^ 32 → r.dir ≤ 2 ^ 32 → line < count → 9 * count + 11 < 2 ^ 32
+      → (Placed count r) × ((l : List ℕ) → count ≤ length l → length (take n l) ≡ r.tapes)
   unfolding rule_at
-  line_placed w d h s = record { line = rw is_rule h; few = rw is_rule few; small = s; write = w; dir = d }
-
-  pub line_tapes : (l : List ℕ) → count ≤ length l → length (take n l) ≡ r.tapes
-  unfolding rule_at
-  line_tapes l h = length-take-le n l (omega arith) ∙ sym (ap (λ (r : Rule). r.tapes) is_rule)
+  line_fits w d h s = (
+    record { line = rw is_rule h; few = rw is_rule few; small = s; write = w; dir = d },
+    λ l room. length-take-le n l (omega arith) ∙ sym (ap (λ (r : Rule). r.tapes) is_rule),
+  )
 
 -- a line's words: its first rule, and those of the choices behind
 module _ (ts : List Token) (line n count : ℕ) (entries members : List ℕ) (e : take n entries ≡ entries_read ts line) (few : n ≤ count) (room : count ≤ length entries) where

@@ -19,6 +19,9 @@ unfolding put
 put-append h [] b = refl
 put-append h (x ∷ a) b = put-append (record { row = set h.row h.at x; at = min (h.at + 1) 18446744073709551615 }) a b
 
+-- words behind words
+pub ruleset chain = (put-append)
+
 -- ---- nothing, and words by one call before those by the next
 pub puts_none : (s : Sheet) → Puts [] s s
 unfolding put
@@ -31,13 +34,6 @@ pub ◌▹◌ : {a b : List ℕ} {s p r : Sheet} → Puts a s p → Puts b p r �
 -- the same words
 pub puts_as : {a b : List ℕ} {s r : Sheet} → b ≡ a → Puts a s r → Puts b s r
 puts_as e u = rw e u
-
--- ---- a place, and a character with its place
-pub place_put : (x y : ℕ) (s p r : Sheet) → Puts (x ∷ []) s p → Puts (y ∷ []) p r → Puts (x ∷ y ∷ []) s r
-place_put x y s p r u v = u ▹ v
-
-pub symbol_put : (x y z : ℕ) (s p r : Sheet) → Puts (x ∷ []) s p → Puts (y ∷ z ∷ []) p r → Puts (x ∷ y ∷ z ∷ []) s r
-symbol_put x y z s p r u v = u ▹ v
 
 -- ---- what is still to be stored: with it, all that was to be stored from the first sheet on
 pub record Left (rest : List ℕ) (now : Sheet) (all : List ℕ) (first : Sheet) : Type 0 where

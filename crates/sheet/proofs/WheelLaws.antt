@@ -83,10 +83,6 @@ pub record Filling (ts : List Token) (count at n : ℕ) (entries members : List 
   pub low : t ≤ i
   pub few : t ≤ count
 
-pub filling_start : (ts : List Token) (count at n : ℕ) (entries members : List ℕ) → Filling ts count at n entries members at 0
-filling_start ts count at n entries members =
-    let e : n ≡ n - 0 = omega arith in record { whole = ap (λ (k : ℕ). entries_of ts k at) e; first = refl; low = omega arith; few = omega arith }
-
 next-after : (ts : List Token) (e : ℕ) → e + 1 ≤ next_entry ts e
 unfolding next_entry
 next-after ts e = go (eqb (peek ts e).kind 6)
@@ -127,11 +123,10 @@ module _ (ts : List Token) (count at n : ℕ) (entries members : List ℕ) (i t 
         go (inl h) (suc k) e = absurd (omega arith)
         go (inr h) (suc k) e = rw (le-ltb i (length ts) (omega (arith, many)), entries_of)
 
-    pub filled : take t entries ≡ entries_of ts n at
-    filled = sym (g.whole ∙ ap (λ (l : List ℕ). take t entries ++ l) no_more ∙ append-nil (take t entries))
-
-    pub filled_first : take t members ≡ map (first_member ts) (entries_of ts n at)
-    filled_first = g.first ∙ ap (map (first_member ts)) filled
+    pub filled : (take t entries ≡ entries_of ts n at) × (take t members ≡ map (first_member ts) (entries_of ts n at))
+    filled =
+        let e : take t entries ≡ entries_of ts n at = sym (g.whole ∙ ap (λ (l : List ℕ). take t entries ++ l) no_more ∙ append-nil (take t entries)) in
+        (e, g.first ∙ ap (map (first_member ts)) e)
 
 -- ---- the wheels turned from the last: those from the wheel t on have started again
 pub record Turning (ts : List Token) (es cs₀ cs : List ℕ) (t : ℕ) : Type 0 where

@@ -15,11 +15,7 @@ use crate::put::Sheet;
 use assembler::{entry, seek};
 use diag::Span;
 use lexer::kind;
-use parser::ItemKind;
 use tokens::{Token, Tokens};
-
-// The kind of a rule's entry.
-pub const RULE: u32 = entry::ITEM + ItemKind::Transition as u32;
 
 // The comments that wait for an item: where they begin, and where the block that goes on begins. `from` is none as long as no item or failed line came, and they
 // then begin with the row.
@@ -126,10 +122,10 @@ fn header_of(sheet: &mut Sheet, tokens: &Tokens, p: Pending, i: usize, t: Token)
     if t.kind < entry::ITEM {
         return;
     }
-    if t.kind < RULE {
+    if t.kind < entry::RULE {
         return declared(sheet, tokens, p.from.unwrap_or(0), i, t.value as usize);
     }
-    if t.kind == RULE && p.from.is_none() {
+    if t.kind == entry::RULE && p.from.is_none() {
         comments(sheet, tokens, 0, p.block);
     }
 }

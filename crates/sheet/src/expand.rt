@@ -11,7 +11,7 @@ ghost use Rattle.sheet.specs.Rules.{no_span, rule_words, Placed, expanded, rules
 use crate::comments::Pending;
 use crate::put::Sheet;
 use crate::rules::Rule;
-use crate::{comments, rules, wheels};
+use crate::{rules, wheels};
 use assembler::entry;
 use diag::Span;
 use tokens::Tokens;
@@ -85,7 +85,7 @@ pub fn rules(
     let mut i = 0;
     while i < tokens.count {
         let t = tokens.known(i);
-        if t.kind == comments::RULE {
+        if t.kind == entry::RULE {
             expand(sheet, tokens, blank, i, p.lead_from(), entries, members);
         }
         p = p.passed(t, i);

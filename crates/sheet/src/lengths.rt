@@ -5,7 +5,7 @@ ghost use Rattle.sheet.specs.Rules.{line_length};
 
 use crate::comments;
 use crate::comments::Pending;
-use assembler::sets;
+use assembler::{entry, sets};
 use tokens::{Token, Tokens};
 
 // Those of the line that begins with the token t at an index, if it is a rule's.
@@ -13,7 +13,7 @@ pub(crate) fn line_length(tokens: &Tokens, p: Pending, line: usize, t: Token) ->
     requires { (tokens.now.count < 2 ^ 32) × (line < tokens.now.count) }
     ensures { result ≡ line_length (tokens_of tokens.now) p line t }
 {
-    if t.kind != comments::RULE {
+    if t.kind != entry::RULE {
         return 0;
     }
     let arity = tokens.at(line + 1).start as usize;

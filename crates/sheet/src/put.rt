@@ -68,6 +68,7 @@ impl<'a> Sheet<'a> {
     }
 
     // A place.
+    #[tactic(auto, using(crate::proofs::Puts::chain), unfolding(crate::specs::Puts::put))]
     pub fn place(&mut self, p: Span)
         ensures { Puts (span_words p) self.old self.new }
     {
@@ -76,6 +77,7 @@ impl<'a> Sheet<'a> {
     }
 
     // A character and its place.
+    #[tactic(auto, using(crate::proofs::Puts::chain), unfolding(crate::specs::Puts::put))]
     pub fn symbol(&mut self, x: u32, p: Span)
         ensures { Puts (x ∷ span_words p) self.old self.new }
     {

@@ -25,7 +25,7 @@ use Rattle.parser.specs.declared.Item.{Item as Found}
 use Rattle.parser.specs.Row.{peek, ended}
 use Rattle.parser.specs.Views.{is_kind, is_state, is_symbol, is_write, is_direction, lead_of}
 use Rattle.parser.specs.Lines.{Answer, Empty, Comment, Read, one, direction, is_comment, line, newline_at}
-use Rattle.parser.specs.Meaning.{token_of, nothing, at, between, located, or_else, text_of, Sound, seen, read_sets, rule_of, item_means, comment_of, own_comment, line_means, AllLexed}
+use Rattle.parser.specs.Meaning.{token_of, at, between, located, or_else, text_of, Sound, seen, read_sets, rule_of, item_means, comment_of, own_comment, line_means, AllLexed}
 use Rattle.parser.proofs.Views.{is_some, sees_symbol, sees_write, sees_direction}
 use Rattle.language.specs.Machine.{Located}
 use Rattle.language.specs.Lines.{RawSymbol, raw_blank, RawTransition, Text, Item, machine_item, input_item, kind_item, output_item, tapes_item, states_item, final_item, input_alphabet_item, tape_alphabet_item, blank_item, start_item, transition_item, Line, blank_line, comment_line, item_line, error_line, state_in, symbol_in, write_in, direction_in}

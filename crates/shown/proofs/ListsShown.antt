@@ -18,7 +18,7 @@ use Rattle.lexer.proofs.Steps.{Good}
 use Rattle.tokens.specs.declared.Token.{Token}
 use Rattle.parser.specs.Row.{peek}
 use Rattle.parser.specs.Views.{is_direction, is_text}
-use Rattle.parser.specs.Lines.{Done, Failed, Parser, then, unexpected, one, direction, separator, entries_from, entries, tuple}
+use Rattle.parser.specs.Lines.{Done, Failed, Parser, then, unexpected, direction, separator, entries_from, entries, tuple}
 use Rattle.parser.specs.Meaning.{token_of, nothing, at, between, Sound, seen}
 use Rattle.parser.proofs.Views.{is_some}
 use Rattle.language.specs.Machine.{Located}

@@ -14,7 +14,7 @@ use Rattle.language.specs.Assembly as A
 use Rattle.language.specs.Layout as L
 use Rattle.assembler.specs.Rows.{place_of}
 use Rattle.sheet.specs.Comments.{span_words, text_words, between}
-use Rattle.sheet.specs.Rules.{no_span, resolve, written, move_of, first_entry, rule_at, sets_of, own_place, tape_words, tapes_words, places_words, head_words, rule_words, dressed, expanded}
+use Rattle.sheet.specs.Rules.{no_span, written, move_of, first_entry, rule_at, sets_of, own_place, tape_words, tapes_words, places_words, head_words, rule_words, dressed, expanded}
 use Rattle.shown.proofs.Shows.{Both, no_members, members, SymbolShows, WriteShows, MoveShows, every_second, RuleShows}
 use Rattle.sheet.proofs.CommentLaws.{length_texts}
 

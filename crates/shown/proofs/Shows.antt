@@ -4,7 +4,7 @@ use mathlib.Core.Path.{◌≡◌}
 use mathlib.Core.Bool.{Bool, true, false}
 use mathlib.Core.List.{List, [], ◌∷◌, map}
 use mathlib.Core.Option.{Option, none, some}
-use Prim.Native.Nat.{ℕ, suc, ◌+◌, ◌-◌, ◌*◌, ◌≤◌, ◌<◌}
+use Prim.Native.Nat.{ℕ, suc, ◌+◌, ◌-◌, ◌≤◌, ◌<◌}
 use lib.Dec.{eqb}
 use lib.ListN.{length, take, drop}
 use Rattle.diag.specs.declared.Span.{Span as Place}
@@ -28,7 +28,7 @@ use Rattle.assembler.specs.Finals.{names_of}
 use Rattle.assembler.proofs.Means.{number}
 use Rattle.assembler.proofs.FinalsMean.{NameIs, AllNames}
 use Rattle.assembler.proofs.EntriesMean.{Lines}
-use Rattle.sheet.specs.Comments.{span_words, text_words, between, next}
+use Rattle.sheet.specs.Comments.{span_words, text_words, between}
 use Rattle.sheet.specs.Rules.{resolve, written, move_of, first_entry, sets_of, own_place, read_tokens}
 
 -- two lists whose members correspond

@@ -23,7 +23,6 @@ use Rattle.assembler.specs.Entries.{entry_at, behind, entries}
 use Rattle.assembler.specs.Entered.{entered}
 use Rattle.assembler.proofs.Means.{Means, AllMean}
 use Rattle.assembler.proofs.EntriesMean.{Tokens, Lines, lines_end, lines-on, lines_mean, lines_from, line_means_lem}
-use Rattle.sheet.specs.Rules.{rules}
 use Rattle.shown.proofs.Shows.{Shows, Shown, Said}
 use Rattle.shown.proofs.BodyShown.{kept-all}
 use Rattle.shown.proofs.LineShown.{Expands, ExpandsItem, ExpandsLine, item-mentions, item_parsed, line_shows}

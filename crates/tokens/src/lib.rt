@@ -18,6 +18,16 @@ pub struct Token {
     pub value: u32,
 }
 
+impl Token {
+    // What stands past the last token: a line feed of no length.
+    pub const FEED: Self = Self {
+        kind: kind::NEWLINE,
+        start: 0,
+        end: 0,
+        value: 0,
+    };
+}
+
 // Token number i of those in work.
 pub fn token_at(work: &[u32], i: usize) -> Token
     requires { 4 * i + 4 ≤ length work.now }
@@ -85,11 +95,6 @@ impl<'a> Tokens<'a> {
         if i < self.count {
             return self.known(i);
         }
-        Token {
-            kind: kind::NEWLINE,
-            start: 0,
-            end: 0,
-            value: 0,
-        }
+        Token::FEED
     }
 }

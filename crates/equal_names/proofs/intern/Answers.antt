@@ -2,14 +2,6 @@ use Rattle.std.proofs.Common.{arith, ◌≡◌, ◌+◌, ◌++◌, drop, length,
 use Rattle.equal_names.proofs.PartLaws.{part_count, parts_kept, parts_interned}
 use Rattle.equal_names.proofs.intern.Goals as goal
 
-pub give-requires-clause-row : goal.give-requires-clause-row
-give-requires-clause-row c =
-    omega (arith, part_count c.args.count c.args.a c.args.b c.args.work.now _ _ c.requires.0 c.requires.1 (omega (arith, c.requires)) c.split_at_mut-front.ensures.front c.split_at_mut-words.ensures.front, c.split_at_mut-words.ensures.back_len, c.split_at_mut-front.ensures.front_len, c.requires)
-
-pub give-requires-clause-free : goal.give-requires-clause-free
-give-requires-clause-free c =
-    omega (arith, part_count c.args.count c.args.a c.args.b c.args.work.now _ _ c.requires.0 c.requires.1 (omega (arith, c.requires)) c.split_at_mut-front.ensures.front c.split_at_mut-words.ensures.front, c.split_at_mut-front.ensures.back_len, length-take c.args.size c.split_at_mut-front.result.1.now, c.requires)
-
 pub returns : goal.returns
 returns c =
     let row : length c.give.new.row + c.args.a ≡ c.args.b = omega (arith, c.give.auto.row, c.split_at_mut-words.ensures.back_len, c.split_at_mut-front.ensures.front_len) in

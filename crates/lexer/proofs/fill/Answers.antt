@@ -20,10 +20,10 @@ loop-v-preserved-then-k-eq-BLANK c =
     state_blank _ _ _ _ _ _ c.loop-v.invariant (c.lead_at-k.ensures.quick (omega arith)) e
 
 pub loop-v-smaller-then-k-eq-LONG_WORD : goal.loop-v-smaller-then-k-eq-LONG_WORD
-loop-v-smaller-then-k-eq-LONG_WORD c = put_falls _ _ _ _ _ c.loop-v.invariant _ _ _ c.word-c.ensures
+loop-v-smaller-then-k-eq-LONG_WORD c = put_falls _ _ _ _ _ c.loop-v.invariant _ _ _ c.word.ensures
 
 pub loop-v-preserved-then-k-eq-LONG_WORD : goal.loop-v-preserved-then-k-eq-LONG_WORD
-loop-v-preserved-then-k-eq-LONG_WORD c = state-put _ _ _ _ _ c.loop-v.invariant _ _ _ c.word-c.ensures
+loop-v-preserved-then-k-eq-LONG_WORD c = state-put _ _ _ _ _ c.loop-v.invariant _ _ _ c.word.ensures
 
 pub overflow_cast-end : goal.overflow_cast-end
 overflow_cast-end c = end_fits _ _ _ _ _ _ c.loop-v.invariant c.in-Token.ensures _ _ _ _ refl c.requires.0

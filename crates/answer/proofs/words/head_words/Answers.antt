@@ -1,27 +1,10 @@
--- The fields are the words of the definition, in its order.
+-- The two parts stand one after the other.
 use Rattle.language.specs.Layout.{head_words}
 use Rattle.machine.specs.Meaning.{head_in}
-use Rattle.answer.proofs.AnswerWords.{flag_is, two_words}
+use Rattle.answer.proofs.AnswerWords.{two_words}
 use Rattle.answer.proofs.words.head_words.Goals as goal
 
 pub returns : goal.returns
 unfolding head_words head_in
 returns c =
-    let h = c.args.head in
-    let d = h.declared in
-    rw (
-      c.from.ensures,
-      c.from-2.ensures,
-      c.from-3.ensures,
-      c.from-4.ensures,
-      c.from-5.ensures,
-      c.from-6.ensures,
-      c.from-7.ensures,
-      flag_is d.states,
-      flag_is d.input_alphabet,
-      flag_is d.tape_alphabet,
-      flag_is d.start,
-      flag_is d.blank,
-      c.decoder_words.ensures,
-      two_words h.output,
-    )
+    rw (c.copy_from_slice.ensures.after, c.front_words.ensures, c.copy_from_slice-2.ensures.after, c.back_words.ensures, two_words c.args.head.output)

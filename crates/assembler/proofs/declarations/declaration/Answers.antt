@@ -16,11 +16,11 @@ returns-then-k-ge-NAMES-clause-first c = search (rules, declare_high)
 pub returns-then-k-ge-NAMES-clause-log : goal.returns-then-k-ge-NAMES-clause-log
 returns-then-k-ge-NAMES-clause-log c = appends_nothing _ _ (search (rules, wrong_high))
 
-pub returns-then-f-tokens-clause-first : goal.returns-then-f-tokens-clause-first
-returns-then-f-tokens-clause-first c = search (rules, declare_again)
+pub returns-in-Some-clause-first : goal.returns-in-Some-clause-first
+returns-in-Some-clause-first c = search (rules, declare_again)
 
-pub returns-then-f-tokens-clause-log : goal.returns-then-f-tokens-clause-log
-returns-then-f-tokens-clause-log c = appends_as _ _ _ _ c.duplicate.ensures (search (rules, length-rows, wrong_again))
+pub returns-in-Some-clause-log : goal.returns-in-Some-clause-log
+returns-in-Some-clause-log c = appends_as _ _ _ _ c.duplicate.ensures (search (rules, length-rows, wrong_again))
 
 pub returns-clause-first : goal.returns-clause-first
 returns-clause-first c = search (rules, declare-first)

@@ -1,10 +1,6 @@
-use mathlib.Core.Path.{ap}
-use Rattle.tokens.specs.Listed.{tokens_of}
-use Rattle.assembler.proofs.AssembledLaws.{finals_said, finals_unsaid}
+use Rattle.assembler.proofs.AssembledLaws.{finals_unsaid}
+use Rattle.assembler.proofs.FirstLines.{asked-outside}
 use Rattle.assembler.proofs.finals.finals.Goals as goal
 
-pub returns-then-first-tokens : goal.returns-then-first-tokens
-returns-then-first-tokens c = finals_said c.new.result _ _ _ _ _ c.new.ensures.text (ap tokens_of c.new.ensures.tokens) c.finals.ensures
-
-pub returns-else-first-tokens : goal.returns-else-first-tokens
-returns-else-first-tokens c = finals_unsaid _ _ _ _ _ c.args.tokens.now.within c.if-first-tokens.false
+pub returns-else-is_some : goal.returns-else-is_some
+returns-else-is_some c = finals_unsaid _ _ _ _ _ c.args.tokens.now.within (asked-outside _ _ c.line.ensures c.is_some.ensures c.if-is_some.false)

@@ -2,8 +2,8 @@ use borrow.Author.Rules.{rules}
 use Rattle.assembler.proofs.RuleLaws.{total_fits, verdict-other, verdict_arity, verdict_expands, verdict_many}
 use Rattle.assembler.proofs.rules.verdict_at.Goals as goal
 
-pub returns-then-known : goal.returns-then-known
-returns-then-known c = search (rules, verdict-other)
+pub returns-then-known-ne-RULE : goal.returns-then-known-ne-RULE
+returns-then-known-ne-RULE c = search (rules, verdict-other)
 
 pub returns-then-not-same_arity : goal.returns-then-not-same_arity
 returns-then-not-same_arity c = search (rules, verdict_arity)

@@ -1,5 +1,5 @@
 -- What the lines from here on put there is left.
-use Rattle.std.proofs.Common.{not, arith, ap, sym, ◌∙◌}
+use Rattle.std.proofs.Common.{not, ap, sym, ◌∙◌}
 use Rattle.sheet.proofs.CommentLaws.{many, inside, past, feeding_start, feeding_here, feeding_quiet, feeding_on, heading_start, heading_on, heading_seen, heading_last, passing_start, passing_on, passing_end}
 use Rattle.sheet.proofs.RowLaws.{adding_start, adding_fits, adding_on, added}
 use Rattle.sheet.proofs.comments.header.Goals as goal
@@ -14,12 +14,9 @@ pub overflow_add-rules : goal.overflow_add-rules
 overflow_add-rules c =
     adding_fits _ _ _ _ c.loop-i.invariant.adding _ (inside c.args.tokens.now _ c.loop-i-test.true) c.known-t.ensures _ c.line_length-rules.ensures c.requires.lengths
 
-pub behind_line-i-requires : goal.behind_line-i-requires
-behind_line-i-requires c =
-    record {
-      inside = (c.loop-i-test.true, omega (arith, c.loop-i-test.true, c.requires.few));
-      fed = feeding_here _ _ c.loop-i.invariant.feeding _ c.known-t.ensures (inside c.args.tokens.now _ c.loop-i-test.true);
-    }
+pub behind_line-i-requires-clause-fed : goal.behind_line-i-requires-clause-fed
+behind_line-i-requires-clause-fed c =
+    feeding_here _ _ c.loop-i.invariant.feeding _ c.known-t.ensures (inside c.args.tokens.now _ c.loop-i-test.true)
 
 pub loop-i-preserved : goal.loop-i-preserved
 loop-i-preserved c =

@@ -2,26 +2,26 @@
 use Rattle.std.proofs.Common.{arith, ap, ◌∙◌, map, ◌≤◌, length}
 use Rattle.tokens.specs.Listed.{tokens_of}
 use Rattle.sheet.specs.Wheels.{first_member}
-use Rattle.sheet.proofs.ExpandLaws.{entries_are, line_placed, line_tapes, line_put}
+use Rattle.sheet.proofs.ExpandLaws.{entries_are, line_fits, line_put}
 use Rattle.sheet.proofs.expand.expand.Goals as goal
 
-pub put-requires-clause-placed : goal.put-requires-clause-placed
-put-requires-clause-placed c =
-    line_placed _ _ _ _ _ c.at-r.ensures.parts c.wheels-n.ensures.few c.at-r.ensures.small.0 c.at-r.ensures.small.1 c.requires.line.1 c.requires.line.0
+pub put-requires : goal.put-requires
+put-requires c =
+    let fits =
+    line_fits _ _ _ _ _ c.at-r.ensures.parts c.wheels-n.ensures.few c.at-r.ensures.small.0 c.at-r.ensures.small.1 c.requires.line.1 c.requires.line.0 in
+    record { placed = fits.0; members = fits.1 _ (omega (arith, c.requires.wheels.1, c.wheels-n.auto.members)) }
 
-pub put-requires-clause-members : goal.put-requires-clause-members
-put-requires-clause-members c =
-    line_tapes _ _ _ _ _ c.at-r.ensures.parts c.wheels-n.ensures.few _ (omega (arith, c.requires.wheels.1, c.wheels-n.auto.members))
-
-pub choices-requires-clause-placed : goal.choices-requires-clause-placed
-choices-requires-clause-placed c =
-    line_placed _ _ _ _ _ c.at-r.ensures.parts c.wheels-n.ensures.few c.at-r.ensures.small.0 c.at-r.ensures.small.1 c.requires.line.1 c.requires.line.0
-
-pub choices-requires-clause-wheels : goal.choices-requires-clause-wheels
-choices-requires-clause-wheels c = (
-  line_tapes _ _ _ _ _ c.at-r.ensures.parts c.wheels-n.ensures.few _ (omega (arith, c.requires.wheels.0, c.wheels-n.auto.entries)),
-  line_tapes _ _ _ _ _ c.at-r.ensures.parts c.wheels-n.ensures.few _ (omega (arith, c.requires.wheels.1, c.wheels-n.auto.members)),
-)
+pub choices-requires : goal.choices-requires
+choices-requires c =
+    let fits =
+    line_fits _ _ _ _ _ c.at-r.ensures.parts c.wheels-n.ensures.few c.at-r.ensures.small.0 c.at-r.ensures.small.1 c.requires.line.1 c.requires.line.0 in
+    record {
+      placed = fits.0;
+      wheels = (
+        fits.1 _ (omega (arith, c.requires.wheels.0, c.wheels-n.auto.entries)),
+        fits.1 _ (omega (arith, c.requires.wheels.1, c.wheels-n.auto.members)),
+      );
+    }
 
 pub returns : goal.returns
 returns c =

@@ -1,6 +1,6 @@
 -- The blank is noted, then the candidates.
 use Rattle.std.proofs.Common.{rules}
-use Rattle.alphabet.proofs.AlphabetLaws.{gamma-coded, gamma-counted, gamma-hinted}
+use Rattle.alphabet.proofs.AlphabetLaws.{gamma-coded, gamma-counted}
 use Rattle.alphabet.proofs.glyphs.Symbols.gamma_codes.Goals as goal
 
 pub returns-clause-codes : goal.returns-clause-codes
@@ -12,8 +12,3 @@ pub returns-clause-count : goal.returns-clause-count
 returns-clause-count c =
     let n = c.new-codes.ensures in
     gamma-counted _ c.args.text.now c.args.first.now c.args.row.now _ c.requires _ _ _ n.empty n.sound n.size c.note.ensures c.note_candidates.ensures _ c.count.ensures
-
-pub returns-clause-hints : goal.returns-clause-hints
-returns-clause-hints c =
-    let n = c.new-codes.ensures in
-    gamma-hinted _ c.args.text.now c.args.first.now c.args.row.now _ c.requires _ _ _ n.empty n.sound n.size c.note.ensures c.note_candidates.ensures _ c.count.ensures _ (search rules) _ n.many

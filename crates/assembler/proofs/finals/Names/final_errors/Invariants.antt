@@ -7,5 +7,5 @@ use Rattle.assembler.proofs.finals.Names.final_errors.Given as goal
 
 abbrev pub invariant-loop-i : goal.invariant-loop-i
 invariant-loop-i l =
-    Listing l.self (ltb l.q l.self.tokens.count) (names_of (row_of l.self) l.q)
+    Listing l.self l.declared (names_of (row_of l.self) l.q)
     (final_errors l.self.text.now (row_of l.self) (ltb l.q l.self.tokens.count) (names_of (row_of l.self) l.q) [] (names_of (row_of l.self) l.f)) l.fn.log l.log l.marks l.i

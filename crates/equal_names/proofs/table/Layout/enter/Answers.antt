@@ -7,16 +7,10 @@ use Rattle.equal_names.proofs.table.Layout.enter.Goals as goal
 pub store-requires-clause-slot : goal.store-requires-clause-slot
 store-requires-clause-slot c = omega (arith, own_low _ _ _ (sym c.in-Some.is ∙ c.own_slot.ensures), c.args.self.begins, c.requires.slots)
 
-pub store-requires-clause-few : goal.store-requires-clause-few
-store-requires-clause-few c = omega (arith, c.requires.inside, c.args.words.now.few, length-rows _ _ c.args.words.now.tokens.within)
-
 pub returns-in-Some : goal.returns-in-Some
 returns-in-Some c =
     enter-letter _ _ _ _ _ _ _ _ c.requires.before c.requires.inside c.requires.row c.requires.slots c.args.self.begins _ c.token-t.ensures c.if-t-ne-WORD.false _ refl
     c.in-Some.slot (sym c.in-Some.is ∙ c.own_slot.ensures) _ _ c.store.ensures.row c.store.ensures.slots
-
-pub store-requires-2-clause-few : goal.store-requires-2-clause-few
-store-requires-2-clause-few c = omega (arith, c.requires.inside, c.args.words.now.few, length-rows _ _ c.args.words.now.tokens.within)
 
 pub returns : goal.returns
 returns c =

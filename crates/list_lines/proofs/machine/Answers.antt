@@ -1,6 +1,0 @@
--- The pieces one after the other.
-use Rattle.list_lines.proofs.Chain.{◌▹◌}
-use Rattle.list_lines.proofs.machine.Goals as goal
-
-pub returns : goal.returns
-returns c = c.bytes_line.ensures ▹ c.machine_lines.ensures
