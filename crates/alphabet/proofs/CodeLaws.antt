@@ -11,15 +11,11 @@ use lib.Dec.{eqb}
 use lib.ListN.{length, get_or, take, drop, set, length-set, length-append, length-drop, length-replicate, replicate, drop_of_length-le}
 use lib.Seq.{take-set-le, length-take-le, get_or-append-add, get_or-set_same, get_or-set_other, take-suc-set}
 use Rattle.std.specs.List.{list_any}
+use Rattle.std.proofs.lemmas.Bool.{or_right}
 use Rattle.diag.proofs.Cases.{by_test_lem}
 use Rattle.language.specs.Infer.{member}
 use Rattle.alphabet.specs.Codes.{noted, noted_all, slot, hint_of, Looked, Hinted}
 use Rattle.alphabet.proofs.CodesMean.{member_last}
-
--- ---- tests
-or_true : (a b : Bool) → b ≡ true → (a || b) ≡ true
-or_true true b e = refl
-or_true false b e = e
 
 -- ---- the hints
 -- cleared, they say that nothing is noted
@@ -54,7 +50,7 @@ cleared t r s start ys zeros =
 
 -- ---- one code more
 member-front : (cs : List ℕ) (c x : ℕ) → member eqb cs x ≡ true → member eqb (cs ++ c ∷ []) x ≡ true
-member-front cs c x e = member_last cs c x ∙ or_true (eqb c x) (member eqb cs x) e
+member-front cs c x e = member_last cs c x ∙ or_right (eqb c x) (member eqb cs x) e
 
 member-append : (cs : List ℕ) (c : ℕ) → member eqb (cs ++ c ∷ []) c ≡ true
 member-append cs c = member_last cs c c ∙ ap (λ (t : Bool). t || member eqb cs c) (eq-eqb c c refl)

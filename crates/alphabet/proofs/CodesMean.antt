@@ -5,6 +5,7 @@ use mathlib.Core.List.{List, [], ◌∷◌, ◌++◌, append-nil, append_assoc}
 use Prim.Native.Nat.{ℕ}
 use borrow.Author.Tests.{eq-eqb, eqb-true}
 use lib.Dec.{eqb}
+use Rattle.std.proofs.Math.Bool.{or-false}
 use Rattle.language.specs.Infer.{member, fresh, less}
 use Rattle.language.proofs.Every.{by_test}
 use Rattle.alphabet.specs.Codes.{noted, noted_all}
@@ -16,10 +17,6 @@ fresh_there known x l e = rw (e, fresh)
 pub fresh_new : (known : ℕ → Bool) (x : ℕ) (l : List ℕ) → known x ≡ false → fresh eqb known (x ∷ l) ≡ x ∷ fresh eqb (λ y. eqb x y || known y) l
 unfolding fresh
 fresh_new known x l e = rw (e, fresh)
-
-or_none_lem : (b : Bool) → (b || false) ≡ b
-or_none_lem true = refl
-or_none_lem false = refl
 
 or_turn : (a b c : Bool) → (a || (b || c)) ≡ (b || (a || c))
 or_turn true true c = refl
@@ -55,7 +52,7 @@ noted-fresh cs (x ∷ xs) = by_test (member eqb cs x)
 -- the codes of an undeclared Γ
 pub codes_mean : (b : ℕ) (xs : List ℕ) → noted_all (b ∷ []) xs ≡ b ∷ fresh eqb (eqb b) xs
 unfolding member
-codes_mean b xs = noted-fresh (b ∷ []) xs ∙ ap (λ (k : ℕ → Bool). b ∷ fresh eqb k xs) (fun_ext (λ y. or_none_lem (eqb b y)))
+codes_mean b xs = noted-fresh (b ∷ []) xs ∙ ap (λ (k : ℕ → Bool). b ∷ fresh eqb k xs) (fun_ext (λ y. or-false (eqb b y)))
 
 -- what is known is not fresh
 fresh_lacks : (b : ℕ) (known : ℕ → Bool) (xs : List ℕ) → known b ≡ true → less b (fresh eqb known xs) ≡ fresh eqb known xs

@@ -14,10 +14,11 @@ use Rattle.lexer.specs.Places.{rest}
 use Rattle.language.specs.Infer.{member}
 use Rattle.tokens.specs.declared.Token.{Token}
 use Rattle.parser.specs.Row.{peek}
-use Rattle.alphabet.specs.Codes.{noted, noted_all}
+use Rattle.alphabet.specs.Codes.{noted_all}
 use Rattle.alphabet.specs.Input.{ends_at, escape_of, spelled_as, escapes_next, spelled, input_of}
 use Rattle.alphabet.specs.Notes.{listed, Sound, Notes}
 use Rattle.alphabet.specs.declared.codes.Codes.{Codes}
+use Rattle.alphabet.proofs.CodesMean.{noted_there}
 use Rattle.alphabet.proofs.Noting.{notes_none, notes_as, Left, left_on, left_end}
 
 -- ---- tests of one character
@@ -78,13 +79,9 @@ module _ (c : ℕ) (high : 0x80 ≤ c) where
       let e : spelled false (c ∷ l) ≡ spelled_as false c ++ spelled (escapes_next false c) l = rw (goes_on, spelled) in
       e ∙ ap (λ (xs : List ℕ). xs ++ spelled (escapes_next false c) l) itself ∙ ap (λ (z : Bool). c ∷ spelled z l) plain-next
 
-noted-same : (cs : List ℕ) (c : ℕ) → member eqb cs c ≡ true → noted cs c ≡ cs
-unfolding noted
-noted-same cs c e = rw e
-
 noted-passed : (cs xs : List ℕ) (c : ℕ) → member eqb cs c ≡ true → noted_all cs (c ∷ xs) ≡ noted_all cs xs
 unfolding noted_all
-noted-passed cs xs c e = ap (λ (l : List ℕ). noted_all l xs) (noted-same cs c e)
+noted-passed cs xs c e = ap (λ (l : List ℕ). noted_all l xs) (noted_there cs c e)
 
 -- the same is still to be noted from the place i on as from the place a on
 pub record Passed (t : List ℕ) (e : Bool) (c : Codes) (a i : ℕ) : Type 0 where

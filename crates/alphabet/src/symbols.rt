@@ -22,8 +22,8 @@ use tokens::{Token, Tokens};
 // The place of an inferred symbol.
 const NOWHERE: Span = Span { start: 0, end: 0 };
 
-// The index behind a comma at an index; that index itself where none stands there. Sheet's first_entry is this of another sign: each call of one for both
-// would name its sign.
+// The index behind a comma at an index; that index itself where none stands there. Sheet's first_entry is this of another sign, with a definition of its
+// own, and this has one call: one function for both would have a third definition, that the two are shown to be cases of.
 #[tactic(auto, unfolding(crate::specs::Symbols::past_comma))]
 fn past_comma(tokens: &Tokens, i: usize) -> usize
     requires { i + 1 < 2 ^ 64 }

@@ -2,7 +2,7 @@
 use mathlib.Core.Path.{◌≡◌, refl, sym, ap, subst, ◌∙◌}
 use mathlib.Core.Bool.{Bool, true, false, cond, ◌||◌}
 use mathlib.Core.List.{List, [], ◌∷◌, ◌++◌, map}
-use Prim.Native.Nat.{ℕ, zero, suc, ◌+◌, ◌*◌, ◌≤◌, ◌<◌, ◌^◌}
+use Prim.Native.Nat.{ℕ, suc, ◌+◌, ◌*◌, ◌≤◌, ◌<◌, ◌^◌}
 use native.Mathlib.Omega.{arith}
 use mir.Syntax.{w64}
 use mir.Val.{Fits}
@@ -32,7 +32,7 @@ use Rattle.diag.proofs.Appended.{append_all-count}
 use Rattle.assembler.specs.declared.Assembled.{Assembled}
 use Rattle.assembler.specs.declared.rules.Tally.{Tally}
 use Rattle.assembler.specs.Rows.{rows, place_of}
-use Rattle.assembler.specs.Entries.{Entry, behind, entries_from, entries}
+use Rattle.assembler.specs.Entries.{Entry, entries}
 use Rattle.assembler.specs.Entered.{flat, entered_from, entered}
 use Rattle.assembler.specs.Feeds.{Fed}
 use Rattle.assembler.specs.Failures.{line_error, line_errors}
@@ -41,7 +41,7 @@ use Rattle.assembler.specs.Finals.{name_at, names_from, names_of, final_error, f
 use Rattle.assembler.specs.Rules.{verdict, after, rule_error, no_rules, rule_errors, rule_count}
 use Rattle.assembler.specs.Records.{record_of, records_of}
 use Rattle.assembler.specs.Assembled as S
-use Rattle.assembler.proofs.Rows.{length-rows}
+use Rattle.assembler.proofs.Rows.{length-rows, entries_few}
 use Rattle.assembler.proofs.RowWords.{rows-onto, length-onto}
 use Rattle.equal_names.proofs.NameLaws.{kept-rows}
 use Rattle.assembler.proofs.MarkLaws.{kept_interned, kept_trans}
@@ -115,16 +115,6 @@ module _ (text : List ℕ) (count : ℕ) (w₀ : List ℕ) (laid : Laid count (S
         record { listed = λ h. names; sound = λ e h. names }
 
 -- ---- how many diagnostics the passes append
-entries_few_from : (k i : ℕ) (ts : List Token) → length (entries_from k i ts) ≤ length ts
-unfolding entries_from
-entries_few_from k i [] = omega arith
-entries_few_from (suc k) i (t ∷ ts) = omega (arith, entries_few_from k (suc i) ts)
-entries_few_from zero i (t ∷ ts) = omega (arith, entries_few_from (behind i t) (suc i) ts)
-
-entries_few : (ts : List Token) → length (entries ts) ≤ length ts
-unfolding entries
-entries_few ts = entries_few_from 0 0 ts
-
 lines_few : (es : List Entry) → length (line_errors es) ≤ length es
 unfolding line_errors
 lines_few [] = omega arith

@@ -1,7 +1,7 @@
 -- The braces of what a rule reads open and close by turns.
 use Rattle.std.specs.Prelude.{Err}
 use mathlib.Core.Path.{◌≡◌, refl, sym, ap, subst, ◌∙◌}
-use mathlib.Core.Bool.{Bool, true, false, cond, not}
+use mathlib.Core.Bool.{Bool, true, false, cond, not, false≢true}
 use mathlib.Core.List.{List, [], ◌∷◌, ◌++◌}
 use Prim.Native.Nat.{ℕ, zero, suc, ◌+◌, ◌-◌, ◌≤◌, ◌<◌}
 use native.Mathlib.Omega.{arith}
@@ -27,7 +27,7 @@ abbrev pub between : List Token → ℕ → ℕ → List Token
 between ts i j = take (j - i) (drop i ts)
 
 pub false_true : {X : Type 0} → false ≡ true → X
-false_true e = absurd (let z : ◌≡◌ {A = ℕ} 0 1 = cc in omega arith)
+false_true e = absurd (false≢true e)
 
 balanced_append : (b : Bool) (l r : List Token) → balanced b l ≡ true → balanced b (l ++ r) ≡ balanced false r
 unfolding balanced

@@ -3,7 +3,7 @@ use Rattle.diag.specs.declared.Code.{Code}
 use Rattle.diag.specs.declared.Code.TheVariants.{Unexpected, UnterminatedString, UnknownName, NoDirection, TooLarge, WrongArity, Duplicate}
 use Rattle.std.specs.Prelude.{Err, None, Option, Some}
 use mathlib.Core.Path.{◌≡◌, refl, sym, ap, subst, ◌∙◌}
-use mathlib.Core.Bool.{Bool, true, false, cond}
+use mathlib.Core.Bool.{Bool, true, false, cond, false≢true}
 use mathlib.Core.List.{List, [], ◌∷◌}
 use Prim.Native.Nat.{ℕ, zero, suc, ◌+◌, ◌≤◌, ◌<◌}
 use native.Mathlib.Omega.{arith}
@@ -41,9 +41,6 @@ free_on ts i j k f g n a b = by_test_lem (ltb n j) (λ y. f n a (ltb-true n j y)
 abbrev pub Solid : (Token → Bool) → Type 0
 Solid f = (t : Token) → f t ≡ true → eqb t.kind 13 ≡ false
 
-off : {X : Type 0} → false ≡ true → X
-off e = absurd (let z : ◌≡◌ {A = ℕ} 0 1 = cc in omega arith)
-
 pub kind_solid : (t : Token) (n : ℕ) → n < 13 → eqb t.kind n ≡ true → eqb t.kind 13 ≡ false
 kind_solid t n h e = let z : t.kind ≡ n = eqb-true t.kind n e in ne_eqb t.kind 13 (omega arith)
 
@@ -53,11 +50,11 @@ solid_kind n h t e = kind_solid t n h e
 
 solid_choice : (a b : ℕ) → Solid (is_choice a b)
 unfolding is_choice
-solid_choice a b t e = by_test_lem (eqb t.kind 0) (λ y. kind_solid t 0 (omega arith) y) (λ n. off (rw n at e))
+solid_choice a b t e = by_test_lem (eqb t.kind 0) (λ y. kind_solid t 0 (omega arith) y) (λ n. absurd (false≢true (rw n at e)))
 
 pub solid_state : Solid is_state
 unfolding is_state
-solid_state t e = by_test_lem (eqb t.kind 0) (λ y. kind_solid t 0 (omega arith) y) (λ n. off (rw n at e))
+solid_state t e = by_test_lem (eqb t.kind 0) (λ y. kind_solid t 0 (omega arith) y) (λ n. absurd (false≢true (rw n at e)))
 
 pub solid_symbol : Solid is_symbol
 unfolding is_symbol
@@ -65,7 +62,7 @@ solid_symbol t e =
     by_test_lem (eqb t.kind 0) (λ y. kind_solid t 0 (omega arith) y) λ n₀.
     by_test_lem (eqb t.kind 1) (λ y. kind_solid t 1 (omega arith) y) λ n₁.
     by_test_lem (eqb t.kind 2) (λ y. kind_solid t 2 (omega arith) y) λ n₂.
-    by_test_lem (eqb t.kind 11) (λ y. kind_solid t 11 (omega arith) y) λ n₃. off (rw (n₀, n₁, n₂, n₃) at e)
+    by_test_lem (eqb t.kind 11) (λ y. kind_solid t 11 (omega arith) y) λ n₃. absurd (false≢true (rw (n₀, n₁, n₂, n₃) at e))
 
 pub solid_write : Solid is_write
 unfolding is_write
@@ -75,7 +72,7 @@ pub solid_direction : Solid is_direction
 unfolding is_direction
 solid_direction t e =
     by_test_lem (eqb t.kind 0) (λ y. kind_solid t 0 (omega arith) y) λ n₀.
-    by_test_lem (eqb t.kind 2) (λ y. kind_solid t 2 (omega arith) y) λ n₂. off (rw (n₀, n₂) at e)
+    by_test_lem (eqb t.kind 2) (λ y. kind_solid t 2 (omega arith) y) λ n₂. absurd (false≢true (rw (n₀, n₂) at e))
 
 -- ---- a parser's answer: no more entries than the index behind them, no line feed among them, and a code that fits an entry
 abbrev pub Fair : List Token → ℕ → Parsed ℕ → Type 0
@@ -556,7 +553,7 @@ item_in ts = go (keyword_of (peek ts 0)) refl
 
 comment_in : (ts : List Token) → is_comment ts 0 ≡ true → (eqb (peek ts 0).kind 12 ≡ true) × (eqb (peek ts 1).kind 13 ≡ true)
 unfolding is_comment
-comment_in ts e = by_test_lem (eqb (peek ts 0).kind 12) (λ y. (y, rw y at e)) (λ n. off (rw n at e))
+comment_in ts e = by_test_lem (eqb (peek ts 0).kind 12) (λ y. (y, rw y at e)) (λ n. absurd (false≢true (rw n at e)))
 
 pub line_in : (ts : List Token) → LineIn ts (line ts 0)
 unfolding line

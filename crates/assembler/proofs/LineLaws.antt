@@ -8,7 +8,7 @@ use Prim.Native.Nat.{◌^◌}
 use mir.Syntax.{w32, w64}
 use mir.Val.{Fits}
 use lib.ListN.{length, take, drop, set, length-drop, length-set, take-append-drop}
-use lib.Seq.{sets, length-sets, drop-set-add, take-set-le}
+use lib.Seq.{sets, drop-set-add, take-set-le}
 use Rattle.lexer.specs.Words.{onto}
 use Rattle.tokens.specs.declared.Token.{Token}
 use Rattle.parser.specs.declared.Parts.{Parts}
@@ -38,9 +38,6 @@ put_row n i w v t h l e =
 
 row_after : (n i : ℕ) (w v : List ℕ) (t : Token) → 4 * n ≤ length w → v ≡ onto (flat (set (rows n w) i t)) w → rows n v ≡ set (rows n w) i t
 row_after n i w v t h e = ap (rows n) e ∙ rows-onto (set (rows n w) i t) n w (length-set (rows n w) i t ∙ length-rows n w h)
-
-room_after : (n i : ℕ) (w v : List ℕ) (t : Token) → v ≡ sets w (4 * i) (words_of t) → length v ≡ length w
-room_after n i w v t e = ap length e ∙ length-sets w (4 * i) (words_of t)
 
 -- a second token over a row that one was stored in
 put_more : (n i k : ℕ) (w v u : List ℕ) (a : List Token) (t : Token) → 4 * n ≤ length w → i < n → length a ≡ n → v ≡ onto (flat a) w → u ≡ sets v (4 * i) (words_of t) → u ≡ onto (flat (set a i t)) w

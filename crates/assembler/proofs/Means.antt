@@ -196,9 +196,6 @@ pub record TableMeans (ts : List Token) (first : List ℕ) (before : List (Locat
   pub declared : (k : ℕ) → k < 11 → (p : Span) → A.declared_at k before ≡ some p → (ltb (get_or first k 0) (length ts) ≡ true) × (place_of (peek ts (get_or first k 0)) ≡ p)
 
 -- one item more
-here_number : (k n : ℕ) → A.is_number k (some n) ≡ eqb n k
-here_number k n = refl
-
 declared_yes : (k : ℕ) (i : Located Span (Item Span)) (is : List (Located Span (Item Span))) → A.is_number k (A.declaration i.value) ≡ true → A.declared_at k (i ∷ is) ≡ some i.place
 unfolding A.declared_at
 declared_yes k i is e = ap (λ (b : Bool). elim b [ true ↦ some i.place | false ↦ A.declared_at k is ]) e

@@ -9,6 +9,7 @@ use lib.Seq.{take_at, drop_at, sets}
 use Rattle.lexer.specs.Words.{onto}
 use Rattle.tokens.specs.declared.Token.{Token}
 use Rattle.parser.specs.Row.{tokens_in}
+use Rattle.tokens.proofs.Rows.{length-rows}
 use Rattle.assembler.specs.Rows.{rows}
 use Rattle.assembler.specs.Entered.{words_of, flat}
 
@@ -43,11 +44,6 @@ flat_rows (suc n) (a ∷ b ∷ c ∷ []) h = absurd (omega arith)
 flat_rows (suc n) (a ∷ b ∷ c ∷ d ∷ w) h =
     let e : 4 * suc n ≡ suc (suc (suc (suc (4 * n)))) = omega arith in
     ap (λ (k : ℕ). (a ∷ b ∷ c ∷ d ∷ flat (rows n w)) ++ drop k (a ∷ b ∷ c ∷ d ∷ w)) e ∙ ap (λ (l : List ℕ). a ∷ b ∷ c ∷ d ∷ l) (flat_rows n w (omega arith))
-
-length-rows : (n : ℕ) (w : List ℕ) → 4 * n ≤ length w → length (rows n w) ≡ n
-length-rows n w h =
-    let e : length (flat (rows n w)) + length (drop (4 * n) w) ≡ length w = sym (length-append (flat (rows n w)) (drop (4 * n) w)) ∙ ap length (flat_rows n w h) in
-    omega (arith, length-flat (rows n w), length-drop (4 * n) w, length-take n (tokens_in w))
 
 pub onto-rows : (n : ℕ) (w : List ℕ) → 4 * n ≤ length w → onto (flat (rows n w)) w ≡ w
 unfolding onto

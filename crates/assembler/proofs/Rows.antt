@@ -15,7 +15,7 @@ use Rattle.parser.specs.Row.{ended, peek}
 use Rattle.parser.specs.Lines.{line_length}
 pub use Rattle.equal_names.proofs.NameLaws.{length-rows, row_read, row_past}
 use Rattle.assembler.specs.Rows.{rows}
-use Rattle.assembler.specs.Entries.{Entry, entry_at, has_kind, behind, entries_from}
+use Rattle.assembler.specs.Entries.{Entry, entry_at, has_kind, behind, entries_from, entries}
 use Rattle.assembler.specs.Feeds.{AllFed}
 
 -- ---- the lines
@@ -44,6 +44,17 @@ entries-step ts i h =
 pub entries-end : (ts : List Token) (i : ℕ) → length ts ≤ i → entries_at ts i ≡ []
 unfolding entries_from
 entries-end ts i h = ap (entries_from 0 i) (drop_of_length-le ts {i = i} h)
+
+-- no more lines than tokens
+entries_few_from : (k i : ℕ) (ts : List Token) → length (entries_from k i ts) ≤ length ts
+unfolding entries_from
+entries_few_from k i [] = omega arith
+entries_few_from (suc k) i (t ∷ ts) = omega (arith, entries_few_from k (suc i) ts)
+entries_few_from zero i (t ∷ ts) = omega (arith, entries_few_from (behind i t) (suc i) ts)
+
+pub entries_few : (ts : List Token) → length (entries ts) ≤ length ts
+unfolding entries
+entries_few ts = entries_few_from 0 0 ts
 
 -- where the next line begins
 module _ (t : Token) (i : ℕ) where

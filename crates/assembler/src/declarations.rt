@@ -19,6 +19,8 @@ use tokens::{Token, Tokens, span_of};
 
 // The number of names: the items before a rule's.
 pub const NAMES: usize = ItemKind::Transition as usize;
+// The first declarations of no lines: for each name a number that is no index of a token.
+pub const UNDECLARED: [u32; NAMES] = [0xffff_ffff; NAMES];
 
 // The line of a first declaration among so many tokens; a number that is no index of theirs stands for none.
 pub fn line(first: u32, count: usize) -> Option<usize>

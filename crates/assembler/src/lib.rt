@@ -22,7 +22,7 @@ pub mod seek;
 pub mod sets;
 pub mod survey;
 
-use declarations::line;
+use declarations::{UNDECLARED, line};
 use diag::Log;
 use parser::ItemKind;
 use tokens::Tokens;
@@ -31,7 +31,9 @@ use tokens::Tokens;
 #[derive(Clone, Copy, Debug, PartialEq, Eq)]
 pub struct Assembled {
     // For each name the index of its line, or a number that is no index of a token where none declares it: `declarations::line` tells which. Options would not
-    // say that such a line is among the tokens, and each function would have to ask that of its callers, of whom none is asked now.
+    // say that such a line is among the tokens, and each function would have to ask that of its callers, of whom none is asked now. Here and above the row
+    // is an array, and no struct with a method that takes a name: it would save `as usize`, and each contract and definition, which say of it what they say
+    // of a list of words, would name its field besides.
     pub first: [u32; 11],
     pub rules: usize,
     pub errors: usize,
@@ -99,7 +101,7 @@ fn diagnose(text: &[u8], work: &mut [u32], count: usize, row: &mut [u32]) -> Ass
         × (6 * length text.now + 6 ≤ length work.old) × Fed (rows count work.old) }
     ensures { Diagnosed text.now count work.old work.new row.old row.new result }
 {
-    let mut first = [0xffff_ffffu32; 11];
+    let mut first = UNDECLARED;
     let mut log = Log::new(row);
     let tokens = Tokens { words: work, count };
     let counts = survey::survey(&tokens, &mut first);

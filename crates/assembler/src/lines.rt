@@ -24,7 +24,8 @@ pub fn item_number(k: ItemKind) -> u32
     k as u32
 }
 
-// A token at an index. Lexer's `push` stores four numbers in this way: Token is declared above it.
+// A token at an index. Lexer's `push` stores four numbers in this way; it is private to lexer, where no Token is known, and a call of it would take the token
+// apart to name its four parts in order.
 fn put(work: &mut [u32], at: usize, t: Token)
     requires { 4 * at + 4 ≤ length work.old }
     ensures { work.new ≡ sets work.old (4 * at) (words_of t) }

@@ -1,4 +1,5 @@
-// The passes that append diagnostics, each left out where it has none to append: k is their number, which a survey found.
+// The passes that append diagnostics, each left out where it has none to append: k is their number, which a survey found. They are three functions, since
+// one that takes the pass as a closure would have to say in its contract what a call of it appends, and asks of the tokens.
 ghost use Rattle.std.specs.Prelude.{◌≡◌, ◌+◌, ◌<◌, ◌^◌, length};
 ghost use Rattle.diag.specs.Appends.{Appends};
 ghost use Rattle.tokens.specs.Listed.{tokens_of};
@@ -33,7 +34,7 @@ pub fn declared(tokens: &Tokens, k: usize, log: &mut Log)
     ensures { Appends log.old log.new (declaration_errors (tokens_of tokens.now) undeclared (entries (tokens_of tokens.now))) }
 {
     if k != 0 {
-        let mut first = [0xffff_ffffu32; 11];
+        let mut first = declarations::UNDECLARED;
         declarations::declarations(tokens, &mut first, log);
     }
 }

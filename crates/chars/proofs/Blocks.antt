@@ -10,9 +10,10 @@ use Rattle.std.specs.List.{position_or_len, AllWithin, HoldsAt}
 use Rattle.std.specs.Option.{MatchOption}
 use Rattle.std.specs.Simd.{first_chunks}
 use Rattle.std.proofs.lemmas.List.{get_or-take}
+use Rattle.std.proofs.lemmas.Nat.{le_or_l, le_or_r}
 use lib.Seq.{get_or-drop}
 use mathlib.Core.List.{List, [], ◌∷◌}
-use lib.Bits.{bit_or, or_add_and, and_le_l, and_le_r}
+use lib.Bits.{bit_or}
 use lib.ListN.{length, get_or, take, drop, length-take}
 use Rattle.std.specs.Prelude.{Option, Some, None, unwrap_or, position}
 use Rattle.chars.specs.Utf8.{size, sizes, front, decode, valid_up_to, decoded_at}
@@ -67,12 +68,6 @@ pub passes-many : (t : List ℕ) (k i : ℕ) → i + k ≤ length t → ((j : �
 passes-many t k i h f =
     many t (Passes t i) (λ (c : ℕ). c < 0x80) (λ j g l p. passes-more t i j (j + 1) p (passes-ascii t j g l)) k i h f (passes-none t i (omega arith))
 
-or_left : (a b : ℕ) → a ≤ bit_or a b
-or_left a b = omega (arith, or_add_and a b, and_le_r a b)
-
-or_right : (a b : ℕ) → b ≤ bit_or a b
-or_right a b = omega (arith, or_add_and a b, and_le_l a b)
-
 -- what holds of 0 to 7 holds below 8
 pub below_eight : (P : ℕ → Type 0) → P 0 → P 1 → P 2 → P 3 → P 4 → P 5 → P 6 → P 7 → (j : ℕ) → j < 8 → P j
 below_eight P a b c d e f g h zero l = a
@@ -99,26 +94,26 @@ eight_ascii t i x e l =
     let b7 : ℕ = get_or t (i + 7) 0 in
     let y : ℕ = bit_or b0 (bit_or b1 (bit_or b2 b3)) in
     let z : ℕ = bit_or b4 (bit_or b5 (bit_or b6 b7)) in
-    let p = or_left y z in
-    let q = or_right y z in
-    let p1 = or_right b0 (bit_or b1 (bit_or b2 b3)) in
-    let p2 = or_right b1 (bit_or b2 b3) in
-    let q1 = or_right b4 (bit_or b5 (bit_or b6 b7)) in
-    let q2 = or_right b5 (bit_or b6 b7) in
+    let p = le_or_l y z in
+    let q = le_or_r y z in
+    let p1 = le_or_r b0 (bit_or b1 (bit_or b2 b3)) in
+    let p2 = le_or_r b1 (bit_or b2 b3) in
+    let q1 = le_or_r b4 (bit_or b5 (bit_or b6 b7)) in
+    let q2 = le_or_r b5 (bit_or b6 b7) in
     let z0 : i + 0 ≡ i = omega arith in
     below_eight (λ (j : ℕ). get_or t (i + j) 0 < 0x80)
-    (rw z0 (omega (arith, or_left b0 (bit_or b1 (bit_or b2 b3)))))
-    (omega (arith, or_left b1 (bit_or b2 b3)))
-    (omega (arith, or_left b2 b3))
-    (omega (arith, or_right b2 b3))
-    (omega (arith, or_left b4 (bit_or b5 (bit_or b6 b7))))
-    (omega (arith, or_left b5 (bit_or b6 b7)))
-    (omega (arith, or_left b6 b7))
-    (omega (arith, or_right b6 b7))
+    (rw z0 (omega (arith, le_or_l b0 (bit_or b1 (bit_or b2 b3)))))
+    (omega (arith, le_or_l b1 (bit_or b2 b3)))
+    (omega (arith, le_or_l b2 b3))
+    (omega (arith, le_or_r b2 b3))
+    (omega (arith, le_or_l b4 (bit_or b5 (bit_or b6 b7))))
+    (omega (arith, le_or_l b5 (bit_or b6 b7)))
+    (omega (arith, le_or_l b6 b7))
+    (omega (arith, le_or_r b6 b7))
 
 -- ---- blocks of eight bytes
 -- a byte of a block is one of the bytes
-block_byte : (xs : List ℕ) (k j b : ℕ) (d : List ℕ) → j < k → b < 8 → get_or (get_or (first_chunks 8 k xs) j d) b 0 ≡ get_or xs (8 * j + b) 0
+pub block_byte : (xs : List ℕ) (k j b : ℕ) (d : List ℕ) → j < k → b < 8 → get_or (get_or (first_chunks 8 k xs) j d) b 0 ≡ get_or xs (8 * j + b) 0
 block_byte xs zero j b d h l = absurd (omega arith)
 block_byte xs (suc k) zero b d h l =
     let e : b ≡ 8 * zero + b = omega arith in
@@ -136,7 +131,7 @@ in_blocks P xs k n h f m l =
 
 -- two bytes whose or is below 80 are ASCII
 or_ascii : (a b : ℕ) → bit_or a b < 0x80 → (a < 0x80) × (b < 0x80)
-or_ascii a b l = (omega (arith, or_left a b), omega (arith, or_right a b))
+or_ascii a b l = (omega (arith, le_or_l a b), omega (arith, le_or_r a b))
 
 -- two bytes, and two behind an ASCII byte
 module _ (t : List ℕ) (i : ℕ) where

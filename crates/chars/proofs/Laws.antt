@@ -5,7 +5,7 @@ use native.Mathlib.Omega.{arith}
 use native.Mathlib.Nat.{add-zero}
 use mathlib.Core.Bool.{true, ◌&&◌}
 use lib.Dec.{ltb, leb, eqb}
-use mathlib.Core.List.{List, [], ◌∷◌, ◌++◌, append-nil}
+use mathlib.Core.List.{List, [], ◌∷◌, ◌++◌}
 use lib.ListN.{length, get_or, drop, length-drop, drop_of_length-le}
 use lib.Seq.{drop-drop}
 use Rattle.chars.specs.Utf8.{scalar, size, sizes, Front, one, bad, none, tail_of, form, lead, front, points_on, points_from, decode, decoded_at}
@@ -139,15 +139,6 @@ points_rest [] ds t i p = rw (add-zero i) p
 points_rest (c ∷ cs) ds t i p =
     let e : i + (size c + sizes cs) ≡ i + size c + sizes cs = omega arith in
     rw e (points_rest cs ds t (i + size c) (points_next t i c (cs ++ ds) p))
-
-pub points_in : (cs ds t : List ℕ) (i : ℕ) → i ≤ length t → decode (drop i t) ≡ cs ++ ds → i + sizes cs ≤ length t
-unfolding sizes
-points_in [] ds t i h p = omega arith
-points_in (c ∷ cs) ds t i h p = omega (arith, points_in cs ds t (i + size c) (points_le t i c (cs ++ ds) p) (points_next t i c (cs ++ ds) p))
-
--- all the code points from a place on end within the text
-pub decode_in : (t : List ℕ) (i : ℕ) → i ≤ length t → i + sizes (decode (drop i t)) ≤ length t
-decode_in t i h = points_in (decode (drop i t)) [] t i h (sym (append-nil (decode (drop i t))))
 
 -- ---- where `char_at` answers None, the end and a place where no character stands are told apart by the length
 module _ where

@@ -9,7 +9,8 @@ use mathlib.Core.List.{List, [], ◌∷◌, ◌++◌}
 use lib.Dec.{leb, ltb, eqb}
 use borrow.Author.Tests.{lt-leb, le-leb, leb-true, ltb-true, eqb-true}
 use types.Run.{OneOf}
-use Rattle.chars.proofs.Tests.{split, lt-or-ge, or_cases, and_both, and_false}
+use Rattle.chars.proofs.Tests.{split, lt-or-ge, or_cases, and_both}
+use Rattle.std.proofs.lemmas.Bool.{and_right}
 use Rattle.chars.specs.Ranges.{Entry, row, rows, lookup, within}
 use Rattle.chars.specs.Class.{admitted}
 
@@ -35,7 +36,7 @@ low : (a b c : ℕ) → c < a → (leb a c && leb c b) ≡ false
 low a b c h = ap (λ (x : Bool). x && leb c b) (lt-leb a c h)
 
 high : (a b c : ℕ) → b < c → (leb a c && leb c b) ≡ false
-high a b c h = and_false (leb a c) (leb c b) (lt-leb c b h)
+high a b c h = and_right (leb a c) (leb c b) (lt-leb c b h)
 
 beside : (a c : ℕ) → (c ≡ a → ⊥) → (leb a c && leb c a) ≡ false
 beside a c f = ⊎_elim (λ (h : c < a). low a a c h) (λ (h : a ≤ c). high a a c (omega arith)) (lt-or-ge c a)

@@ -218,12 +218,11 @@ pub fn first_outside(text: &[u8]) -> Option<usize>
 
 // Eight bytes, or-ed together: below 80 where all are ASCII.
 #[tactic(auto, unfolding(crate::specs::Blocks::ors))]
-fn eight(text: &[u8], at: usize) -> u8
-    requires { at + 8 ≤ length text.now }
-    ensures { result ≡ ors text.now at }
+fn eight(block: &[u8; 8]) -> u8
+    ensures { result ≡ ors block.now 0 }
 {
-    let x = text[at] | (text[at + 1] | (text[at + 2] | text[at + 3]));
-    x | (text[at + 4] | (text[at + 5] | (text[at + 6] | text[at + 7])))
+    let x = block[0] | (block[1] | (block[2] | block[3]));
+    x | (block[4] | (block[5] | (block[6] | block[7])))
 }
 
 // The place behind two bytes, if they are ASCII; else that of the first.
@@ -250,7 +249,7 @@ fn ascii_blocks(text: &[u8], at: usize) -> usize
         return ascii_two(text, at);
     }
     let (blocks, _) = text[at..].as_chunks::<8>();
-    let other = blocks.iter().position(|b| 0x80 <= eight(b, 0));
+    let other = blocks.iter().position(|b| 0x80 <= eight(b));
     at + 8 * other.unwrap_or(blocks.len())
 }
 

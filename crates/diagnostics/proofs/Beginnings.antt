@@ -4,14 +4,12 @@ use mathlib.Core.Bool.{false}
 use mathlib.Core.List.{List, ◌++◌, map}
 use Prim.Native.Nat.{ℕ, ◌≤◌}
 use native.Mathlib.Omega.{arith}
-use lib.ListN.{length, length-map}
+use lib.ListN.{length}
 use Rattle.chars.specs.Utf8.{decode}
 use Rattle.lexer.specs.Tokens.{tokens}
 use Rattle.tokens.specs.declared.Token.{Token}
 use Rattle.parser.specs.Meaning.{token_of}
 use Rattle.diag.specs.declared.Diagnostic.{Diagnostic}
-use Rattle.language.specs.Lines.{read_lines}
-use Rattle.language.specs.Assembly.{diagnostics_of}
 use Rattle.assembler.specs.declared.Assembled.{Assembled}
 use Rattle.assembler.specs.Rows.{rows}
 use Rattle.assembler.specs.Entries.{Entry, entries}
@@ -20,14 +18,13 @@ use Rattle.assembler.specs.Failures.{line_errors}
 use Rattle.assembler.specs.Declarations.{undeclared, declarations}
 use Rattle.assembler.specs.Finals.{finals_errors, Laid}
 use Rattle.assembler.specs.Rules.{no_rules, rule_errors}
-use Rattle.assembler.specs.Records.{record_of, records_of}
 use Rattle.assembler.specs.Assembled.{Tokenized, Outcome, row_diagnostics, words_from, marks_from}
 use Rattle.assembler.proofs.Rows.{length-rows}
 use Rattle.assembler.proofs.AssembledLaws.{row_mean, passes_laid}
 use Rattle.diagnostics.specs.declared.Pass.TheVariants.{Failures}
 use Rattle.diagnostics.specs.declared.Search.{Search}
 use Rattle.diagnostics.specs.Repeats.{name_errors}
-use Rattle.diagnostics.specs.Pending.{pending_in, pending, passes_left}
+use Rattle.diagnostics.specs.Pending.{pending_in, passes_left}
 use Rattle.diagnostics.specs.Stands.{Started}
 use Rattle.diagnostics.proofs.RepeatLaws.{repeats}
 
@@ -70,8 +67,3 @@ started text count w₀ w log₀ log r p o =
       };
       whole = row_found text (rows count w) count r size (omega (arith, laid.few)) o.first ∙ ap (row_diagnostics text) row ∙ row_mean text few;
     }
-
--- as many as there are errors
-pub started_count : (text : List ℕ) (count : ℕ) (w₀ w : List ℕ) (s : Search) → Started text count w₀ w s → s.errors ≡ length (pending text w s)
-unfolding records_of
-started_count text count w₀ w s b = b.errors ∙ sym (ap length b.whole ∙ length-map (diagnostics_of (read_lines (decode text))) record_of)

@@ -1,5 +1,5 @@
 -- Laws of the loop of `next`: as long as nothing is found, what is to be found stays the same.
-use mathlib.Core.Path.{◌≡◌, refl, ap, subst, ◌∙◌}
+use mathlib.Core.Path.{◌≡◌, ap, subst, ◌∙◌}
 use Rattle.std.specs.Prelude.{None, Some}
 use mathlib.Core.List.{List, [], ◌∷◌, ◌++◌}
 use Prim.Native.Nat.{ℕ, ◌≤◌, ◌<◌}
@@ -17,9 +17,6 @@ pub record Going (text w₀ : List ℕ) (s : Search) (w : List ℕ) (q : Search)
   pub stands : Stands text w q
   pub some : 1 ≤ length (pending text w q)
   pub size : length w ≡ length w₀
-
-pub going_start : (text w : List ℕ) (s : Search) → Stands text w s → 1 ≤ length (pending text w s) → Going text w s w s
-going_start text w s st h = record { same = refl; stands = st; some = h; size = refl }
 
 took_none : (r : Step) → r.found ≡ None → taken r ≡ []
 unfolding taken

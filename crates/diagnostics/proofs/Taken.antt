@@ -1,25 +1,15 @@
 -- Laws of a log of one record: what it was given is what the step that reads it took.
 use mathlib.Core.Path.{◌≡◌, ap, ◌∙◌}
 use mathlib.Core.List.{List, [], ◌∷◌}
-use Prim.Native.Nat.{ℕ, ◌*◌, ◌≤◌}
+use Prim.Native.Nat.{ℕ, ◌≤◌}
 use native.Mathlib.Omega.{arith}
-use borrow.Author.Tests.{eq-eqb, ne_eqb}
-use Rattle.std.specs.Prelude.{None, Some}
 use lib.ListN.{length, replicate}
 use Rattle.diag.specs.declared.Diagnostic.{Diagnostic}
 use Rattle.diag.specs.declared.log.Log as D
-use Rattle.diag.specs.Log.{record_from, Log, logged, appended, append_all}
+use Rattle.diag.specs.Log.{Log, logged, appended, append_all}
 use Rattle.diag.specs.Appends.{Appends}
 use Rattle.diagnostics.specs.declared.Search.{Search}
-use Rattle.diagnostics.specs.declared.Step.{Step}
 use Rattle.diagnostics.specs.Cursor.{stepped, taken}
-
--- the parts that functions make
-pub step_one : (s : Search) (log : List ℕ) (n : ℕ) (d : Diagnostic) → n ≡ 1 → d ≡ record_from log (5 * 0) → ◌≡◌ {A = Step} (record { search = s; found = Some d }) (stepped s log n)
-step_one s log n d h e = rw (eq-eqb n 1 h) (ap (λ (d : Diagnostic). record { search = s; found = Some d }) e)
-
-pub step_none : (s : Search) (log : List ℕ) (n : ℕ) → (n ≡ 1 → ⊥) → ◌≡◌ {A = Step} (record { search = s; found = None }) (stepped s log n)
-step_none s log n h = rw (ne_eqb n 1 h)
 
 -- a log of one record
 log-none : (g : List ℕ) (n : ℕ) → logged g n ≡ logged (replicate 5 0) 0 → (s : Search) → taken (stepped s g n) ≡ []

@@ -23,7 +23,7 @@ pub enum Pass {
 }
 
 // How far a search has come: what assembly found, the pass, the index of the token to look at, and the rules so far. What assembly found is no Assembled
-// here, since the steps and their contracts look at its parts one by one.
+// here: no function takes it whole on the way, so that steps, contracts and definitions would only name one field more; who enters puts it together again.
 #[derive(Clone, Copy)]
 pub struct Search {
     pub count: usize,

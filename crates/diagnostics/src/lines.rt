@@ -1,5 +1,7 @@
 // One line of a pass, or one token of F's line: its diagnostic by a log of one record, and the search behind it.
 // Tokens and search stay two parameters: the search is handed on by value, and the tokens are a part of work that is borrowed for one step.
+// Four functions make the row and the log in the same way: one over a closure that appends would have to say in its contract what a call appends and, for
+// F, how it leaves the marks.
 ghost use Rattle.std.specs.Prelude.{◌≡◌, List, ◌++◌, ℕ, ◌+◌, ◌≤◌, ◌<◌, ◌^◌, length};
 ghost use Rattle.diag.specs.Appends.{Appends};
 ghost use Rattle.tokens.specs.Row.{peek};

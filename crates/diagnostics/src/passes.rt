@@ -1,6 +1,8 @@
 // One step of a search: over a line of a pass, or on to the next pass.
 // Text, work and search stay three parameters: of a struct with all of them, lent to be written, each contract would also say that it keeps the text
 // and the loan of work. So what holds while a search runs, `Stands`, is said of the three.
+// The tokens of work are put together where a step reads them, from the words that are lent then: a function for it would ask that they have room for the
+// tokens, and say what it put where.
 ghost use Rattle.std.specs.Prelude.{◌≤◌, ◌<◌, ◌≡◌, length, get_or};
 ghost use Rattle.diagnostics.specs.Cursor.{onward};
 ghost use Rattle.diagnostics.specs.Pending.{pending};
@@ -23,7 +25,7 @@ fn onward(s: Search, pass: Pass, at: usize) -> Step
     }
 }
 
-// Of the failed lines.
+// Of the failed lines. This and at_names are two: behind the failed lines work is left as it is, behind the declarations F's pass writes marks in it.
 fn at_failures(text: &[u8], work: &[u32], s: Search) -> Step
     requires { Stands text.now work.now s × (s.pass ≡ Pass.Failures) }
     ensures { Stepped text.now work.now work.now s result }

@@ -10,8 +10,6 @@ use borrow.Rule.Slice.PartMut.{put_mid, Post-is}
 use lib.Seq.{sets, sets-eq, length-sets, set_out}
 use Rattle.chars.proofs.Tests.{lt-or-ge}
 use Rattle.emit.specs.Output.{Output, output, counted, appended}
-use Rattle.emit.specs.declared.Output as D
-use Rattle.emit.specs.Appends.{held, Appends}
 
 -- ---- a run of stores
 
@@ -71,16 +69,6 @@ appended-front row a s h =
 pub appended_empty : (at : ℕ) (a : List ℕ) → appended (output [] at) a ≡ output [] (counted at (length a))
 unfolding appended
 appended_empty at a = ap (λ (l : List ℕ). output l (counted at (length a))) (sets_out a [] at (omega arith))
-
--- ---- the same of an output that was lent
-
--- nothing is appended by doing nothing, and bytes by one call go before those by the next
-pub Appends-nil : (o : D.Output) → Row (held o) → o.at < 18446744073709551616 → Appends [] o o
-Appends-nil o s h = record { appends = sym (appended-nil (held o) h); same_row = refl; short = s }
-
-pub Appends-append : (o : D.Output) (a b : List ℕ) (p r : D.Output) → Appends a o p → Appends b p r → Appends (a ++ b) o r
-Appends-append o a b p r u v =
-    record { appends = v.appends ∙ ap (λ x. appended x b) u.appends ∙ appended-append (held o) u.short a b; same_row = v.same_row ∙ u.same_row; short = u.short }
 
 -- ---- a byte
 

@@ -1,12 +1,12 @@
 -- Laws of the index: a word entered in its table.
-use mathlib.Core.Path.{◌≡◌, refl, sym, ap, subst, ◌∙◌}
+use mathlib.Core.Path.{◌≡◌, sym, ap, subst, ◌∙◌}
 use mathlib.Core.Bool.{true, false}
 use mathlib.Core.List.{List, [], ◌∷◌}
 use Prim.Native.Nat.{ℕ, ◌+◌, ◌-◌, ◌≤◌, ◌<◌}
 use native.Mathlib.Omega.{arith}
 use borrow.Author.Tests.{eq-eqb, ne_eqb, eqb-true, ltb-true, ltb-false}
 use lib.Dec.{eqb, ltb}
-use lib.ListN.{length, get_or, take, drop, set, replicate, length-take, length-drop, length-replicate, get_or-replicate, get_or-eq_default}
+use lib.ListN.{length, get_or, take, drop, set, length-take, length-drop}
 use lib.Seq.{get_or-set_same, get_or-set_other, get_or-take, get_or-drop}
 use Rattle.std.specs.Prelude.{Option, None, Some}
 use Rattle.std.specs.Option.{unwrap_or}
@@ -234,18 +234,3 @@ module _ (text : List ℕ) (ts : List Token) (letters span window : ℕ) (row sl
       entered text ts letters span row slots x ix inside word long s d own (by_name (get_or slots (s + d) 0) ∙ ap (stops text ts name) (sym (at d short)) ∙ ends)
       (λ i h. by_name (get_or slots (s + i) 0) ∙ ap (stops text ts name) (sym (at i (omega arith))) ∙ p.2 i h)
       (omega arith) (λ c l q. absurd (omega arith)) row' slots' er es
-
--- ---- an empty table, and one that holds all words
-zero_at : (n j v : ℕ) → v ≡ 0 → get_or (replicate n v) j 0 ≡ 0
-zero_at n j v e =
-    by_test_lem (ltb j n) (λ t. get_or-replicate n j v 0 (ltb-true j n t) ∙ e) (λ t. get_or-eq_default (replicate n v) 0 {n = j} (omega (arith, ltb-false j n t, length-replicate n v)))
-
-pub index_start : (text : List ℕ) (ts : List Token) (letters span n : ℕ) (row : List ℕ) → IndexOf text ts letters span 0 row (replicate n 0)
-index_start text ts letters span n row =
-    record {
-      names = λ x h e. absurd (omega arith);
-      held = λ j m. absurd (m (zero_at n j 0 refl));
-      reached = λ x h e. absurd (omega arith);
-      letter-word = λ c l m. absurd (m (zero_at n c 0 refl));
-      letter-part = λ c l m. absurd (m (zero_at n c 0 refl));
-    }

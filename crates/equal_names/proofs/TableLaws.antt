@@ -10,6 +10,7 @@ use lib.ListN.{length, get_or, take, drop, length-append, length-take, length-dr
 use lib.Seq.{drop-cons, take_all, take-append_seam, get_or-append-add}
 use Rattle.std.specs.Prelude.{Option, None, Some}
 use Rattle.std.specs.Option.{unwrap_or}
+use Rattle.std.specs.Int.{from_le_bytes, w32}
 use Rattle.std.proofs.lemmas.Option.{none-some}
 use Rattle.diag.proofs.Cases.{by_test_lem}
 use Rattle.lexer.specs.Places.{part}
@@ -19,6 +20,9 @@ use Rattle.equal_names.specs.Names.{has_name}
 use Rattle.equal_names.specs.Index.{step, rest_of, hash_from, letter_of, own_slot, front, final, hashed_slot, stops, filled}
 
 -- ---- the last bytes
+four : (a b c d : ℕ) → from_le_bytes w32 (a ∷ b ∷ c ∷ d ∷ []) ≡ a + b * 256 + c * 65536 + d * 16777216
+four a b c d = refl
+
 pub rest_0 : (l : List ℕ) → length l < 1 → 0 ≡ rest_of l
 unfolding rest_of
 rest_0 [] h = refl
@@ -30,20 +34,20 @@ rest_1 [] x g h e = absurd (omega arith)
 rest_1 (a ∷ []) x g h e = e
 rest_1 (a ∷ b ∷ r) x g h e = absurd (omega arith)
 
-pub rest_2 : (l : List ℕ) (x y : ℕ) → 2 ≤ length l → length l < 3 → x ≡ get_or l 0 0 → y ≡ get_or l 1 0 → x + y * 256 ≡ rest_of l
+pub rest_2 : (l : List ℕ) (x : ℕ) → 2 ≤ length l → length l < 3 → x ≡ from_le_bytes w32 (get_or l 0 0 ∷ get_or l 1 0 ∷ 0 ∷ 0 ∷ []) → x ≡ rest_of l
 unfolding rest_of
-rest_2 [] x y g h e f = absurd (omega arith)
-rest_2 (a ∷ []) x y g h e f = absurd (omega arith)
-rest_2 (a ∷ b ∷ []) x y g h e f = omega (arith, e, f)
-rest_2 (a ∷ b ∷ c ∷ r) x y g h e f = absurd (omega arith)
+rest_2 [] x g h e = absurd (omega arith)
+rest_2 (a ∷ []) x g h e = absurd (omega arith)
+rest_2 (a ∷ b ∷ []) x g h e = omega (arith, e, four a b 0 0)
+rest_2 (a ∷ b ∷ c ∷ r) x g h e = absurd (omega arith)
 
-pub rest_3 : (l : List ℕ) (x y z : ℕ) → 3 ≤ length l → length l < 4 → x ≡ get_or l 0 0 → y ≡ get_or l 1 0 → z ≡ get_or l 2 0 → x + y * 256 + z * 65536 ≡ rest_of l
+pub rest_3 : (l : List ℕ) (x : ℕ) → 3 ≤ length l → length l < 4 → x ≡ from_le_bytes w32 (get_or l 0 0 ∷ get_or l 1 0 ∷ get_or l 2 0 ∷ 0 ∷ []) → x ≡ rest_of l
 unfolding rest_of
-rest_3 [] x y z g h e f i = absurd (omega arith)
-rest_3 (a ∷ []) x y z g h e f i = absurd (omega arith)
-rest_3 (a ∷ b ∷ []) x y z g h e f i = absurd (omega arith)
-rest_3 (a ∷ b ∷ c ∷ []) x y z g h e f i = omega (arith, e, f, i)
-rest_3 (a ∷ b ∷ c ∷ d ∷ r) x y z g h e f i = absurd (omega arith)
+rest_3 [] x g h e = absurd (omega arith)
+rest_3 (a ∷ []) x g h e = absurd (omega arith)
+rest_3 (a ∷ b ∷ []) x g h e = absurd (omega arith)
+rest_3 (a ∷ b ∷ c ∷ []) x g h e = omega (arith, e, four a b c 0)
+rest_3 (a ∷ b ∷ c ∷ d ∷ r) x g h e = absurd (omega arith)
 
 pub rest_more : (l : List ℕ) → 4 ≤ length l → 0 ≡ rest_of l
 unfolding rest_of
@@ -62,17 +66,16 @@ hash-end h (a ∷ b ∷ []) q s v n e f g = f ∙ ap (step h) e ∙ g
 hash-end h (a ∷ b ∷ c ∷ []) q s v n e f g = f ∙ ap (step h) e ∙ g
 hash-end h (a ∷ b ∷ c ∷ d ∷ r) q s v n e f g = absurd (omega arith)
 
-pub hash-on : (h : ℕ) (l : List ℕ) (x y z w s v : ℕ) → 4 ≤ length l → x ≡ get_or l 0 0 → y ≡ get_or l 1 0 → z ≡ get_or l 2 0 → w ≡ get_or l 3 0
-    → s ≡ step h (x + y * 256 + z * 65536 + w * 16777216) → hash_from h l ≡ v → hash_from s (take (length l - 4) (drop 4 l)) ≡ v
+pub hash-on : (h : ℕ) (l : List ℕ) (q s v : ℕ) → 4 ≤ length l → q ≡ from_le_bytes w32 (get_or l 0 0 ∷ get_or l 1 0 ∷ get_or l 2 0 ∷ get_or l 3 0 ∷ [])
+    → s ≡ step h q → hash_from h l ≡ v → hash_from s (take (length l - 4) (drop 4 l)) ≡ v
 unfolding hash_from
-hash-on h [] x y z w s v n p q r t e g = absurd (omega arith)
-hash-on h (a ∷ []) x y z w s v n p q r t e g = absurd (omega arith)
-hash-on h (a ∷ b ∷ []) x y z w s v n p q r t e g = absurd (omega arith)
-hash-on h (a ∷ b ∷ c ∷ []) x y z w s v n p q r t e g = absurd (omega arith)
-hash-on h (a ∷ b ∷ c ∷ d ∷ l) x y z w s v n p q r t e g =
+hash-on h [] q s v n p e g = absurd (omega arith)
+hash-on h (a ∷ []) q s v n p e g = absurd (omega arith)
+hash-on h (a ∷ b ∷ []) q s v n p e g = absurd (omega arith)
+hash-on h (a ∷ b ∷ c ∷ []) q s v n p e g = absurd (omega arith)
+hash-on h (a ∷ b ∷ c ∷ d ∷ l) q s v n p e g =
     let all : take (length (a ∷ b ∷ c ∷ d ∷ l) - 4) l ≡ l = take_all (length (a ∷ b ∷ c ∷ d ∷ l) - 4) l (omega arith) in
-    let sum : x + y * 256 + z * 65536 + w * 16777216 ≡ a + b * 256 + c * 65536 + d * 16777216 = omega (arith, p, q, r, t) in
-    ap (hash_from s) all ∙ ap (λ (s : ℕ). hash_from s l) (e ∙ ap (step h) sum) ∙ g
+    ap (hash_from s) all ∙ ap (λ (s : ℕ). hash_from s l) (e ∙ ap (step h) (p ∙ four a b c d)) ∙ g
 
 -- ---- the slots
 pub own_none : (letters : ℕ) (l : List ℕ) → None ≡ letter_of l → None ≡ own_slot letters l

@@ -37,8 +37,8 @@ fn rest(name: &[u8]) -> usize
 {
     match name {
         [a] => usize::from(*a),
-        [a, b] => usize::from(*a) + usize::from(*b) * 256,
-        [a, b, c] => usize::from(*a) + usize::from(*b) * 256 + usize::from(*c) * 65536,
+        [a, b] => u32::from_le_bytes([*a, *b, 0, 0]) as usize,
+        [a, b, c] => u32::from_le_bytes([*a, *b, *c, 0]) as usize,
         _ => 0,
     }
 }
@@ -51,11 +51,7 @@ fn hash(name: &[u8]) -> usize
     let mut h = 0;
     let mut left = name;
     while let [a, b, c, d, behind @ ..] = left {
-        let low = usize::from(*a) + usize::from(*b) * 256;
-        h = step(
-            h,
-            low + usize::from(*c) * 65536 + usize::from(*d) * 16777216,
-        );
+        h = step(h, u32::from_le_bytes([*a, *b, *c, *d]) as usize);
         left = behind;
     }
     step(h, rest(left))

@@ -3,7 +3,7 @@ use Prim.Native.Nat.{ℕ, ◌≤◌, ◌<◌, min}
 use native.Mathlib.Omega.{arith}
 use mathlib.Core.List.{List, [], ◌++◌, append-nil}
 use mathlib.Core.Logic.{⊎_elim}
-use mathlib.Core.Path.{◌≡◌, sym, ap, ap₂, ◌∙◌}
+use mathlib.Core.Path.{◌≡◌, ap, ap₂, ◌∙◌}
 use borrow.Author.Tests.{lt-ltb, le-ltb}
 use lib.ListN.{length, take, drop, drop_of_length-le}
 use lib.Seq.{length-take-le}
@@ -23,10 +23,6 @@ use Rattle.std.specs.Prelude.{Ok, Err}
 use Rattle.reply.specs.declared.WriteAnswer.TheVariants.{Written}
 use Rattle.reply.specs.declared.WriteRefusal.TheVariants.{OutputTooShort}
 use Rattle.reply.specs.Answer.{write_in}
-
--- the first n of a row are n
-pub front-count : (n room : ℕ) (out : List ℕ) → n ≤ room → room ≡ min (length out) 4194304 → n ≡ length (take n out)
-front-count n room out h e = sym (length-take-le n out (omega (arith, h, e)))
 
 -- a text that was read, and its form
 module _ (t : List ℕ) (head : Head) (sheet : List ℕ) (r : ReadAs t (head_in head) sheet) (fits : length (form_of t) < 18446744073709551615) where

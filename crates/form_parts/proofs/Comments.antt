@@ -1,7 +1,6 @@
 -- Comments: whether there is a text behind the slashes.
 use mathlib.Core.Path.{◌≡◌, refl, sym, ap, ◌∙◌}
 use Prim.Native.Nat.{ℕ}
-use native.Mathlib.Omega.{arith}
 use mathlib.Core.Bool.{true, false, false≢true}
 use mathlib.Core.List.{List, [], ◌∷◌, ◌++◌}
 use lib.Dec.{eqb}
@@ -18,16 +17,13 @@ use Rattle.emit.specs.Appends.{Appends}
 use Rattle.pieces.specs.Writes.{Writes}
 use Rattle.form_parts.specs.Places.{bytes_at, Utf8At}
 use Rattle.pieces.proofs.Chain.{known, ◌▹◌}
-
-empty : (l : List ℕ) → length l ≡ 0 → l ≡ []
-empty [] h = refl
-empty (x ∷ l) h = absurd (omega arith)
+use Rattle.std.proofs.lemmas.List.{nil_from_length}
 
 module _ (text : List ℕ) (p : Span) (h : Utf8At text p) (bytes : List ℕ) (e : bytes ≡ bytes_at text p) (o : Output) where
   pub comment_empty : (r : Output) → true ≡ eqb (length bytes) 0 → Appends (0x2F ∷ 0x2F ∷ []) o r → Writes (comment (characters_at text p)) o r
   unfolding encode characters_at
   comment_empty r z a =
-      let q : characters_at text p ≡ [] = ap decode (sym e ∙ empty bytes (eqb-true (length bytes) 0 (sym z))) ∙ decode-nil in
+      let q : characters_at text p ≡ [] = ap decode (sym e ∙ nil_from_length bytes (eqb-true (length bytes) 0 (sym z))) ∙ decode-nil in
       rw q (known (0x2F ∷ 0x2F ∷ []) (λ rest. refl) a)
 
   pub comment_text_lem : (a r : Output) → false ≡ eqb (length bytes) 0 → Appends (0x2F ∷ 0x2F ∷ 0x20 ∷ []) o a → Appends bytes a r → Writes (comment (characters_at text p)) o r

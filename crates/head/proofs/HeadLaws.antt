@@ -1,6 +1,9 @@
 -- What closes a return of a function of the head: whether a line is declared is whether its index is that of a token.
-use Rattle.std.proofs.Common.{◌≡◌, refl, ℕ, ◌+◌, ◌-◌, ◌%◌, ◌^◌, ◌<◌, ◌≤◌, Bool, true, false, cond, ltb, Option, Some, None, List, length, get_or, sym, ap, ◌∙◌, le-leb}
-use borrow.Author.Tests.{lt-leb}
+use Rattle.std.proofs.Common.{◌≡◌, refl, ℕ, ◌+◌, ◌-◌, ◌<◌, ◌≤◌, Bool, true, false, cond, ltb, Option, Some, None, List, length, get_or, sym, ap, ◌∙◌, le-leb, arith}
+use borrow.Author.Tests.{lt-leb, lt-ltb, le-ltb}
+use Rattle.assembler.specs.Declarations.{line}
+use Rattle.assembler.proofs.FirstLines.{there-inside, there_is, none-outside, asked_is}
+use Rattle.std.specs.Option.{is_some}
 use Rattle.tokens.specs.declared.Token.{Token}
 use Rattle.parser.specs.Row.{peek}
 use Rattle.diag.specs.declared.Span.{Span}
@@ -15,9 +18,35 @@ use Rattle.machine.specs.declared.Head.{Head}
 use Rattle.sheet.specs.Rules.{no_span, resolve}
 use Rattle.head.specs.Heads.{said, place_at, text_of, text_at, kind_of, kind_at, decoder_of, decoder_at, tapes_at, blank_at, start_at, declared_in, map_in, head_at}
 
--- the place between quotes, from its two offsets
-pub text_of_lem : (t : Token) (a b : ℕ) → a ≡ (t.start + t.value) % 2 ^ 32 → b ≡ t.end - 1 → ◌≡◌ {A = Span} (record { start = a; end = b }) (text_of t)
-text_of_lem t a b p q = rw (p, q)
+-- ---- what is said, by the line of a first declaration
+module _ (ts : List Token) (f n : ℕ) (o : Option ℕ) (told : o ≡ line n f) (size : n ≡ length ts) where
+  pub said-there : (i j : ℕ) (t : Token) → o ≡ Some i → t ≡ peek ts (i + j) → Some t ≡ said ts f j
+  unfolding said
+  said-there i j t is at =
+      let same : i ≡ f = there_is n f told is in
+      let low : f < length ts = omega (arith, there-inside n f told is, size) in
+      let e : t ≡ peek ts (f + j) = at ∙ ap (λ (k : ℕ). peek ts (k + j)) same in
+      rw (said, lt-ltb f (length ts) low) (ap (λ (t : Token). Some t) e)
+
+  pub said-absent : (j : ℕ) → o ≡ None → None ≡ said ts f j
+  unfolding said
+  said-absent j is =
+      let high : length ts ≤ f = omega (arith, none-outside n f told is, size) in
+      rw (said, le-ltb f (length ts) high)
+
+  module _ (b : Bool) (asked : b ≡ is_some o) (s r : Span) where
+    among : b ≡ ltb f (length ts)
+    among = asked_is n f told asked ∙ ap (λ (n : ℕ). ltb f n) size
+
+    pub start-there : b ≡ true → r ≡ place_at ts f 2 → r ≡ start_at ts f s
+    unfolding start_at
+    start-there y p = p ∙ sym (ap (λ (b : Bool). cond b (place_at ts f 2) s) (sym among ∙ y))
+
+    pub start-absent : b ≡ false → s ≡ start_at ts f s
+    unfolding start_at
+    start-absent x = sym (ap (λ (b : Bool). cond b (place_at ts f 2) s) (sym among ∙ x))
+
+pub ruleset said_laws = (said-there, said-absent, start-there, start-absent)
 
 -- ---- what is said of a line
 module _ (ts : List Token) (f j : ℕ) (o : Option Token) (e : o ≡ said ts f j) where
@@ -113,10 +142,13 @@ pub ruleset parts = (
 )
 
 -- ---- all parts
-pub declared_in_lem : (n : ℕ) (first : List ℕ) (a b c d e : ℕ) → a ≡ get_or first 5 0 → b ≡ get_or first 6 0 → c ≡ get_or first 7 0 → d ≡ get_or first 9 0 → e ≡ get_or first 8 0
-    → ◌≡◌ {A = Declared} (record { states = ltb a n; input_alphabet = ltb b n; tape_alphabet = ltb c n; start = ltb d n; blank = ltb e n }) (declared_in n first)
+pub declared_in_lem : (n : ℕ) (first : List ℕ) (a b c d e : Bool) → a ≡ ltb (get_or first 5 0) n → b ≡ ltb (get_or first 6 0) n → c ≡ ltb (get_or first 7 0) n
+    → d ≡ ltb (get_or first 9 0) n → e ≡ ltb (get_or first 8 0) n
+    → ◌≡◌ {A = Declared} (record { states = a; input_alphabet = b; tape_alphabet = c; start = d; blank = e }) (declared_in n first)
 unfolding declared_in
 declared_in_lem n first a b c d e p q r s t = rw (p, q, r, s, t)
+
+pub ruleset declarations = (declared_in_lem, asked_is)
 
 pub map_in_lem : (ts : List Token) (first : List ℕ) (a b c d e : Span) → a ≡ place_at ts (get_or first 1 0) 0 → b ≡ place_at ts (get_or first 2 0) 1 → c ≡ place_at ts (get_or first 4 0) 2
     → d ≡ place_at ts (get_or first 9 0) 2 → e ≡ place_at ts (get_or first 5 0) 0 → ◌≡◌ {A = SourceMap} (record { kind = a; input = b; tapes = c; start = d; states = e }) (map_in ts first)

@@ -6,11 +6,12 @@ ghost use Rattle.tokens.specs.Listed.{tokens_of};
 ghost use Rattle.head.specs.Heads.{said, place_at, text_of, text_at, kind_of, kind_at, order_of, decoder_of, decoder_at};
 ghost use Rattle.head.specs.Heads.{tapes_at, blank_at, start_at, declared_in, map_in, head_at};
 
+use assembler::declarations::line;
 use lexer::keyword;
 use machine::{BitOrder, Counts, Declared, Decoder, Head, Kind, SourceMap, Span};
 use parser::ItemKind;
 use sheet::rules;
-use tokens::{Token, Tokens};
+use tokens::{Token, Tokens, span_of};
 
 // The blank unless another is declared.
 pub const BLANK: u32 = 0x2423;
@@ -19,13 +20,15 @@ pub const BLANK: u32 = 0x2423;
 // are no methods of it.
 
 // The token j behind the first of the line f, if there is such a line.
-#[tactic(auto, using(chars::proofs::Tests::tests), unfolding(crate::specs::Heads::said))]
+#[tactic(auto, using(crate::proofs::HeadLaws::said_laws))]
 fn said(tokens: &Tokens, f: u32, j: usize) -> Option<Token>
     requires { j ≤ 2 }
     ensures { result ≡ said (tokens_of tokens.now) f j }
 {
-    let i = f as usize;
-    (i < tokens.len()).then_some(tokens.at(i + j))
+    let Some(i) = line(f, tokens.len()) else {
+        return None;
+    };
+    Some(tokens.at(i + j))
 }
 
 // Its place.
@@ -34,10 +37,7 @@ fn place_at(tokens: &Tokens, f: u32, j: usize) -> Span
     requires { j ≤ 2 }
     ensures { result ≡ place_at (tokens_of tokens.now) f j }
 {
-    match said(tokens, f, j) {
-        Some(Token { start, end, .. }) => Span { start, end },
-        None => Span::NONE,
-    }
+    said(tokens, f, j).map_or(Span::NONE, span_of)
 }
 
 // The place of the string that the line f declares, between its quotes.
@@ -45,10 +45,7 @@ fn place_at(tokens: &Tokens, f: u32, j: usize) -> Span
 fn text_at(tokens: &Tokens, f: u32) -> Span
     ensures { result ≡ text_at (tokens_of tokens.now) f }
 {
-    match said(tokens, f, 1) {
-        Some(t) => text_of(t),
-        None => Span::NONE,
-    }
+    said(tokens, f, 1).map_or(Span::NONE, text_of)
 }
 
 // The kind that the line f declares.
@@ -56,10 +53,7 @@ fn text_at(tokens: &Tokens, f: u32) -> Span
 fn kind_at(tokens: &Tokens, f: u32) -> Kind
     ensures { result ≡ kind_at (tokens_of tokens.now) f }
 {
-    match said(tokens, f, 1) {
-        Some(t) => kind_of(t.value),
-        None => Kind::Transducer,
-    }
+    said(tokens, f, 1).map_or(Kind::Transducer, |t| kind_of(t.value))
 }
 
 // The decoder that the line f declares.
@@ -85,15 +79,14 @@ fn tapes_at(tokens: &Tokens, f: u32) -> u8
 }
 
 // The place of the start's name, s where the line f declares none.
-#[tactic(auto, using(chars::proofs::Tests::tests), unfolding(crate::specs::Heads::start_at))]
+#[tactic(auto, using(crate::proofs::HeadLaws::said_laws))]
 fn start_at(tokens: &Tokens, f: u32, s: Span) -> Span
     ensures { result ≡ start_at (tokens_of tokens.now) f s }
 {
-    if (f as usize) < tokens.len() {
-        place_at(tokens, f, 2)
-    } else {
-        s
+    if line(f, tokens.len()).is_some() {
+        return place_at(tokens, f, 2);
     }
+    s
 }
 
 // Where the parts are declared.
@@ -158,16 +151,16 @@ fn decoder_of(blank: u32, v: u32, t: Token) -> Decoder
 }
 
 // Which parts are declared.
-#[tactic(auto, using(chars::proofs::Tests::tests), unfolding(crate::specs::Heads::declared_in))]
+#[tactic(auto, using(crate::proofs::HeadLaws::declarations))]
 fn declared_in(count: usize, first: &[u32; 11]) -> Declared
     ensures { result ≡ declared_in count first.now }
 {
     Declared {
-        states: (first[ItemKind::States as usize] as usize) < count,
-        input_alphabet: (first[ItemKind::InputAlphabet as usize] as usize) < count,
-        tape_alphabet: (first[ItemKind::TapeAlphabet as usize] as usize) < count,
-        start: (first[ItemKind::Start as usize] as usize) < count,
-        blank: (first[ItemKind::Blank as usize] as usize) < count,
+        states: line(first[ItemKind::States as usize], count).is_some(),
+        input_alphabet: line(first[ItemKind::InputAlphabet as usize], count).is_some(),
+        tape_alphabet: line(first[ItemKind::TapeAlphabet as usize], count).is_some(),
+        start: line(first[ItemKind::Start as usize], count).is_some(),
+        blank: line(first[ItemKind::Blank as usize], count).is_some(),
     }
 }
 
@@ -176,10 +169,7 @@ fn declared_in(count: usize, first: &[u32; 11]) -> Declared
 pub fn blank_at(tokens: &Tokens, f: u32) -> u32
     ensures { result ≡ blank_at (tokens_of tokens.now) f }
 {
-    match said(tokens, f, 2) {
-        Some(t) => rules::resolve(BLANK, t),
-        None => BLANK,
-    }
+    said(tokens, f, 2).map_or(BLANK, |t| rules::resolve(BLANK, t))
 }
 
 // The head, given the place of the first state and the section counts.

@@ -2,16 +2,16 @@
 use mathlib.Core.Path.{◌≡◌, refl, sym, ap, subst, ◌∙◌}
 use mathlib.Core.Bool.{Bool, true, false, cond}
 use mathlib.Core.List.{List, [], ◌∷◌, ◌++◌}
-use Prim.Native.Nat.{ℕ, zero, suc, ◌+◌, ◌*◌, ◌≤◌, ◌<◌}
+use Prim.Native.Nat.{ℕ, ◌+◌, ◌*◌, ◌≤◌, ◌<◌}
 use native.Mathlib.Omega.{arith}
 use borrow.Author.Tests.{lt-ltb, le-ltb, eq-eqb, ne_eqb}
 use lib.Dec.{eqb}
 use lib.ListN.{length, length-append}
 use Rattle.tokens.specs.declared.Token.{Token}
 use Rattle.parser.specs.Row.{peek}
-use Rattle.assembler.specs.Entries.{Entry, entry_at, behind, entries_from, entries}
+use Rattle.assembler.specs.Entries.{Entry, entry_at, behind, entries}
 use Rattle.assembler.specs.Feeds.{AllFed}
-use Rattle.assembler.proofs.Rows.{entries_at, entries-step, entries-end, fed_on}
+use Rattle.assembler.proofs.Rows.{entries_at, entries-step, entries-end, entries_few, fed_on}
 use Rattle.sheet.specs.declared.put.Sheet.{Sheet}
 use Rattle.infer.specs.declared.names.Names.{Names}
 use Rattle.infer.specs.Names.{row_of, Named}
@@ -93,16 +93,9 @@ unfolding mentions
 mentions_few ts [] = omega arith
 mentions_few ts (e ∷ es) = omega (arith, length-append (mention ts e) (mentions ts es), mention_few ts e, mentions_few ts es)
 
-entries_few : (k i : ℕ) (ts : List Token) → length (entries_from k i ts) ≤ length ts
-unfolding entries_from
-entries_few zero i [] = omega arith
-entries_few (suc k) i [] = omega arith
-entries_few (suc k) i (t ∷ ts) = omega (arith, entries_few k (suc i) ts)
-entries_few zero i (t ∷ ts) = omega (arith, entries_few (behind i t) (suc i) ts)
-
 pub mentions-all : (ts : List Token) → length (mentions ts (entries ts)) ≤ 2 * length ts
 unfolding entries
-mentions-all ts = omega (arith, mentions_few ts (entries ts), entries_few 0 0 ts)
+mentions-all ts = omega (arith, mentions_few ts (entries ts), entries_few ts)
 
 -- ---- a declared start
 pub start_none : (ts : List Token) (s : ℕ) → length ts ≤ s → start_name ts s ≡ []

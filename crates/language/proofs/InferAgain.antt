@@ -6,6 +6,7 @@ use mathlib.Core.Option.{Option, none, some}
 use mathlib.Core.Path.{◌≡◌, refl, ap, ap₂, ◌∙◌, sym, fun_ext}
 use borrow.Author.Tests.{eqb-true, eq-eqb}
 use lib.Dec.{eqb, leb}
+use Rattle.std.proofs.Math.Bool.{and-true, and-false}
 use Rattle.lexer.specs.Text.{same}
 use Rattle.language.specs.Machine.{Decoder, as_word, as_unary, as_binary}
 use Rattle.language.specs.Content.{StateContent, RuleContent, Content}
@@ -171,21 +172,13 @@ marked_ext f g known (q ∷ l) h =
 
 -- ---- members
 
-and_false : (a : Bool) → (a && false) ≡ false
-and_false true = refl
-and_false false = refl
-
-and_true : (a : Bool) → (a && true) ≡ a
-and_true true = refl
-and_true false = refl
-
 member_keep : (f : Test) (l : Names) (x : List ℕ) → member same (keep f l) x ≡ (member same l x && f x)
 unfolding member keep
 member_keep f [] x = refl
 member_keep f (y ∷ l) x = by_test (same y x)
     (λ e. by_test (f y)
     (λ g. rw (g, keep) (rw (e, sym (ap f (same-eq y x e)) ∙ g)))
-    (λ g. rw (g, keep) (member_keep f l x ∙ (ap (λ b. member same l x && b) (sym (ap f (same-eq y x e)) ∙ g) ∙ (and_false (member same l x) ∙ rw (e, sym (ap f (same-eq y x e)) ∙ g))))))
+    (λ g. rw (g, keep) (member_keep f l x ∙ (ap (λ b. member same l x && b) (sym (ap f (same-eq y x e)) ∙ g) ∙ (and-false (member same l x) ∙ rw (e, sym (ap f (same-eq y x e)) ∙ g))))))
     (λ e. by_test (f y) (λ g. rw (g, keep) (rw e (member_keep f l x))) (λ g. rw (g, keep) (rw e (member_keep f l x))))
 
 member-fresh : (p : Test) (l : Names) (x : List ℕ) → member same (fresh same p l) x ≡ (member same l x && not (p x))
@@ -193,7 +186,7 @@ unfolding member fresh
 member-fresh p [] x = refl
 member-fresh p (y ∷ l) x = by_test (same y x)
     (λ e. by_test (p y)
-    (λ g. rw (g, fresh) (member-fresh p l x ∙ (ap (λ b. member same l x && not b) (sym (ap p (same-eq y x e)) ∙ g) ∙ (and_false (member same l x) ∙ rw (e, sym (ap p (same-eq y x e)) ∙ g)))))
+    (λ g. rw (g, fresh) (member-fresh p l x ∙ (ap (λ b. member same l x && not b) (sym (ap p (same-eq y x e)) ∙ g) ∙ (and-false (member same l x) ∙ rw (e, sym (ap p (same-eq y x e)) ∙ g)))))
     (λ g. rw (g, fresh) (rw (e, sym (ap p (same-eq y x e)) ∙ g))))
     (λ e. by_test (p y)
     (λ g. rw (g, fresh) (rw e (member-fresh p l x)))
@@ -203,8 +196,8 @@ member-fresh p (y ∷ l) x = by_test (same y x)
 final_again : (f : Test) (l : Names) → Every (λ q. member same (fresh same nothing (final_names (marked_c f nothing l))) q ≡ f q) l
 final_again f l = every_impl (λ q. member same l q ≡ true) (λ q. member same (fresh same nothing (final_names (marked_c f nothing l))) q ≡ f q) (λ q e.
     ap (λ t. member same (fresh same nothing t) q) (finals_keep f nothing l)
-    ∙ (member-fresh nothing (keep f (fresh same nothing l)) q ∙ (and_true (member same (keep f (fresh same nothing l)) q)
-    ∙ (member_keep f (fresh same nothing l) q ∙ ap (λ b. b && f q) (member-fresh nothing l q ∙ (and_true (member same l q) ∙ e)))))) l (member_self l)
+    ∙ (member-fresh nothing (keep f (fresh same nothing l)) q ∙ (and-true (member same (keep f (fresh same nothing l)) q)
+    ∙ (member_keep f (fresh same nothing l) q ∙ ap (λ b. b && f q) (member-fresh nothing l q ∙ (and-true (member same l q) ∙ e)))))) l (member_self l)
 
 pub states_again : (f : Test) (l : Names) → marked_c (member same (fresh same nothing (final_names (marked_c f nothing l)))) nothing l ≡ marked_c f nothing l
 states_again f l = marked_ext (member same (fresh same nothing (final_names (marked_c f nothing l)))) f nothing l (final_again f l)

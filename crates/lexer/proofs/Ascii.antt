@@ -14,7 +14,8 @@ use Rattle.chars.specs.declared.Class.TheVariants.{Letter, Other}
 use Rattle.chars.proofs.Tests.{lt-or-ge, or_cases, and_both}
 use Rattle.chars.proofs.Segments.{has, over, one_over, Not, no_none, no_more, all_of}
 use Rattle.lexer.specs.Tokens.{is_word_continue, is_ascii_digit, is_whitespace}
-use Rattle.lexer.proofs.Scans.{by_test, digit_range}
+use Rattle.diag.proofs.Cases.{by_test_lem as by_test}
+use Rattle.lexer.proofs.Scans.{digit_range}
 use Rattle.lexer.proofs.Keywords.{all_below, all_below_lem}
 
 -- two tests agree

@@ -13,7 +13,7 @@ use borrow.Author.Tests.{eqb-true, eq-eqb, ne_eqb, leb-true, leb-false}
 use Rattle.chars.specs.Utf8.{decode}
 use Rattle.lexer.specs.Places.{Found, Tok, piece}
 use Rattle.lexer.specs.Quick.{lead_of, leads_from, leads, WordAt, QuickAt, quick_value, quick_piece, comma_words, WordPut}
-use Rattle.lexer.proofs.Scans.{by_test}
+use Rattle.diag.proofs.Cases.{by_test_lem as by_test}
 use Rattle.lexer.proofs.Leads.{ascii_at, quick_lead}
 use Rattle.lexer.proofs.Writes.{State, word_end_in, token_falls, state_token, state_quick}
 

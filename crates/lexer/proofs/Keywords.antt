@@ -15,7 +15,7 @@ use Rattle.chars.proofs.Segments.{has, Not, no_none, no_more}
 use Rattle.lexer.specs.Text.{same}
 use Rattle.lexer.specs.Words.{keyword_bytes, position, numbered, keywords_of, number_in}
 use Rattle.lexer.specs.Places.{part}
-use Rattle.lexer.proofs.Scans.{by_test}
+use Rattle.diag.proofs.Cases.{by_test_lem as by_test}
 
 -- ---- equality of lists of numbers
 pub same_true : (a b : List ℕ) → same a b ≡ true → a ≡ b

@@ -14,13 +14,15 @@ use Rattle.chars.specs.Class.{class_of}
 use Rattle.chars.specs.declared.Class.{Class}
 use Rattle.chars.specs.declared.Class.TheVariants.{Letter, Digit, Space, Sign, Other}
 use Rattle.chars.proofs.Tests.{lt-or-ge}
+use Rattle.std.proofs.lemmas.Bool.{not-true}
 use Rattle.chars.proofs.Laws.{decode-end}
 use Rattle.chars.proofs.Blocks.{ascii_decode}
 use Rattle.lexer.specs.Tokens.{sign, tok, is_digit, is_ascii_digit, is_word_continue, run, word_step, number_step, step}
 use Rattle.lexer.specs.Words.{sign_number, position, keyword_bytes, value_from, value}
 use Rattle.lexer.specs.Places.{part, Found, Tok, piece_of, piece}
 use Rattle.lexer.specs.Quick.{other_lead, lead_of, leads_from, leads, AsciiAt, EndsAt, WordAt, QuickAt, quick_value, quick_piece}
-use Rattle.lexer.proofs.Scans.{by_test, run_true, run_false, run-nil, sizes-nil, digit_range}
+use Rattle.diag.proofs.Cases.{by_test_lem as by_test}
+use Rattle.lexer.proofs.Scans.{run_true, run_false, run-nil, sizes-nil, digit_range}
 use Rattle.lexer.proofs.Keywords.{all_below, all_below_lem}
 use Rattle.lexer.proofs.Pieces.{word-one, word_long, number_token, step_class, step-word, step_sign, sign_token, piece_of_lem, from_feed, from_space}
 
@@ -49,19 +51,15 @@ leads_low : all_below (λ (c : ℕ). ltb (lead_of c) 18) 128 ≡ true
 unfolding lead_of
 leads_low = refl
 
-not_false : (b : Bool) → not b ≡ true → b ≡ false
-not_false true e = cc
-not_false false e = refl
-
 pub stop_word : (c : ℕ) → c < 128 → 3 ≤ lead_of c → is_word_continue c ≡ false
 stop_word c h l =
-    not_false (is_word_continue c)
+    not-true (is_word_continue c)
     (sym (ap (λ (b : Bool). cond b (not (is_word_continue c)) true) (le-leb 3 (lead_of c) l))
     ∙ all_below_lem (λ (x : ℕ). cond (leb 3 (lead_of x)) (not (is_word_continue x)) true) 128 stops c h)
 
 pub stop_number : (c : ℕ) → c < 128 → (lead_of c ≡ 1 → ⊥) → is_ascii_digit c ≡ false
 stop_number c h f =
-    not_false (is_ascii_digit c)
+    not-true (is_ascii_digit c)
     (sym (ap (λ (b : Bool). cond b true (not (is_ascii_digit c))) (ne_eqb (lead_of c) 1 f))
     ∙ all_below_lem (λ (x : ℕ). cond (eqb (lead_of x) 1) true (not (is_ascii_digit x))) 128 ends c h)
 
@@ -296,3 +294,6 @@ module _ (k b c : ℕ) (e : c ≡ b) where
 
 -- the value of a word of one character, and of a longer one
 pub ruleset values = (value-one, value_long)
+
+-- the value of a token of one ASCII character
+pub ruleset quick_values = (value_digit, value_none, value-code)

@@ -14,12 +14,14 @@ use Rattle.std.specs.List.{AllWithin, HoldsAt}
 use Rattle.std.specs.Option.{MatchOption}
 use Rattle.std.specs.Simd.{first_chunks}
 use Rattle.chars.proofs.Tests.{and_both}
+use Rattle.std.proofs.lemmas.Bool.{not-true}
 use Rattle.chars.proofs.Front.{char_at_ascii, rest_bytes}
-use Rattle.chars.proofs.Blocks.{many, in_blocks}
+use Rattle.chars.proofs.Blocks.{many, block_byte, in_blocks}
 use Rattle.lexer.specs.Tokens.{is_whitespace}
 use Rattle.lexer.specs.Places.{string_end}
-use Rattle.lexer.specs.Blocks.{plain_byte, inner_byte}
-use Rattle.lexer.proofs.Scans.{by_test, Lined, lined_white, lined_other, string-plain}
+use Rattle.lexer.specs.Blocks.{plain_byte, inner_byte, LineBlock}
+use Rattle.diag.proofs.Cases.{by_test_lem as by_test}
+use Rattle.lexer.proofs.Scans.{Lined, lined_start, lined_white, lined_other, string-plain}
 use Rattle.lexer.proofs.Ascii.{blank_dark}
 
 -- ---- the bytes
@@ -27,17 +29,13 @@ plain-range : (b : ℕ) → plain_byte b ≡ true → (0x20 ≤ b) × (b < 0x80)
 unfolding plain_byte
 plain-range b e = let w = and_both (leb 0x20 b) (ltb b 0x80) e in (leb-true 0x20 b w.0, ltb-true b 0x80 w.1)
 
-not_true : (b : Bool) → not b ≡ true → b ≡ false
-not_true true e = cc
-not_true false e = refl
-
 inner_range : (b : ℕ) → inner_byte b ≡ true → (0x20 ≤ b) × (b < 0x80) × (eqb b 0x22 ≡ false) × (eqb b 0x5C ≡ false)
 unfolding inner_byte
 inner_range b e =
     let w = and_both (plain_byte b && not (eqb b 0x22)) (not (eqb b 0x5C)) e in
     let u = and_both (plain_byte b) (not (eqb b 0x22)) w.0 in
     let v = plain-range b u.0 in
-    (v.0, v.1, not_true (eqb b 0x22) u.1, not_true (eqb b 0x5C) w.1)
+    (v.0, v.1, not-true (eqb b 0x22) u.1, not-true (eqb b 0x5C) w.1)
 
 -- ---- a line
 module _ (t : List ℕ) (at i : ℕ) (h : i < length t) (p : plain_byte (get_or t i 0) ≡ true) (last : ℕ) (st : Lined t at i last) where
@@ -63,32 +61,65 @@ module _ (t : List ℕ) (at i : ℕ) (h : i < length t) (p : plain_byte (get_or 
   line_blank e =
       lined_white t at i last (Some (get_or t i 0, i + 1)) here st (get_or t i 0) (i + 1) refl no_feed true (sym (ap is_whitespace e)) refl
 
-module _ (t : List ℕ) (at i last : ℕ) (h : 8 ≤ length t - i) (st : Lined t at i last) (e : (j : ℕ) → j < 8 → true ≡ plain_byte (get_or t (i + j) 0)) where
-  each-plain : (j : ℕ) → j < 8 → plain_byte (get_or t (i + j) 0) ≡ true
-  each-plain j l = sym (e j l)
+-- plain bytes up to a place: the line goes on there, and ends without white space behind the last that is no space
+module _ (t : List ℕ) (at : ℕ) (k : ℕ) (h : at + k ≤ length t) (each : (j : ℕ) → j < k → plain_byte (get_or t (at + j) 0) ≡ true) where
+  line-upto : (m : ℕ) → m ≤ k → (n : ℕ) × Lined t at (at + m) n
+  line-upto m l =
+      many t (λ (j : ℕ). (n : ℕ) × Lined t at j n) (λ (x : ℕ). plain_byte x ≡ true) (λ j g q s. line-any t at j g q s.0 s.1) m at (omega arith)
+      (λ (j : ℕ) (g : j < m). each j (omega arith)) (at, lined_start t at)
 
-  -- after k of them
-  after : (k : ℕ) → k ≤ 8 → (n : ℕ) × Lined t at (i + k) n
-  after k l =
-      many t (λ (j : ℕ). (n : ℕ) × Lined t at j n) (λ (x : ℕ). plain_byte x ≡ true) (λ j g q s. line-any t at j g q s.0 s.1) k i (omega arith)
-      (λ (j : ℕ) (g : j < k). each-plain j (omega arith)) (last, st)
+  line-end : (m : ℕ) → m + 1 ≡ k → (get_or t (at + m) 0 ≡ 0x20 → ⊥) → Lined t at (at + k) (at + k)
+  line-end m o f =
+      let s = line-upto m (omega arith) in
+      let z : at + m + 1 ≡ at + k = omega arith in
+      let w : Lined t at (at + m + 1) (at + m + 1) = line_dark t at (at + m) (omega arith) (each m (omega arith)) s.0 s.1 f in
+      rw z at w
 
-  pub line-eight : (get_or t (i + 7) 0 ≡ 0x20 → ⊥) → Lined t at (i + 8) (i + 8)
-  line-eight f =
-      let s = after 7 (omega arith) in
-      let o : i + 7 + 1 ≡ i + 8 = omega arith in
-      let w : Lined t at (i + 7 + 1) (i + 7 + 1) = line_dark t at (i + 7) (omega arith) (each-plain 7 (omega arith)) s.0 s.1 f in
-      rw o at w
+module _ (t : List ℕ) (at : ℕ) (k : ℕ) (h : at + k ≤ length t) (each : (j : ℕ) → j < k → plain_byte (get_or t (at + j) 0) ≡ true) where
+  line-blank : (m : ℕ) → m + 2 ≡ k → (get_or t (at + m) 0 ≡ 0x20 → ⊥) → get_or t (at + (m + 1)) 0 ≡ 0x20 → Lined t at (at + k) (at + (m + 1))
+  line-blank m o f g =
+      let z : at + (m + 1) + 1 ≡ at + k = omega arith in
+      let u : Lined t at (at + (m + 1)) (at + (m + 1)) = line-end t at (m + 1) (omega arith) (λ j l. each j (omega arith)) m refl f in
+      let w : Lined t at (at + (m + 1) + 1) (at + (m + 1)) = line_blank t at (at + (m + 1)) (omega arith) (each (m + 1) (omega arith)) (at + (m + 1)) u g in
+      rw z at w
 
-  pub line_seven : get_or t (i + 7) 0 ≡ 0x20 → (get_or t (i + 6) 0 ≡ 0x20 → ⊥) → Lined t at (i + 8) (i + 7)
-  line_seven g f =
-      let s = after 6 (omega arith) in
-      let o : i + 6 + 1 ≡ i + 7 = omega arith in
-      let u : i + 7 + 1 ≡ i + 8 = omega arith in
-      let w : Lined t at (i + 6 + 1) (i + 6 + 1) = line_dark t at (i + 6) (omega arith) (each-plain 6 (omega arith)) s.0 s.1 f in
-      let v : Lined t at (i + 7) (i + 7) = rw o at w in
-      let m : Lined t at (i + 7 + 1) (i + 7) = line_blank t at (i + 7) (omega arith) (each-plain 7 (omega arith)) (i + 7) v g in
-      rw u at m
+-- what is known of the place behind the blocks passed
+pub record Parted (t : List ℕ) (at end : ℕ) : Type 0 where
+  pub from : end ≤ at → Lined t at end end
+  pub dark : at < end → (get_or t (end - 1) 0 ≡ 0x20 → ⊥) → Lined t at end end
+  pub blank : at < end → get_or t (end - 1) 0 ≡ 0x20 → Lined t at end (end - 1)
+
+module _ (t : List ℕ) (at : ℕ) (h : at ≤ length t) (blocks : List (List ℕ)) (e : blocks ≡ first_chunks 8 (length (take (length t - at) (drop at t)) / 8) (take (length t - at) (drop at t)))
+    (long : length blocks ≡ length (take (length t - at) (drop at t)) / 8) where
+  line-front : (n : ℕ) → n ≤ length blocks → AllWithin LineBlock blocks 0 n → Parted t at (at + 8 * n)
+  line-front n g f =
+      let xs : List ℕ = take (length t - at) (drop at t) in
+      let size = length-take (length t - at) (drop at t) in
+      let all : AllWithin LineBlock (first_chunks 8 (length xs / 8) xs) 0 n = subst (λ (bs : List (List ℕ)). AllWithin LineBlock bs 0 n) e f in
+      let plains = in_blocks (λ (x : ℕ). plain_byte x ≡ true) xs (length xs / 8) n (omega arith) (λ j b m l. (all j [] (omega arith) m).plain b l) in
+      let each = λ (j : ℕ) (l : j < 8 * n). subst (λ (x : ℕ). plain_byte x ≡ true) (rest_bytes t at h j) (plains j l) in
+      let byte = λ (j b : ℕ) (l : j < n) (m : b < 8). block_byte xs (length xs / 8) j b [] (omega arith) m ∙ rest_bytes t at h (8 * j + b) in
+      record {
+        from = λ l. let z : at ≡ at + 8 * n = omega arith in subst (λ (x : ℕ). Lined t at x x) z (lined_start t at);
+        dark = λ l d.
+            let z : at + (8 * n - 1) ≡ at + 8 * n - 1 = omega arith in
+            line-end t at (8 * n) (omega (arith, size)) each (8 * n - 1) (omega arith) (λ y. d (ap (λ (x : ℕ). get_or t x 0) (sym z) ∙ y));
+        blank = λ l b.
+            let z : at + (8 * n - 2 + 1) ≡ at + 8 * n - 1 = omega arith in
+            let last : 8 * (n - 1) + 7 ≡ 8 * n - 2 + 1 = omega arith in
+            let other : 8 * (n - 1) + 6 ≡ 8 * n - 2 = omega arith in
+            let seven = ap (λ (x : ℕ). get_or t x 0) z ∙ b in
+            let w : Lined t at (at + 8 * n) (at + (8 * n - 2 + 1)) = line-blank t at (8 * n) (omega (arith, size)) each (8 * n - 2) (omega arith)
+            (λ y. (all (n - 1) [] (omega arith) (omega arith)).dark
+            (byte (n - 1) 7 (omega arith) (omega arith) ∙ ap (λ (x : ℕ). get_or t (at + x) 0) last ∙ seven)
+            (byte (n - 1) 6 (omega arith) (omega arith) ∙ ap (λ (x : ℕ). get_or t (at + x) 0) other ∙ y)) seven in
+            rw z at w;
+      }
+
+  pub line-blocks : (r : Perhaps ℕ) → MatchOption r (AllWithin LineBlock blocks 0 (length blocks)) (λ n. (n < length blocks) × HoldsAt (λ _. ⊤) blocks n × AllWithin LineBlock blocks 0 n)
+      → Parted t at (at + 8 * unwrap_or r (length blocks))
+  line-blocks None f = line-front (length blocks) (omega arith) f
+  line-blocks (Some n) w = line-front n (omega (arith, w.0)) w.2
 
 -- ---- a string
 -- each of eight bytes stands for itself

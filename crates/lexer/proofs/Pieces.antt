@@ -26,7 +26,8 @@ use Rattle.lexer.specs.Tokens.{TokenKind, word, number, quoted, str, sign, comme
 use Rattle.lexer.specs.Words.{keywords, keyword_bytes, keyword, position, value, sign_number, kind_number, word_value, token_value}
 use Rattle.lexer.specs.Places.{starts_with, part, line_at, string_end, Found, Tok, Gap, End, piece_of, piece}
 use Rattle.lexer.specs.declared.Line.{Line}
-use Rattle.lexer.proofs.Scans.{by_test, run_true, run_false, sizes-nil, sizes-cons}
+use Rattle.diag.proofs.Cases.{by_test_lem as by_test}
+use Rattle.lexer.proofs.Scans.{run_true, run_false, sizes-nil, sizes-cons}
 use Rattle.lexer.proofs.Keywords.{same_true, same_refl, tests_equal, part-inside}
 
 -- ---- the first character
@@ -50,6 +51,8 @@ first_byte t i c x b h u e p =
 pub first-none : (t : List ℕ) (i c : ℕ) → length t ≤ i → false ≡ starts_with c (decode (drop i t))
 unfolding starts_with
 first-none t i c h = sym (ap (starts_with c) (decode-end t i h))
+
+pub ruleset starts = (first_byte, first-none)
 
 starts_inv : (c : ℕ) (cs : List ℕ) → starts_with c cs ≡ true → (r : List ℕ) × (cs ≡ c ∷ r)
 unfolding starts_with

@@ -18,6 +18,8 @@ use Rattle.chars.specs.declared.Class.TheVariants.{Letter, Digit, Space, Sign, O
 use Rattle.std.specs.Prelude.{Option as Perhaps, Some, None}
 use Rattle.chars.specs.contracts.Class.{the_type}
 use Rattle.chars.proofs.Tests.{and_both}
+use Rattle.std.proofs.Math.Bool.{or-false}
+use Rattle.diag.proofs.Cases.{by_test_lem as by_test}
 use Rattle.chars.specs.Short.{Above, no_more, one_more}
 use Rattle.chars.proofs.Laws.{char_next, char_lt, char_falls, char_decode, none_decode}
 use Rattle.lexer.specs.Tokens.{is_letter, is_digit, is_space, is_word_start, is_word_continue, is_ascii_digit, is_whitespace, run, line, trim_cons, trim_end, escape, Inside, closed, unclosed, put, pass, inside}
@@ -25,28 +27,15 @@ use Rattle.lexer.specs.Words.{value_from, value}
 use Rattle.lexer.specs.Places.{line_at, trimmed_at, string_end}
 use Rattle.lexer.specs.declared.Line.{Line}
 
--- to go by a test and keep what it said
-pub by_test : {X : Type 0} (b : Bool) → (b ≡ true → X) → (b ≡ false → X) → X
-by_test true f g = f refl
-by_test false f g = g refl
-
-pub or_true : (b : Bool) → (b || true) ≡ true
-or_true true = refl
-or_true false = refl
-
-pub or_false : (b : Bool) → (b || false) ≡ b
-or_false true = refl
-or_false false = refl
-
 -- ---- the tests of a character, by its class
 module _ (c : ℕ) (k x : Class) (b : Bool) (e : k ≡ class_of c) (p : k ≡ x) where
   pub start_class : (c ≡ 0x5F → ⊥) → b ≡ is_letter x → b ≡ is_word_start c
   unfolding is_word_start
-  start_class f q = rw (ne_eqb c 0x5F f, or_false) (q ∙ ap is_letter (sym p ∙ e))
+  start_class f q = rw (ne_eqb c 0x5F f, or-false) (q ∙ ap is_letter (sym p ∙ e))
 
   pub continue_class : (c ≡ 0x5F → ⊥) → (c ≡ 0x27 → ⊥) → b ≡ (is_letter x || is_digit x) → b ≡ is_word_continue c
   unfolding is_word_continue
-  continue_class f g q = rw (ne_eqb c 0x5F f, ne_eqb c 0x27 g, ← e, p) (q ∙ simp or_false)
+  continue_class f g q = rw (ne_eqb c 0x5F f, ne_eqb c 0x27 g, ← e, p) (q ∙ simp or-false)
 
   pub continue_class_above : 0x80 ≤ c → b ≡ (is_letter x || is_digit x) → b ≡ is_word_continue c
   continue_class_above l q = continue_class (λ (z : c ≡ 0x5F). omega arith) (λ (z : c ≡ 0x27). omega arith) q
@@ -58,18 +47,6 @@ module _ (c : ℕ) (k x : Class) (b : Bool) (e : k ≡ class_of c) (p : k ≡ x)
   pub space_class : b ≡ is_space x → b ≡ is_whitespace c
   unfolding is_whitespace
   space_class q = q ∙ ap is_space (sym p ∙ e)
-
-pub start_underscore : (c : ℕ) → c ≡ 0x5F → true ≡ is_word_start c
-unfolding is_word_start
-start_underscore c e = rw (eq-eqb c 0x5F e, or_true)
-
-pub continue_underscore : (c : ℕ) → c ≡ 0x5F → true ≡ is_word_continue c
-unfolding is_word_continue
-continue_underscore c e = rw e
-
-pub continue_quote : (c : ℕ) → c ≡ 0x27 → true ≡ is_word_continue c
-unfolding is_word_continue
-continue_quote c e = rw e
 
 -- ---- a run of characters that pass a test
 pub run_true : (f : ℕ → Bool) (c : ℕ) (r : List ℕ) → f c ≡ true → run f (c ∷ r) ≡ c ∷ run f r
@@ -180,12 +157,6 @@ module _ (t : List ℕ) (at i v : ℕ) (r : Perhaps (ℕ × ℕ)) (s : r ≡ dec
 
   pub counted_none : r ≡ None → v ≡ min (value (run is_ascii_digit (decode (drop at t)))) 256
   counted_none e = counted_stop (rw (none_decode t i r s e, run-nil))
-
-pub digit_low : (v c : ℕ) (w : Bool) → w ≡ is_ascii_digit c → w ≡ true → 0x30 ≤ c
-digit_low v c w p q = (digit_range c (sym p ∙ q)).0
-
-pub digit_high : (v c : ℕ) (w : Bool) → w ≡ is_ascii_digit c → w ≡ true → c ≤ 0x39
-digit_high v c w p q = (digit_range c (sym p ∙ q)).1
 
 -- ---- the rest of a line
 pub line_feed : (c : ℕ) (r : List ℕ) → c ≡ 10 → line (c ∷ r) ≡ []
@@ -427,3 +398,10 @@ space_same c k e = go k refl
     go Digit p = ap (λ (y : Class). sameb the_type y Space) p ∙ space_class c k Digit false e p refl
     go Sign p = ap (λ (y : Class). sameb the_type y Space) p ∙ space_class c k Sign false e p refl
     go Other p = ap (λ (y : Class). sameb the_type y Space) p ∙ space_class c k Other false e p refl
+
+-- ---- what closes the goals of the scans
+pub ruleset runs = (char_falls, run_on, run_off, run_none)
+
+pub ruleset lines = (char_falls, lined_feed, lined_none)
+
+pub ruleset strings = (char_falls, above_falls, string_none, string_feed, string_closed, string-escaped, string-slash, string_above)

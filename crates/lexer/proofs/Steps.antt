@@ -16,7 +16,8 @@ use Rattle.chars.specs.declared.Class.TheVariants.{Letter, Digit, Space, Sign, O
 use Rattle.chars.proofs.Tests.{and_both}
 use Rattle.chars.proofs.Theorems.{sizes-append}
 use Rattle.lexer.specs.Tokens.{TokenKind, word, number, quoted, str, sign, comment, newline, unterminated_string, unterminated_quote, is_digit, is_ascii_digit, is_word_continue, is_whitespace, run, line, trim_cons, trim_end, indent, comment_text, escape, Inside, closed, unclosed, put, pass, inside, unescape, Step, gap, tok, word_step, number_step, string_step, quoted_step, comment_step, slash_step, other_step, step}
-use Rattle.lexer.proofs.Scans.{by_test, run_true, run_false, inside_quote, inside-slash, inside-plain}
+use Rattle.diag.proofs.Cases.{by_test_lem as by_test}
+use Rattle.lexer.proofs.Scans.{run_true, run_false, inside_quote, inside-slash, inside-plain}
 use Rattle.lexer.proofs.Pieces.{run_prefix, line_prefix, step_class, by_class}
 
 -- what the characters of a token's text say of it

@@ -23,7 +23,7 @@ use Rattle.lexer.specs.declared.kind.TokenKind.{TokenKind as Kind}
 use Rattle.lexer.specs.declared.kind.TokenKind.TheVariants.{Word, Number, Quoted, Str, LParen, RParen, LBrace, RBrace, Comma, Eq, Star, Other, Comment, Newline, UnterminatedString, UnterminatedQuote}
 use Rattle.lexer.specs.Places.{Found, Tok, Gap, End, piece_of, piece}
 use Rattle.lexer.specs.Quick.{QuickAt, quick_value, quick_piece}
-use Rattle.lexer.proofs.Scans.{by_test}
+use Rattle.diag.proofs.Cases.{by_test_lem as by_test}
 use Rattle.lexer.proofs.Pieces.{jump, jump_le}
 use Rattle.lexer.proofs.Steps.{Fit, Fits as FitsStep, step_fits}
 

@@ -1,5 +1,5 @@
 -- Bytes that need no look at single characters.
-use Rattle.std.specs.Prelude.{ℕ, Bool, ◌&&◌, not, leb, ltb, eqb}
+use Rattle.std.specs.Prelude.{ℕ, ◌<◌, ◌≡◌, Bool, true, ◌&&◌, not, List, get_or, leb, ltb, eqb}
 
 -- an ASCII character that is no control character
 unfoldable pub plain_byte : ℕ → Bool
@@ -9,3 +9,8 @@ plain_byte b = leb 0x20 b && ltb b 0x80
 unfoldable pub inner_byte : ℕ → Bool
 unfolding plain_byte
 inner_byte b = plain_byte b && not (eqb b 0x22) && not (eqb b 0x5C)
+
+-- eight such bytes, of which the last two are no two spaces
+pub record LineBlock (b : List ℕ) : Type 0 where
+  pub plain : (j : ℕ) → j < 8 → plain_byte (get_or b j 0) ≡ true
+  pub dark : get_or b 7 0 ≡ 0x20 → get_or b 6 0 ≡ 0x20 → ⊥

@@ -3,7 +3,7 @@ ghost use Rattle.std.specs.Prelude.{◌≡◌, ℕ, true, false, ◌+◌, ◌<�
 ghost use Rattle.chars.specs.Utf8.{sizes};
 ghost use Rattle.lexer.specs.Tokens.{line, trim_end};
 ghost use Rattle.lexer.specs.Places.{rest, trimmed_at, string_end};
-ghost use Rattle.lexer.specs.Blocks.{plain_byte, inner_byte};
+ghost use Rattle.lexer.specs.Blocks.{plain_byte, inner_byte, LineBlock};
 
 use crate::Line;
 
@@ -23,42 +23,47 @@ fn is_inner(b: u8) -> bool
     is_plain(b) & (b != b'"') & (b != b'\\')
 }
 
-// Whether all of the eight bytes at a place pass a test; no early exit, so that they are compared at once.
-fn all_eight<F: Fn(u8) -> bool>(text: &[u8], at: usize, f: F) -> bool
-    requires inside { at + 8 ≤ length text.now }
+// Whether all eight bytes of a block pass a test; no early exit, so that they are compared at once.
+fn all_eight<F: Fn(u8) -> bool>(block: &[u8; 8], f: F) -> bool
     requires callable { F.IsAlwaysCallable f }
-    ensures { result ≡ true → (j : ℕ) → j < 8 → F.post f (get_or text.now (at + j) 0) true }
+    ensures { result ≡ true → (j : ℕ) → j < 8 → F.post f (get_or block.now j 0) true }
 {
     let mut all = true;
-    for b in &text[at..at + 8] {
+    for b in block {
         all &= f(*b);
     }
     all
 }
 
+// Whether all bytes of a block are plain, and its last two are no two spaces.
+fn is_line(block: &[u8; 8]) -> bool
+    ensures { result ≡ true → LineBlock block.now }
+{
+    all_eight(block, is_plain) && (block[7] != 0x20 || block[6] != 0x20)
+}
+
 // A place on the line, and where the line up to it ends without white space: blocks whose last bytes are no two spaces are passed over.
-// A `while` and no `chunks_exact`, since what is answered is a place, and the turn in which the scan stops is told by the bytes.
 pub(crate) fn line_part(text: &[u8], at: usize) -> Line
     ensures end { result.end + sizes (line (rest text.now result.end)) ≡ at + sizes (line (rest text.now at)) }
     ensures trimmed { trimmed_at result.trimmed result.end (trim_end (line (rest text.now result.end)))
         ≡ at + sizes (trim_end (line (rest text.now at))) }
 {
-    let mut trimmed = at;
-    let mut i = at;
     if text.len() < at {
-        return Line { trimmed, end: i };
+        return Line {
+            trimmed: at,
+            end: at,
+        };
     }
-    while 8 <= text.len() - i && all_eight(text, i, is_plain) {
-        if text[i + 7] != 0x20 {
-            trimmed = i + 8;
-        } else if text[i + 6] != 0x20 {
-            trimmed = i + 7;
-        } else {
-            return Line { trimmed, end: i };
-        }
-        i += 8;
+    let (blocks, _) = text[at..].as_chunks::<8>();
+    let other = blocks.iter().position(|b| !is_line(b));
+    let end = at + 8 * other.unwrap_or(blocks.len());
+    if at < end && text[end - 1] == 0x20 {
+        return Line {
+            trimmed: end - 1,
+            end,
+        };
     }
-    Line { trimmed, end: i }
+    Line { trimmed: end, end }
 }
 
 // A place inside a string, from behind its quote: blocks without a quote or a backslash are passed over.
@@ -69,6 +74,6 @@ pub(crate) fn string_part(text: &[u8], at: usize) -> usize
         return at;
     }
     let (blocks, _) = text[at..].as_chunks::<8>();
-    let other = blocks.iter().position(|b| !all_eight(b, 0, is_inner));
+    let other = blocks.iter().position(|b| !all_eight(b, is_inner));
     at + 8 * other.unwrap_or(blocks.len())
 }

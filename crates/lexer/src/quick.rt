@@ -61,6 +61,7 @@ impl Table<'_> {
 }
 
 // The value of such a token.
+#[tactic(auto, using(crate::proofs::Leads::quick_values))]
 pub(crate) fn value_of(k: u32, b: u8) -> u32
     ensures { result ≡ quick_value k b }
 {

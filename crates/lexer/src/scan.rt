@@ -62,6 +62,7 @@ pub(crate) fn is_whitespace(c: u32) -> bool
 }
 
 // Whether the character at a place is c, an ASCII character.
+#[tactic(auto, using(crate::proofs::Pieces::starts))]
 pub(crate) fn starts_with(text: &[u8], at: usize, c: u8) -> bool
     requires { c < 0x80 }
     ensures { result ≡ starts_with c (rest text.now at) }
@@ -70,6 +71,7 @@ pub(crate) fn starts_with(text: &[u8], at: usize, c: u8) -> bool
 }
 
 // Where the characters that continue a word end.
+#[tactic(auto, using(crate::proofs::Scans::runs))]
 pub(crate) fn word_end(text: &[u8], at: usize) -> usize
     ensures { result ≡ at + sizes (run is_word_continue (rest text.now at)) }
 {
@@ -101,6 +103,7 @@ pub(crate) fn digits(text: &[u8], at: usize) -> (usize, u32)
 }
 
 // Where the line ends, and where it ends without white space.
+#[tactic(auto, using(crate::proofs::Scans::lines))]
 pub(crate) fn line_end(text: &[u8], at: usize) -> Line
     ensures { result ≡ line_at at (rest text.now at) }
 {
@@ -122,6 +125,7 @@ pub(crate) fn line_end(text: &[u8], at: usize) -> Line
 
 // Where a string ends, from behind its quote: the place behind the closing quote, or None where there is none on the line. Tests and no `match`, since
 // a state is asked between two of the character.
+#[tactic(auto, using(crate::proofs::Scans::strings))]
 pub(crate) fn string_end(text: &[u8], at: usize) -> Option<usize>
     ensures { result ≡ string_end false at (rest text.now at) }
 {

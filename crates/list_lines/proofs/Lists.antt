@@ -126,9 +126,6 @@ letter-stay (suc (suc d)) b h k f = f
 -- ---- names
 
 -- whether a name is due
-pub due_all : (all b : Bool) → all ≡ true → (all || b) ≡ true
-due_all all b e = rw e
-
 pub due_last : (all : Bool) (n : ℕ) → n ≡ 1 → (all || eqb n 1) ≡ true
 due_last true n e = refl
 due_last false n e = rw e

@@ -45,6 +45,8 @@ fn names(out: &mut Output, text: &[u8], states: &[u32], n: u32, all: bool)
 {
     let mut rest = states;
     let mut printed = 0;
+    // The rest is cut by `after`, and not into chunks: n records are listed also where the words end before, and what is lacking is empty or 0.
+    // The index has a name, here and in transition_lines, since what is left to print is told by it in the loop's invariant.
     for i in 0..n {
         let state = rest;
         rest = after(state, 3);

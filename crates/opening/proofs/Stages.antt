@@ -26,10 +26,7 @@ use Rattle.enter.specs.Begun.{Begun}
 use Rattle.enter.proofs.Begins.{none_found}
 use Rattle.enter.proofs.Outcomes.{machine-read, too_many, all-kept}
 use Rattle.opening.specs.Opens.{Opens}
-
-pub take_all : {X : Type 0} (xs : List X) → take (length xs) xs ≡ xs
-take_all [] = refl
-take_all {X = X} (x ∷ xs) = ap (λ (l : List X). x ∷ l) (take_all xs)
+use Rattle.std.proofs.Math.Seq.{take-length}
 
 -- an admitted text
 module _ (t w : List ℕ) (n : ℕ) (sheet : List ℕ) (a : refusal_of t (length w) ≡ none) (w₁ : List ℕ) (s : Search) (b : Begun t w₁ s) where
@@ -66,7 +63,7 @@ module _ (t w : List ℕ) (n : ℕ) (sheet : List ℕ) (a : refusal_of t (length
         let x : Result Answer Refusal = Ok (Diagnostics c) in
         let ds : List Diagnostic = records_of (diagnostics_of (lines_of t)) in
         let counted : c ≡ length ds = b.errors ∙ sym (length-map (diagnostics_of (lines_of t)) record_of) in
-        let whole : take c (pending t w₁ s) ≡ ds = ap (take c) b.whole ∙ ap (λ (k : ℕ). take k ds) counted ∙ take_all ds in
+        let whole : take c (pending t w₁ s) ≡ ds = ap (take c) b.whole ∙ ap (λ (k : ℕ). take k ds) counted ∙ take-length ds in
         record {
           answers = λ log same.
               ap (λ (l : List Diagnostic). read_in x (sort l ++ replicate (length log - c) unused) sheet₁) whole

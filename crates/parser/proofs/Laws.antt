@@ -11,6 +11,8 @@ use Rattle.tokens.specs.declared.Token.{Token}
 -- ---- the row
 pub use Rattle.tokens.proofs.Rows.{length-tokens, peek-read, peek_past}
 
+pub ruleset row_tokens = (peek-read, peek_past)
+
 false_true : true ≡ false → ⊥
 false_true e = let z : ◌≡◌ {A = ℕ} 0 1 = cc in omega arith
 

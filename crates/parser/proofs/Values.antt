@@ -43,9 +43,6 @@ pushes_append [] m = refl
 pushes_append (a ∷ l) m = ap (λ (x : List _). a ∷ x) (pushes_append l m)
 
 -- ---- what is read
-pub part_sign : (c : ℕ) (t : Token Span) → t.kind ≡ sign c → read_part t.kind ≡ read_part (sign c)
-part_sign c t e = ap read_part e
-
 no_symbol : {X : Type 0} (k : TokenKind) (c : ℕ) (s : RawSymbol) → symbol_in (sign c) ≡ none → is_some (is_sign c k) ≡ true → symbol_in k ≡ some s → X
 no_symbol k c s e p q = true_false (sym (ap is_some (sym e ∙ sym (ap symbol_in (is_sign_lem c k p)) ∙ q)))
 

@@ -1,4 +1,5 @@
 -- What the words of a token say is what the views of the language say of the token.
+use Rattle.std.proofs.Math.Bool.{and-true, and-false}
 use Rattle.diag.specs.declared.Code.TheVariants.{Unexpected, UnterminatedString, NoDirection}
 use mathlib.Core.Path.{◌≡◌, refl, sym, ap, subst, ◌∙◌}
 use Prim.Native.Nat.{ℕ, ◌+◌, ◌<◌}
@@ -167,14 +168,6 @@ sees_number unterminated_string p q s = refl
 sees_number unterminated_quote p q s = refl
 
 -- ---- states
-and_false : (b : Bool) → (b && false) ≡ false
-and_false true = refl
-and_false false = refl
-
-and_true : (b : Bool) → (b && true) ≡ b
-and_true true = refl
-and_true false = refl
-
 -- a word of several characters has a value above all code points
 above : (c d : ℕ) (w : List ℕ) (n : ℕ) → n < 0x110000 → eqb (word_value (c ∷ d ∷ w)) n ≡ false
 unfolding word_value
@@ -183,9 +176,9 @@ above c d w n h = ne_eqb (0x110000 + keyword (c ∷ d ∷ w)) n (λ e. omega ari
 pub sees_state : Sees is_state state_in
 unfolding is_state token_of kind_number token_value state_in word_value
 sees_state (word []) p q s = refl
-sees_state (word (c ∷ [])) p q s = sym (some-when (not (eqb c 0x5F && true)) (c ∷ []) ∙ ap not (and_true (eqb c 0x5F)))
+sees_state (word (c ∷ [])) p q s = sym (some-when (not (eqb c 0x5F && true)) (c ∷ []) ∙ ap not (and-true (eqb c 0x5F)))
 sees_state (word (c ∷ d ∷ w)) p q s =
-    ap not (above c d w 0x5F (omega arith)) ∙ sym (some-when (not (eqb c 0x5F && false)) (c ∷ d ∷ w) ∙ ap not (and_false (eqb c 0x5F)))
+    ap not (above c d w 0x5F (omega arith)) ∙ sym (some-when (not (eqb c 0x5F && false)) (c ∷ d ∷ w) ∙ ap not (and-false (eqb c 0x5F)))
 sees_state (number w) p q s = refl
 sees_state (quoted d) p q s = refl
 sees_state (str t) p q s = refl

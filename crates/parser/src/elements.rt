@@ -173,18 +173,12 @@ impl Row<'_> {
     fn pairs(self, at: usize) -> usize
         ensures { Pairs (tokens_in self.entry.words.now) at result × (at + 2 * result < 2 ^ 64) }
     {
-        let n = self.words.len() / 4;
-        if n < at {
+        if self.words.len() / 4 < at {
             return 0;
         }
-        // By hand: with `step_by` the pairs would still be counted beside it, and the first that is none would still end the loop.
-        let mut i = at;
-        let mut m = 0;
-        while 1 < n - i && self.pair(i) {
-            i += 2;
-            m += 1;
-        }
-        m
+        let (blocks, _) = self.words[4 * at..].as_chunks::<8>();
+        let other = blocks.iter().position(|words| !Row { words }.pair(0));
+        other.unwrap_or(blocks.len())
     }
 
     // Symbols parted by commas, up to `}`.

@@ -12,6 +12,7 @@ pub(crate) struct Row<'a> {
 
 impl Row<'_> {
     // The token at an index; past the last one, a line feed.
+    #[tactic(auto, using(crate::proofs::Laws::row_tokens))]
     pub(crate) fn token(self, at: usize) -> Token
         ensures { result ≡ peek (tokens_in self.entry.words.now) at }
     {

@@ -8,7 +8,7 @@ use lib.Seq.{take_at}
 use Rattle.diag.specs.Log.{sort}
 use Rattle.diag.specs.declared.Diagnostic.{Diagnostic}
 use Rattle.records.specs.Unused.{unused}
-use Rattle.opening.proofs.Stages.{take_all}
+use Rattle.std.proofs.Math.Seq.{take-length}
 
 module _ {X : Type 0} where
   drop-replicate : (c n : ℕ) (x : X) → drop c (replicate n x) ≡ replicate (n - c) x
@@ -25,6 +25,6 @@ module _ (ds : List Diagnostic) (c n : ℕ) (all : c ≡ length ds) (zs zs' : Li
   behind-sort =
       let rest : drop c zs ≡ replicate (n - c) unused = ap (drop c) cleared ∙ drop-replicate c n unused in
       let is : zs' ≡ ds ++ replicate (n - c) unused = gathered ∙ ap (λ (l : List Diagnostic). ds ++ l) rest in
-      let front : take c zs' ≡ take c ds = ap (take c) is ∙ take_at ds (replicate (n - c) unused) c (sym all) ∙ sym (ap (λ (k : ℕ). take k ds) all ∙ take_all ds) in
+      let front : take c zs' ≡ take c ds = ap (take c) is ∙ take_at ds (replicate (n - c) unused) c (sym all) ∙ sym (ap (λ (k : ℕ). take k ds) all ∙ take-length ds) in
       let tail : drop c zs' ≡ replicate (n - c) unused = ap (drop c) is ∙ ap (λ (k : ℕ). drop k (ds ++ replicate (n - c) unused)) all ∙ drop_at ds (replicate (n - c) unused) in
       ap (λ (l : List Diagnostic). sort l ++ drop c zs') front ∙ ap (λ (l : List Diagnostic). sort (take c ds) ++ l) tail

@@ -1,10 +1,19 @@
 -- Laws of stored cases.
-use Rattle.std.proofs.Common.{◌≡◌, ℕ, suc, ◌+◌, ◌-◌, ◌*◌, ◌/◌, ◌<◌, ◌≤◌, Bool, true, false, ◌&&◌, eqb, leb, List, [], ◌∷◌, ◌++◌, length, get_or, take, drop, replicate, sym, refl, ap, ◌∙◌, add-one, arith, length-drop, drop_of_length-le, length-take, take_all, drop-cons, get_or-take, le-ltb, lt-ltb, eq-eqb, ne_eqb, le-leb, leb-true}
+use Rattle.std.proofs.Common.{◌≡◌, ℕ, zero, suc, ◌+◌, ◌-◌, ◌*◌, ◌/◌, ◌<◌, ◌≤◌, Bool, true, false, eqb, leb, List, [], ◌∷◌, ◌++◌, length, get_or, take, drop, replicate, sym, refl, ap, ◌∙◌, subst, arith, length-drop, drop_of_length-le, length-take, take_all, get_or-take, get_or-drop, le-ltb, lt-ltb, eq-eqb, ne_eqb, le-leb, leb-true, leb-false, eqb-true}
 use mathlib.Core.Bool.{false≢true}
+use Rattle.std.specs.Bool.{MatchBool}
+use Rattle.std.specs.List.{starts_with, enumerate_from, AllWithin, HoldsAt}
+use Rattle.std.specs.Simd.{first_chunks}
+use Rattle.std.proofs.lemmas.Bool.Decides.{Decides-eqb}
+use Rattle.std.proofs.lemmas.List.{get_or_default, get_or_past}
+use Rattle.std.proofs.lemmas.List.FromFn.{length-enumerate_from, get_or-enumerate_from}
+use Rattle.std.proofs.lemmas.List.Prefix.{front_from_reads, front_reads}
+use Rattle.std.proofs.lemmas.Slice.Eq.{starts_is}
+use Rattle.chars.proofs.Tests.{and_both}
 use borrow.Author.Tests.{lt-leb, eqb-false}
 use borrow.Author.Rules.{rules}
 use Rattle.language.specs.Outcome.{ReadOutcome, read_outcome, reply_words, reply_number, WriteOutcome, WriteReply, write_outcome, write_words}
-use Rattle.lexer.proofs.Scans.{by_test}
+use Rattle.diag.proofs.Cases.{by_test_lem as by_test}
 use Rattle.answer.specs.declared.Refusal.TheVariants.{TextTooLong, WorkTooShort, InvalidUtf8, OutsideSet, LogTooShort, SheetTooShort}
 use Rattle.std.specs.Prelude.{Result, Ok, Err}
 use Rattle.answer.specs.declared.Refusal.{Refusal}
@@ -14,17 +23,37 @@ use Rattle.answer.specs.Answer.{reply_in, read_in, leaves_work}
 use Rattle.reader.specs.Reading.{leaves_work_number}
 use Rattle.writer.specs.Given.{Given, given, given_by}
 use Rattle.reply.specs.Words.{answer_row}
-use Rattle.replay.specs.Case.{word_at, marked, wanted, left_from, left, rows_left, work_left, output_from, output_left, output_at, agrees, form_agrees, Within, lengths_fit, reading_agrees, writing_agrees}
+use Rattle.replay.specs.Case.{word_at, marked, wanted, holds_from, left, rows_left, work_left, output_left, output_at, agrees, form_agrees, Within, lengths_fit, reading_agrees, writing_agrees}
 
 -- ---- a word
-module _ (c : List ℕ) (i : ℕ) where
-  pub word_in : (p q r s : ℕ) → i < length c / 4 → p ≡ get_or c (4 * i) 0 → q ≡ get_or c (4 * i + 1) 0 → r ≡ get_or c (4 * i + 2) 0 → s ≡ get_or c (4 * i + 3) 0 → p + 256 * q + 65536 * (r + 256 * s) ≡ word_at c i
-  unfolding word_at
-  word_in p q r s h e₁ e₂ e₃ e₄ = rw (lt-ltb i (length c / 4) h, e₁, e₂, e₃, e₄)
 
-  pub word_out : length c / 4 ≤ i → 0 ≡ word_at c i
+-- the byte j of the block i of four bytes each
+block_byte : (k i j : ℕ) (s d : List ℕ) → i < k → j < 4 → get_or (get_or (first_chunks 4 k s) i d) j 0 ≡ get_or s (4 * i + j) 0
+block_byte zero i j s d h g = absurd (omega arith)
+block_byte (suc k) zero j s d h g = let e : j ≡ 4 * 0 + j = omega arith in get_or-take 4 s j 0 g ∙ ap (λ (m : ℕ). get_or s m 0) e
+block_byte (suc k) (suc i) j s d h g =
+    let e : 4 + (4 * i + j) ≡ 4 * suc i + j = omega arith in
+    block_byte k i j (drop 4 s) d (omega arith) g ∙ get_or-drop 4 s (4 * i + j) 0 ∙ ap (λ (m : ℕ). get_or s m 0) e
+
+module _ (c : List ℕ) (i : ℕ) (blocks : List (List ℕ)) (len : length blocks ≡ length c / 4) where
+  pub word_out : length blocks ≤ i → 0 ≡ word_at c i
   unfolding word_at
-  word_out h = rw (le-ltb i (length c / 4) h)
+  word_out h =
+      let k : length c / 4 ≤ i = omega arith in
+      rw (le-ltb i (length c / 4) k)
+
+  module _ (row : List ℕ) (is : blocks ≡ first_chunks 4 (length c / 4) c) (h : i < length blocks) (at : row ≡ get_or blocks i row) where
+    byte : (j m : ℕ) → j < 4 → 4 * i + j ≡ m → get_or row j 0 ≡ get_or c m 0
+    byte j m g e =
+        ap (λ (r : List ℕ). get_or r j 0) (at ∙ ap (λ (l : List (List ℕ)). get_or l i row) is)
+        ∙ block_byte (length c / 4) i j c row (omega arith) g
+        ∙ ap (λ (k : ℕ). get_or c k 0) e
+
+    pub word_in : (n : ℕ) → n ≡ get_or row 0 0 + get_or row 1 0 * 256 + get_or row 2 0 * 65536 + get_or row 3 0 * 16777216 → n ≡ word_at c i
+    unfolding word_at
+    word_in n e =
+        let k : i < length c / 4 = omega arith in
+        rw (lt-ltb i (length c / 4) k, ← byte 0 (4 * i) (omega arith) (omega arith), ← byte 1 (4 * i + 1) (omega arith) refl, ← byte 2 (4 * i + 2) (omega arith) refl, ← byte 3 (4 * i + 3) (omega arith) refl) (omega (arith, e))
 
 -- ---- a word that is to stand in a row
 module _ (before c : List ℕ) (from m i : ℕ) where
@@ -45,62 +74,134 @@ module _ (before c : List ℕ) (from m i : ℕ) where
         let k : m ≤ i = omega arith in
         rw (ne_eqb m 4294967295 f, le-ltb i m k)
 
--- ---- a row, from i on
-module _ (before c : List ℕ) (from m : ℕ) (row : List ℕ) where
-  pub left_short : (n : ℕ) → n ≡ marked m → length row < n → false ≡ left before c from m row
+-- ---- a row
+
+-- what `all` tells of a list
+abbrev Told : {X : Type 0} → (X → Type 0) → List X → Bool → Type 0
+Told P xs r = MatchBool r (AllWithin P xs 0 (length xs)) ((k : ℕ) × (k < length xs) × HoldsAt (λ x. P x → ⊥) xs k)
+
+-- a test that is not true
+refuted : (b : Bool) → (b ≡ true → ⊥) → false ≡ b
+refuted true f = absurd (f refl)
+refuted false f = refl
+
+module _ (f : ℕ → ℕ) where
+  holds_each : (i : ℕ) (row : List ℕ) → holds_from f i row ≡ true → (j : ℕ) → j < length row → get_or row j 0 ≡ f (i + j)
+  unfolding holds_from
+  holds_each i [] e j h = absurd (omega arith)
+  holds_each i (x ∷ xs) e zero h =
+      let z : i + 0 ≡ i = omega arith in
+      rw z (eqb-true x (f i) (and_both (eqb x (f i)) (holds_from f (suc i) xs) e).0)
+  holds_each i (x ∷ xs) e (suc j) h =
+      let s : i + suc j ≡ suc i + j = omega arith in
+      rw s (holds_each (suc i) xs (and_both (eqb x (f i)) (holds_from f (suc i) xs) e).1 j (omega arith))
+
+  holds_all : (i : ℕ) (row : List ℕ) → ((j : ℕ) → j < length row → get_or row j 0 ≡ f (i + j)) → holds_from f i row ≡ true
+  unfolding holds_from
+  holds_all i [] e = refl
+  holds_all i (x ∷ xs) e =
+      let z : i + 0 ≡ i = omega arith in
+      let p : x ≡ f i = rw z at (e 0 (omega arith)) in
+      let rest = holds_all (suc i) xs (λ j h.
+      let s : i + suc j ≡ suc i + j = omega arith in
+      rw s at (e (suc j) (omega arith))) in
+      rw (eq-eqb x (f i) p) rest
+
+  -- the same from the front
+  each : (row : List ℕ) → holds_from f 0 row ≡ true → (j : ℕ) → j < length row → get_or row j 0 ≡ f j
+  each row e j h =
+      let z : 0 + j ≡ j = omega arith in
+      ap (λ (k : ℕ). get_or row j 0) z ∙ holds_each 0 row e j h ∙ ap f z
+
+  whole : (row : List ℕ) → ((j : ℕ) → j < length row → get_or row j 0 ≡ f j) → holds_from f 0 row ≡ true
+  whole row e = holds_all 0 row (λ j h.
+      let z : j ≡ 0 + j = omega arith in
+      e j h ∙ ap f z)
+
+  -- what `all` tells of the places and words of a row
+  told : (row : List ℕ) (r : Bool) → Told (λ (p : ℕ × ℕ). p.1 ≡ f p.0) (enumerate_from 0 row) r → r ≡ holds_from f 0 row
+  told row true h = sym (holds_all 0 row (λ j g.
+      let n = length-enumerate_from 0 row in
+      let p : get_or (enumerate_from 0 row) j (0, 0) ≡ (0 + j, get_or row j 0) = get_or-enumerate_from 0 row j (0, 0) g in
+      subst (λ (q : ℕ × ℕ). q.1 ≡ f q.0) p (h j (0, 0) (omega arith) (omega (arith, n)))))
+  told row false h = refuted (holds_from f 0 row) (λ e.
+      let n = length-enumerate_from 0 row in
+      let g : h.0 < length row = omega (arith, n, h.1) in
+      let p : get_or (enumerate_from 0 row) h.0 (0, 0) ≡ (0 + h.0, get_or row h.0 0) = get_or-enumerate_from 0 row h.0 (0, 0) g in
+      subst (λ (q : ℕ × ℕ). q.1 ≡ f q.0 → ⊥) p (h.2 (0, 0)) (holds_each 0 row e h.0 g))
+
+module _ (before c : List ℕ) (from m : ℕ) (row : List ℕ) (n : ℕ) (e : n ≡ marked m) where
+  pub left_short : length row < n → false ≡ left before c from m row
   unfolding left
-  left_short n e h =
+  left_short h =
       let k : length row < marked m = omega arith in
       rw (lt-leb (marked m) (length row) k)
 
-  module _ (i : ℕ) (v : Bool) (inv : left_from before c from m i (drop i row) ≡ v) (h : i < length row) (w : ℕ) (e : w ≡ wanted before c from m i) where
-    parted : (eqb (get_or row i 0) w && left_from before c from m (suc i) (drop (suc i) row)) ≡ v
-    unfolding left_from
-    parted = rw e (sym (ap (left_from before c from m i) (drop-cons row i 0 h)) ∙ inv)
-
-    pub left-on : get_or row i 0 ≡ w → left_from before c from m (i + 1) (drop (i + 1) row) ≡ v
-    left-on q =
-        let p : (eqb (get_or row i 0) w && left_from before c from m (suc i) (drop (suc i) row)) ≡ left_from before c from m (suc i) (drop (suc i) row) = rw (eq-eqb (get_or row i 0) w q) in
-        rw add-one (sym p ∙ parted)
-
-    pub left_off : (n : ℕ) → n ≡ marked m → n ≤ length row → (get_or row i 0 ≡ w → ⊥) → v ≡ left_from before c from m 0 row → false ≡ left before c from m row
-    unfolding left
-    left_off n q g f j =
-        let k : marked m ≤ length row = omega arith in
-        let p : (eqb (get_or row i 0) w && left_from before c from m (suc i) (drop (suc i) row)) ≡ false = rw (ne_eqb (get_or row i 0) w f) in
-        rw (le-leb (marked m) (length row) k) (sym p ∙ parted ∙ j)
-
-  pub left_end : (i : ℕ) → left_from before c from m i (drop i row) ≡ left_from before c from m 0 row → length row ≤ i → (n : ℕ) → n ≡ marked m → n ≤ length row → true ≡ left before c from m row
-  unfolding left left_from
-  left_end i inv h n q g =
+  pub left_told : n ≤ length row → (r : Bool) → Told (λ (p : ℕ × ℕ). p.1 ≡ wanted before c from m p.0) (enumerate_from 0 row) r → r ≡ left before c from m row
+  unfolding left
+  left_told h r q =
       let k : marked m ≤ length row = omega arith in
-      rw (le-leb (marked m) (length row) k) (sym (ap (left_from before c from m i) (drop_of_length-le row h)) ∙ inv)
+      rw (le-leb (marked m) (length row) k) (told (wanted before c from m) row r q)
 
--- ---- an output, likewise
-module _ (stored row : List ℕ) where
-  pub output_short : length row < length stored → false ≡ output_left stored row
-  unfolding output_left
-  output_short h = rw (lt-leb (length stored) (length row) h)
+-- ---- an output
 
-  module _ (i : ℕ) (v : Bool) (inv : output_from stored i (drop i row) ≡ v) (h : i < length row) where
-    output-parted : (eqb (get_or row i 0) (get_or stored i 165) && output_from stored (suc i) (drop (suc i) row)) ≡ v
-    unfolding output_from
-    output-parted = sym (ap (output_from stored i) (drop-cons row i 0 h)) ∙ inv
+-- the end of a text, as it is cut
+pub text_from : (c : List ℕ) (k : ℕ) → take (length c - k) (drop k c) ≡ drop k c
+text_from c k = take_all (length c - k) (drop k c) (simp length-drop (omega arith))
 
-    pub output_on : get_or row i 0 ≡ get_or stored i 165 → output_from stored (i + 1) (drop (i + 1) row) ≡ v
-    output_on q =
-        let p : (eqb (get_or row i 0) (get_or stored i 165) && output_from stored (suc i) (drop (suc i) row)) ≡ output_from stored (suc i) (drop (suc i) row) = rw (eq-eqb (get_or row i 0) (get_or stored i 165) q) in
-        rw add-one (sym p ∙ output-parted)
+module _ (stored row : List ℕ) (s : Bool) (es : s ≡ starts_with eqb row stored) where
+  begins : (s ≡ true → row ≡ stored ++ drop (length stored) row) × ((rest : List ℕ) → row ≡ stored ++ rest → s ≡ true)
+  begins = starts_is Decides-eqb row stored s es
 
-    pub output_off : length stored ≤ length row → (get_or row i 0 ≡ get_or stored i 165 → ⊥) → v ≡ output_from stored 0 row → false ≡ output_left stored row
-    unfolding output_left
-    output_off k f j =
-        let p : (eqb (get_or row i 0) (get_or stored i 165) && output_from stored (suc i) (drop (suc i) row)) ≡ false = rw (ne_eqb (get_or row i 0) (get_or stored i 165) f) in
-        rw (le-leb (length stored) (length row) k) (sym p ∙ output-parted ∙ j)
+  kept : ℕ → ℕ
+  kept i = get_or stored i 165
 
-  pub output-end : (i : ℕ) → output_from stored i (drop i row) ≡ output_from stored 0 row → length row ≤ i → length stored ≤ length row → true ≡ output_left stored row
-  unfolding output_left output_from
-  output-end i inv h k = rw (le-leb (length stored) (length row) k) (sym (ap (output_from stored i) (drop_of_length-le row h)) ∙ inv)
+  -- what stands behind the bytes that are stored
+  abbrev rest : List ℕ
+  rest = take (length row - length stored) (drop (length stored) row)
+
+  pub output_other : s ≡ false → false ≡ output_left stored row
+  unfolding output_left kept
+  output_other z = refuted (output_left stored row) (λ e.
+      let v = and_both (leb (length stored) (length row)) (holds_from kept 0 row) e in
+      let h = leb-true (length stored) (length row) v.0 in
+      let front = front_from_reads 0 row stored h (λ i g. each kept row v.1 i (omega (arith, g, h)) ∙ get_or_default stored i 165 0 g) in
+      absurd (false≢true (sym z ∙ begins.1 (drop (length stored) row) front)))
+
+  module _ (t : s ≡ true) (h : length stored ≤ length row) where
+    behind : (j : ℕ) → length stored ≤ j → get_or rest (j - length stored) 0 ≡ get_or row j 0
+    behind j g =
+        let z : length stored + (j - length stored) ≡ j = omega arith in
+        ap (λ (l : List ℕ). get_or l (j - length stored) 0) (text_from row (length stored))
+        ∙ get_or-drop (length stored) row (j - length stored) 0
+        ∙ ap (λ (k : ℕ). get_or row k 0) z
+
+    length_behind : length rest ≡ length row - length stored
+    length_behind = ap length (text_from row (length stored)) ∙ length-drop (length stored) row
+
+    held : ((j : ℕ) → length stored ≤ j → j < length row → get_or row j 0 ≡ 165) → true ≡ output_left stored row
+    unfolding output_left kept
+    held f =
+        rw (le-leb (length stored) (length row) h) (sym (whole kept row (λ j g.
+        by_test (leb (length stored) j)
+        (λ b. f j (leb-true (length stored) j b) g ∙ sym (get_or_past stored j 165 (leb-true (length stored) j b)))
+        (λ b. front_reads 0 row stored (drop (length stored) row) (begins.0 t) j (leb-false (length stored) j b) ∙ get_or_default stored j 0 165 (leb-false (length stored) j b)))))
+
+    refused : (j : ℕ) → length stored ≤ j → j < length row → (get_or row j 0 ≡ 165 → ⊥) → false ≡ output_left stored row
+    unfolding output_left kept
+    refused j g k f = refuted (output_left stored row) (λ e.
+        let v = and_both (leb (length stored) (length row)) (holds_from kept 0 row) e in
+        f (each kept row v.1 j k ∙ get_or_past stored j 165 g))
+
+    pub output_told : (r : Bool) → Told (λ (b : ℕ). b ≡ 165) rest r → r ≡ output_left stored row
+    output_told true q =
+        let l = length_behind in
+        held (λ j g k. sym (behind j g) ∙ q (j - length stored) 0 (omega arith) (omega (arith, l, g, k)))
+    output_told false q =
+        let l = length_behind in
+        let z : length stored + q.0 - length stored ≡ q.0 = omega arith in
+        refused (length stored + q.0) (omega arith) (omega (arith, l, q.1, h)) (λ e.
+        q.2 0 (ap (λ (i : ℕ). get_or rest i 0) (sym z) ∙ behind (length stored + q.0) (omega arith) ∙ e))
 
 -- ---- the rows of a case
 module _ (before c log sheet : List ℕ) (m : ℕ) (e : m ≡ word_at c 6) where
@@ -150,25 +251,12 @@ leaves (Err (OutsideSet n)) e = e
 leaves (Err (LogTooShort n)) e = e
 leaves (Err (SheetTooShort n)) e = e
 
--- a row whose words are those that are to stand there
-left-all : (before c : List ℕ) (from m i : ℕ) (row : List ℕ) → ((j : ℕ) → j < length row → get_or row j 0 ≡ wanted before c from m (i + j)) → left_from before c from m i row ≡ true
-unfolding left_from
-left-all before c from m i [] f = refl
-left-all before c from m i (x ∷ xs) f =
-    let z : i + 0 ≡ i = omega arith in
-    let p : x ≡ wanted before c from m i = rw z at (f 0 (omega arith)) in
-    let rest = left-all before c from m (suc i) xs (λ j h.
-    let s : i + suc j ≡ suc i + j = omega arith in
-    rw s at (f (suc j) (omega arith))) in
-    rw (eq-eqb x (wanted before c from m i) p) rest
-
 -- what stands before a call is untouched
 untouched : (before c work : List ℕ) → work ≡ take (length work) before → left before c 0 4294967295 work ≡ true
 unfolding left
 untouched before c work e =
-    rw (le-leb 0 (length work) (omega arith)) (left-all before c 0 4294967295 0 work (λ j h.
-    let z : 0 + j ≡ j = omega arith in
-    rw z (ap (λ (r : List ℕ). get_or r j 0) e ∙ get_or-take (length work) before j 0 h ∙ wanted-before before c 0 4294967295 j refl)))
+    rw (le-leb 0 (length work) (omega arith)) (whole (wanted before c 0 4294967295) work (λ j h.
+    ap (λ (r : List ℕ). get_or r j 0) e ∙ get_or-take (length work) before j 0 h ∙ wanted-before before c 0 4294967295 j refl))
 
 module _ (before c : List ℕ) (a : Result Answer Refusal) (row log sheet : List ℕ) (o : ReadOutcome) (q : row ≡ reply_words (reply_in a)) (e : read_in a log sheet ≡ o) (u : Bool) (eu : u ≡ left before c 9 36 row) where
   answer_of : u ≡ left before c 9 36 (reply_words o.reply)
@@ -256,10 +344,6 @@ module _ (before c : List ℕ) (end n : ℕ) (row row' log sheet out : List ℕ)
 
 -- ---- a case
 
--- the text of a case, as it is cut
-pub text_from : (c : List ℕ) (k : ℕ) → take (length c - k) (drop k c) ≡ drop k c
-text_from c k = take_all (length c - k) (drop k c) (simp length-drop (omega arith))
-
 -- whether the lengths fit
 module _ (c : List ℕ) where
   pub fits_work : (w : ℕ) → w ≡ word_at c 2 → 40960 < w → false ≡ lengths_fit c
@@ -328,5 +412,3 @@ module _ (before c : List ℕ) (k : Bool) (ek : k ≡ lengths_fit c) where
 pub ruleset fits = (rules, fits_work, fits_log, fits_sheet, fits_text, fits_within, fits_never)
 
 pub ruleset soiled = (rules, fronted, soiled_read, soiled_form)
-
-pub ruleset outputs = (rules, output_short, output_on, output_off, output-end)

@@ -17,16 +17,15 @@ unfoldable pub wanted : List ℕ → List ℕ → ℕ → ℕ → ℕ → ℕ
 unfolding word_at
 wanted before c from m i = cond (m == 4294967295) (slice_index before i) (cond (nat_lt i m) (word_at c (from + i)) 0)
 
--- whether a row holds what is to stand there, from i on
-unfoldable pub left_from : List ℕ → List ℕ → ℕ → ℕ → ℕ → List ℕ → Bool
-unfolding wanted
-left_from before c from m i [] = true
-left_from before c from m i (x ∷ xs) = x == wanted before c from m i && left_from before c from m (suc i) xs
+-- whether a row holds the words of f, from i on
+unfoldable pub holds_from : (ℕ → ℕ) → ℕ → List ℕ → Bool
+holds_from f i [] = true
+holds_from f i (x ∷ xs) = x == f i && holds_from f (suc i) xs
 
 -- whether a row is left as stored, with room for all that is stored
 unfoldable pub left : List ℕ → List ℕ → ℕ → ℕ → List ℕ → Bool
-unfolding left_from
-left before c from m row = nat_le (marked m) (length row) && left_from before c from m 0 row
+unfolding holds_from wanted
+left before c from m row = nat_le (marked m) (length row) && holds_from (wanted before c from m) 0 row
 
 -- whether log and sheet are: their marks are the words 6 and 7, and what is stored begins at the word 48
 unfoldable pub rows_left : List ℕ → List ℕ → List ℕ → List ℕ → Bool
@@ -42,15 +41,10 @@ work_left n before c work = cond (leaves_work_number n) (left before c 0 4294967
 unfoldable pub agrees : List ℕ → List ℕ → ReadOutcome → Bool
 agrees before c o = left before c 9 36 (reply_words o.reply) && rows_left before c o.log o.sheet
 
--- whether an output holds what is to stand there, from i on: the bytes that are stored, and behind them that of before the call, 165
-unfoldable pub output_from : List ℕ → ℕ → List ℕ → Bool
-output_from stored i [] = true
-output_from stored i (x ∷ xs) = x == get_or stored i 165 && output_from stored (suc i) xs
-
--- whether an output is left as stored, with room for all that is stored
+-- whether an output is left as stored, with room for all that is stored: the bytes that are stored, and behind them that of before the call, 165
 unfoldable pub output_left : List ℕ → List ℕ → Bool
-unfolding output_from
-output_left stored row = nat_le (length stored) (length row) && output_from stored 0 row
+unfolding holds_from
+output_left stored row = nat_le (length stored) (length row) && holds_from (λ i. get_or stored i 165) 0 row
 
 -- the last n bytes of a case before an offset
 abbrev pub bytes_before : List ℕ → ℕ → ℕ → List ℕ

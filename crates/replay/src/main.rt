@@ -30,12 +30,9 @@ const DIRT: u8 = 165;
 fn word_at(case: &[u8], i: usize) -> u32
     ensures { result ≡ word_at case.now i }
 {
-    if i < case.len() / 4 {
-        let low = u32::from(case[4 * i]) + 256 * u32::from(case[4 * i + 1]);
-        let high = u32::from(case[4 * i + 2]) + 256 * u32::from(case[4 * i + 3]);
-        low + 65_536 * high
-    } else {
-        0
+    match case.as_chunks::<4>().0.get(i) {
+        Some(bytes) => u32::from_le_bytes(*bytes),
+        None => 0,
     }
 }
 
@@ -54,19 +51,10 @@ fn marked(mark: u32) -> usize
 }
 
 // Whether an output begins with the bytes that are stored, and holds behind them what was there before.
-#[tactic(auto, using(crate::proofs::Laws::outputs))]
 fn output_left(stored: &[u8], output: &[u8]) -> bool
     ensures { result ≡ output_left stored.now output.now }
 {
-    if output.len() < stored.len() {
-        return false;
-    }
-    for i in 0..output.len() {
-        if output[i] != stored.get(i).copied().unwrap_or(DIRT) {
-            return false;
-        }
-    }
-    true
+    output.starts_with(stored) && output[stored.len()..].iter().all(|byte| *byte == DIRT)
 }
 
 // Fills a row with the front of another.
@@ -97,11 +85,11 @@ struct Stored<'a> {
 impl Stored<'_> {
     // The word that is to stand at i.
     fn wanted(&self, from: usize, mark: u32, i: usize) -> u32
-        requires { (i < length self.now.before.now) × (from < 8589934592) }
+        requires { from < 8589934592 }
         ensures { result ≡ wanted self.now.before.now self.now.case.now from mark i }
     {
         if mark == UNTOUCHED {
-            self.before[i]
+            self.before.get(i).copied().unwrap_or(0)
         } else if i < mark as usize {
             word_at(self.case, from + i)
         } else {
@@ -111,18 +99,14 @@ impl Stored<'_> {
 
     // Whether a row is left as stored.
     fn left(&self, from: usize, mark: u32, row: &[u32]) -> bool
-        requires { (length row.now ≤ length self.now.before.now) × (from < 8589934592) }
+        requires { from < 8589934592 }
         ensures { result ≡ left self.now.before.now self.now.case.now from mark row.now }
     {
-        if row.len() < marked(mark) {
-            return false;
-        }
-        for i in 0..row.len() {
-            if row[i] != self.wanted(from, mark, i) {
-                return false;
-            }
-        }
-        true
+        marked(mark) <= row.len()
+            && row
+                .iter()
+                .enumerate()
+                .all(|(i, word)| *word == self.wanted(from, mark, i))
     }
 
     // Whether work is as an answer of this number leaves it: untouched by refusals 1 and 2.
@@ -351,16 +335,23 @@ fn say_kind(rt: &impl Print, k: usize, n: u32) -> io::Result<()> {
     }
 }
 
+// How many cases agreed, for each kind of answer to the reading and the writing call.
+#[derive(Drop)]
+struct Tally {
+    reading: [u32; 9],
+    writing: [u32; 9],
+}
+
 // Counts a case that agrees, and says which does not.
 fn count(
     rt: &impl Print,
     agrees: bool,
     k: usize,
-    tally: &mut [u32; 18],
+    tally: &mut [u32; 9],
     what: &str,
     i: u32,
 ) -> io::Result<()>
-    requires { k < 18 }
+    requires { k < 9 }
 {
     if agrees {
         tally[k] = tally[k].wrapping_add(1);
@@ -379,17 +370,17 @@ fn replay_case(
     log: &mut [u32],
     sheet: &mut [u32],
     output: &mut [u8],
-    tally: &mut [u32; 18],
+    tally: &mut Tally,
 ) -> io::Result<()>
     requires rooms { Rooms work.old log.old sheet.old }
     requires output { 65536 ≤ length output.old }
 {
     let r = stored.reading_agrees(work, log, sheet);
     let k = kind(word_at(stored.case, 9));
-    count(rt, r, k, tally, "reading differs: case ", i)?;
+    count(rt, r, k, &mut tally.reading, "reading differs: case ", i)?;
     let w = stored.writing_agrees(work, log, sheet, output);
-    let l = 9 + kind(word_at(stored.case, 45));
-    count(rt, w, l, tally, "writing differs: case ", i)
+    let l = kind(word_at(stored.case, 45));
+    count(rt, w, l, &mut tally.writing, "writing differs: case ", i)
 }
 
 // Replays n cases.
@@ -402,7 +393,7 @@ fn replay(
     log: &mut [u32],
     sheet: &mut [u32],
     output: &mut [u8],
-    tally: &mut [u32; 18],
+    tally: &mut Tally,
 ) -> io::Result<()>
     requires before { 40960 ≤ length before.now }
     requires rooms { Rooms work.old log.old sheet.old }
@@ -420,12 +411,10 @@ fn replay(
     Ok(())
 }
 
-// Says how many cases of each kind agreed, of those from a place of the tally on.
-fn say_kinds(rt: &impl Print, tally: &[u32; 18], from: usize) -> io::Result<()>
-    requires { from ≤ 9 }
-{
-    for k in 0..9 {
-        say_kind(rt, k, tally[from + k])?;
+// Says how many cases of each kind agreed.
+fn say_kinds(rt: &impl Print, tally: &[u32; 9]) -> io::Result<()> {
+    for (k, n) in tally.iter().enumerate() {
+        say_kind(rt, k, *n)?;
     }
     Ok(())
 }
@@ -436,7 +425,10 @@ fn main(rt: HostRuntime) -> io::Result<()> {
     let mut log = [0u32; ROW];
     let mut sheet = [0u32; ROW];
     let mut output = [0u8; OUTPUT];
-    let mut tally = [0u32; 18];
+    let mut tally = Tally {
+        reading: [0; 9],
+        writing: [0; 9],
+    };
     let mut first = [0u8; 4];
     scatter(&mut before);
     let mut stdin = rt.stdin();
@@ -454,7 +446,7 @@ fn main(rt: HostRuntime) -> io::Result<()> {
         &mut tally,
     )?;
     println!(&rt; "reading")?;
-    say_kinds(&rt, &tally, 0)?;
+    say_kinds(&rt, &tally.reading)?;
     println!(&rt; "writing")?;
-    say_kinds(&rt, &tally, 9)
+    say_kinds(&rt, &tally.writing)
 }

@@ -88,6 +88,7 @@ pub fn comments(sheet: &mut Sheet, tokens: &Tokens, from: usize, to: usize)
 }
 
 // How many comments stand from the index `from` to before `to`.
+// With `filter` and `count` the goal `returns` stays open: no law of the library ties a count over a range of indices to a list's length.
 pub fn count_between(tokens: &Tokens, from: usize, to: usize) -> usize
     ensures { result ≡ length (between (tokens_of tokens.now) from to) }
 {

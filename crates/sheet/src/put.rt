@@ -10,8 +10,8 @@ fn store(row: &mut [u32], words: &[u32])
     requires { length row.old ≡ length words.now }
     ensures { row.new ≡ words.now }
 {
-    for i in 0..words.len() {
-        row[i] = words[i];
+    for (i, &x) in words.iter().enumerate() {
+        row[i] = x;
     }
 }
 

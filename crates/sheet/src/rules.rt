@@ -142,8 +142,8 @@ impl Rule {
     {
         // A copy stays in registers.
         let tokens = *tokens;
-        for t in 0..members.len() {
-            let r = tokens.at(members[t] as usize);
+        for (t, &x) in members.iter().enumerate() {
+            let r = tokens.at(x as usize);
             let w = tokens.at(self.write + 2 * t);
             let d = tokens.at(self.dir + 2 * t);
             tape(sheet, blank, r, w, d);

@@ -7,8 +7,8 @@ ghost use Rattle.sheet.specs.Wheels.{first_member, goes_on, next_entry, entries_
 use lexer::kind;
 use tokens::Tokens;
 
-// The first member of the entry at the index e. `rules::first_entry` is this of another sign and of an index: each call of one for both would name its
-// sign.
+// The first member of the entry at the index e. `rules::first_entry` is this of another sign and of an index, with a definition of its own: one function for
+// both would have a third definition, that the two are shown to be cases of.
 #[tactic(auto, unfolding(crate::specs::Wheels::first_member))]
 fn first_member(tokens: &Tokens, e: u32) -> u32
     requires { tokens.now.count < 2 ^ 32 }

@@ -2,7 +2,8 @@
 use Rattle.std.proofs.Common.{ap, sym, ◌∙◌, arith, get_or}
 use Rattle.list_lines.specs.Listing.{named, names}
 use Rattle.list_lines.proofs.Chain.{same}
-use Rattle.list_lines.proofs.Lists.{list_start, groups-start, due_all, due_last, not_due, names-on, names-pass, names-end}
+use Rattle.std.proofs.lemmas.Bool.{or_left}
+use Rattle.list_lines.proofs.Lists.{list_start, groups-start, due_last, not_due, names-on, names-pass, names-end}
 use Rattle.list_lines.proofs.names.Goals.{then-all, then-all-via-then-all, then-all-via-else-all+then-word-eq1, else-all+else-word-eq1}
 use Rattle.list_lines.proofs.names.Goals as goal
 
@@ -19,7 +20,7 @@ loop-i-preserved c =
         goes = rw (w.out-is, w.printed-is, c.after-rest.ensures)
             (names-on _ _ _ _ _ _ c.loop-i-test.true c.loop-i.invariant.goes
             (elim w.then-all.branch [
-              | then-all-via-then-all v ↦ due_all _ _ v.if-all.true
+              | then-all-via-then-all v ↦ or_left _ _ v.if-all.true
               | then-all-via-else-all+then-word-eq1 v ↦ due_last all last (sym v.word.ensures ∙ v.if-word-eq1.true)
             ])
             w.separator.ensures (same (ap (λ p. named c.args.text.now p) w.place_at.ensures) w.named.ensures));

@@ -2,8 +2,8 @@
 use Rattle.replay.proofs.Laws.{word_in, word_out}
 use Rattle.replay.proofs.word_at.Goals as goal
 
-pub returns-then-i-case : goal.returns-then-i-case
-returns-then-i-case c = word_in _ _ _ _ _ _ c.if-i-case.true c.from.ensures c.from-then-i-case.ensures c.from-then-i-case-2.ensures c.from-then-i-case-3.ensures
+pub returns-in-Some : goal.returns-in-Some
+returns-in-Some c = word_in _ _ _ c.as_chunks.ensures.front_len _ c.as_chunks.ensures.front c.in-Some.ensures.lookup.3.0 c.in-Some.ensures.lookup.1 _ c.from_le_bytes.ensures
 
-pub returns-else-i-case : goal.returns-else-i-case
-returns-else-i-case c = word_out _ _ c.if-i-case.false
+pub returns-in-None : goal.returns-in-None
+returns-in-None c = word_out _ _ _ c.as_chunks.ensures.front_len c.in-None.ensures.lookup.3

@@ -4,8 +4,7 @@ use Rattle.equal_names.proofs.table.hash.Goals as goal
 pub loop-left-preserved : goal.loop-left-preserved
 loop-left-preserved c = record {
   low = c.step-h.ensures.low;
-  same = hash-on _ _ _ _ _ _ _ _ c.in-len4-up.len_at_least c.from.ensures c.from-in-len4-up.ensures c.from-in-len4-up-2.ensures c.from-in-len4-up-3.ensures
-      c.step-h.ensures.value c.loop-left.invariant.same;
+  same = hash-on _ _ _ _ _ c.in-len4-up.len_at_least c.from_le_bytes.ensures c.step-h.ensures.value c.loop-left.invariant.same;
 }
 
 pub returns-clause-value : goal.returns-clause-value

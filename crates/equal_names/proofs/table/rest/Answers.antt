@@ -5,11 +5,10 @@ pub returns-in-len1-clause-value : goal.returns-in-len1-clause-value
 returns-in-len1-clause-value c = rest_1 _ _ c.in-len1.len_at_least c.in-len1.len_below c.from.ensures
 
 pub returns-in-len2-clause-value : goal.returns-in-len2-clause-value
-returns-in-len2-clause-value c = rest_2 _ _ _ c.in-len2.len_at_least c.in-len2.len_below c.from-in-len2.ensures c.from-in-len2-2.ensures
+returns-in-len2-clause-value c = rest_2 _ _ c.in-len2.len_at_least c.in-len2.len_below c.from_le_bytes.ensures
 
 pub returns-in-len3-clause-value : goal.returns-in-len3-clause-value
-returns-in-len3-clause-value c =
-    rest_3 _ _ _ _ c.in-len3.len_at_least c.in-len3.len_below c.from-in-len3.ensures c.from-in-len3-2.ensures c.from-in-len3-3.ensures
+returns-in-len3-clause-value c = rest_3 _ _ c.in-len3.len_at_least c.in-len3.len_below c.from_le_bytes-in-len3.ensures
 
 pub returns-in_default-clause-value : goal.returns-in_default-clause-value
 returns-in_default-clause-value c = rest_0 _ c.in_default.len_below

@@ -1,16 +1,17 @@
--- Answers for `replay::left`: each turn takes one word off the row.
-use Rattle.std.proofs.Common.{refl}
-use Rattle.replay.proofs.Laws.{left_short, left-on, left_off, left_end}
+-- Answers for `replay::left`: `all` tells of each word and its place.
+use Rattle.std.proofs.Common.{◌≡◌, ◌∙◌, rules, tests}
+use Rattle.std.proofs.lemmas.Iterator.{cases_from_all, YieldsList-from_slice}
+use Rattle.std.proofs.lemmas.Iterator.Consumers.{YieldsList-from_enumerate}
+use Rattle.replay.specs.Case.{wanted}
+use Rattle.replay.proofs.Laws.{left_short, left_told}
+use borrow.Author.Tests.{lt-leb}
 use Rattle.replay.proofs.Stored.left.Goals as goal
 
-pub returns-then-row-marked : goal.returns-then-row-marked
-returns-then-row-marked c = left_short _ _ _ _ _ _ c.marked.ensures.0 c.if-row-marked.true
+pub returns-then-marked-row : goal.returns-then-marked-row
+returns-then-marked-row c =
+    let w = wanted c.args.self.now.before.now c.args.self.now.case.now c.args.from c.args.mark in
+    left_told _ _ _ _ _ _ c.marked.ensures.0 c.if-marked-row.true _
+    (cases_from_all _ _ _ (λ p. p.1 ≡ w p.0) (λ p. p.1 ≡ w p.0 → ⊥) c.all.ensures.ran (YieldsList-from_enumerate (YieldsList-from_slice c.args.row.now (cc)) (cc)) (λ x q k. search (rules, tests)) (λ x q k. search (rules, tests)))
 
-pub returns-then-row-i : goal.returns-then-row-i
-returns-then-row-i c = left_off _ _ _ _ _ _ _ c.loop-i.invariant c.loop-i-test.true _ c.wanted.ensures _ c.marked.ensures.0 c.if-row-marked.false c.if-row-i.true refl
-
-pub loop-i-preserved : goal.loop-i-preserved
-loop-i-preserved c = left-on _ _ _ _ _ _ _ c.loop-i.invariant c.loop-i-test.true _ c.wanted.ensures c.if-row-i.false
-
-pub returns : goal.returns
-returns c = left_end _ _ _ _ _ _ c.loop-i.invariant c.loop-i-test.false _ c.marked.ensures.0 c.if-row-marked.false
+pub returns-else-marked-row : goal.returns-else-marked-row
+returns-else-marked-row c = lt-leb _ _ c.if-marked-row.false ∙ left_short _ _ _ _ _ _ c.marked.ensures.0 c.if-marked-row.false
