@@ -6,18 +6,29 @@ use Prim.Native.Nat.{ℕ, zero, suc, ◌+◌, ◌-◌, ◌≤◌, ◌<◌, min}
 use native.Mathlib.Omega.{arith}
 use native.Mathlib.Numerals.{add-one}
 use borrow.Rule.Slice.PartMut.{mid_of, put_mid}
-use borrow.Author.Tests.{eq-eqb, eqb-true, eqb-false}
-use lib.Dec.{eqb}
+use borrow.Author.Tests.{eq-eqb, eqb-true, eqb-false, lt-ltb, ltb-true}
+use lib.Dec.{eqb, ltb}
 use lib.ListN.{length, get_or, take, drop, set, length-set, length-append, length-drop, length-replicate, replicate, drop_of_length-le}
 use lib.Seq.{take-set-le, length-take-le, get_or-append-add, get_or-set_same, get_or-set_other, take-suc-set}
 use Rattle.std.specs.List.{list_any}
 use Rattle.std.proofs.lemmas.Bool.{or_right}
 use Rattle.diag.proofs.Cases.{by_test_lem}
 use Rattle.language.specs.Infer.{member}
-use Rattle.alphabet.specs.Codes.{noted, noted_all, slot, hint_of, Looked, Hinted}
+use Rattle.alphabet.specs.Codes.{noted, noted_all, slot, hint_of, Looked, shown, Hinted}
 use Rattle.alphabet.proofs.CodesMean.{member_last}
 
 -- ---- the hints
+-- what a hint shows, where it is looked at and where it is not
+pub shown_some : (t n : ℕ) (r : List ℕ) (c i : ℕ) → Looked t n r c → i ≡ length r - 1 - slot c → eqb (get_or r i 0) c ≡ shown t n r c
+unfolding shown
+shown_some t n r c i l e = rw (lt-ltb (slot c) t l.one, lt-ltb (n + t) (length r) l.room, e)
+
+pub shown_none : (t n : ℕ) (r : List ℕ) (c : ℕ) → (Looked t n r c → ⊥) → false ≡ shown t n r c
+unfolding shown
+shown_none t n r c f =
+    by_test_lem (ltb (slot c) t)
+    (λ p. by_test_lem (ltb (n + t) (length r)) (λ q. absurd (f (record { one = ltb-true (slot c) t p; room = ltb-true (n + t) (length r) q }))) (λ q. rw (p, q))) (λ p. rw p)
+
 -- cleared, they say that nothing is noted
 zeros-at : (k i : ℕ) → get_or {A = ℕ} (replicate k 0) i 0 ≡ 0
 zeros-at zero i = refl

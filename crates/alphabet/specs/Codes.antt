@@ -1,5 +1,5 @@
 -- Characters noted one after the other, each once: a list of codes that stands in a row of work.
-use Rattle.std.specs.Prelude.{ℕ, ◌+◌, ◌-◌, ◌*◌, ◌/◌, ◌%◌, ◌≤◌, ◌<◌, min, ◌≡◌, true, cond, List, [], ◌∷◌, ◌++◌, eqb, length, get_or, take}
+use Rattle.std.specs.Prelude.{ℕ, ◌+◌, ◌-◌, ◌*◌, ◌/◌, ◌%◌, ◌≤◌, ◌<◌, min, ◌≡◌, Bool, true, false, cond, ◌&&◌, List, [], ◌∷◌, ◌++◌, eqb, ltb, length, get_or, take}
 use Rattle.language.specs.Infer.{member}
 
 -- one more character, if it is not there yet
@@ -29,6 +29,11 @@ pub record Looked (t n : ℕ) (r : List ℕ) (c : ℕ) : Type 0 where
 -- the word that is the hint of c; where it is looked at, 0 says that c is not noted, unless c is 0 itself
 abbrev pub hint_of : List ℕ → ℕ → ℕ
 hint_of r c = get_or r (length r - 1 - slot c) 0
+
+-- the hint of c, of t hints behind n codes in the row r, is looked at and is c
+unfoldable pub shown : ℕ → ℕ → List ℕ → ℕ → Bool
+unfolding slot
+shown t n r c = cond (ltb (slot c) t && ltb (n + t) (length r)) (eqb (hint_of r c) c) false
 
 -- while there is room, each hint other than 0 is a character that is noted, and the hint of each that is noted, but of 0, is not 0
 pub record Hinted (t n : ℕ) (r : List ℕ) : Type 0 where

@@ -1,7 +1,7 @@
 // Characters noted in a row of words, each once.
 ghost use Rattle.std.specs.Prelude.{◌≡◌, true, [], ◌∷◌, ◌-◌, ◌<◌, eqb, length, None, IfSome, IsTrue};
 ghost use Rattle.language.specs.Infer.{member};
-ghost use Rattle.alphabet.specs.Codes.{hints, slot, Looked};
+ghost use Rattle.alphabet.specs.Codes.{hints, slot, shown, Looked};
 
 // How many hints there are at most.
 const MOST: usize = 2048;
@@ -37,7 +37,7 @@ impl<'a> Codes<'a> {
     ghost use Rattle.alphabet.specs.Notes.{listed, lent_row, Sound, Notes};
 
     // No character of a text of `size` bytes: the hints are cleared.
-    pub fn new(row: &'a mut [u32], size: usize) -> Codes<'a>
+    pub(crate) fn new(row: &'a mut [u32], size: usize) -> Codes<'a>
         ensures empty { listed result ≡ [] }
         ensures sound { Sound result }
         ensures many { result.hints ≡ hints size }
@@ -54,22 +54,8 @@ impl<'a> Codes<'a> {
         }
     }
 
-    // The characters that were noted before in a row for a text of `size` bytes, of which there are `count`. They and their hints are as they were left, so
-    // that what was true of them is true still.
-    pub fn behind(row: &'a mut [u32], size: usize, count: usize) -> Codes<'a>
-        ensures holds { (result.row.now ≡ row.old) × (result.count ≡ count) }
-        ensures many { result.hints ≡ hints size }
-        ensures same_row { lent_row result ≡ row.entry.ghost_name }
-    {
-        Codes {
-            row,
-            hints: hints(size),
-            count,
-        }
-    }
-
     // How many are noted.
-    pub fn count(&self) -> usize
+    pub(crate) fn count(&self) -> usize
         ensures { result ≡ self.now.count }
     {
         self.count
@@ -88,9 +74,10 @@ impl<'a> Codes<'a> {
         Some(self.row.len() - 1 - s)
     }
 
-    // Whether a character's hint shows that it is noted; false says nothing.
-    pub fn is_seen(&self, c: u32) -> bool
-        ensures { IsTrue result → Sound self.now → (c ≡ 0 → ⊥) → member eqb (listed self.now) c ≡ true }
+    // Whether a character's hint shows that it is noted; false says nothing of that.
+    pub(crate) fn is_seen(&self, c: u32) -> bool
+        ensures value { result ≡ shown self.now.hints self.now.count self.now.row.now c }
+        ensures noted { IsTrue result → Sound self.now → (c ≡ 0 → ⊥) → member eqb (listed self.now) c ≡ true }
     {
         match self.hint(c) {
             Some(i) => self.row[i] == c,
@@ -117,7 +104,7 @@ impl<'a> Codes<'a> {
     }
 
     // One character more, if it is not there yet. A hint that is another's is left as it is.
-    pub fn note(&mut self, c: u32)
+    pub(crate) fn note(&mut self, c: u32)
         ensures { Notes (c ∷ []) self.old self.new }
     {
         if self.row.len() <= self.count {

@@ -208,7 +208,7 @@ impl<'a> Symbols<'a> {
     }
 
     // The symbols of all rules. A line's first token says where the next line begins, so that no iterator gives the lines.
-    pub fn note_rules(&self, codes: &mut Codes)
+    pub(crate) fn note_rules(&self, codes: &mut Codes)
         ensures { Uses self.now.blank (rules_symbols (row_of self.now) (entries (row_of self.now))) codes.old codes.new }
     {
         let mut e = 0;

@@ -107,7 +107,7 @@ fn note_string(text: &[u8], at: usize, codes: &mut Codes)
 }
 
 // Notes the characters of the input, which the line at the index d declares; none if no token stands there, since this asks nothing of d.
-pub fn note_input(text: &[u8], tokens: &Tokens, d: usize, codes: &mut Codes)
+pub(crate) fn note_input(text: &[u8], tokens: &Tokens, d: usize, codes: &mut Codes)
     ensures { Notes (input_of text.now (tokens_of tokens.now) d) codes.old codes.new }
 {
     if d < tokens.len() {

@@ -90,7 +90,7 @@ fn head_words(head: Head) -> [u32; HEAD_WORDS]
 }
 
 // The number of an answer: the first column of paper 01's table, which no derive gives, since the cases stand in two enums.
-pub fn answer_number(answer: Result<Answer, Refusal>) -> u32
+pub(crate) fn answer_number(answer: Result<Answer, Refusal>) -> u32
     ensures { result ≡ reply_number (reply_in answer) }
 {
     match answer {
@@ -101,7 +101,7 @@ pub fn answer_number(answer: Result<Answer, Refusal>) -> u32
 }
 
 // And its value: the second column of that table.
-pub fn answer_value(answer: Result<Answer, Refusal>) -> u64
+pub(crate) fn answer_value(answer: Result<Answer, Refusal>) -> u64
     ensures { result ≡ reply_value (reply_in answer) }
 {
     match answer {

@@ -54,7 +54,7 @@ pub fn duplicate(tokens: &Tokens, f: usize, t: Token, log: &mut Log)
 }
 
 // One line's, and its declaration if it is the first of its name.
-pub fn declaration(tokens: &Tokens, at: usize, first: &mut [u32; 11], log: &mut Log)
+pub(crate) fn declaration(tokens: &Tokens, at: usize, first: &mut [u32; 11], log: &mut Log)
     requires inside { (at < tokens.now.count) × (tokens.now.count < 2 ^ 32) }
     requires room { log.old.count + 1 < 2 ^ 64 }
     ensures first { first.new ≡ declare tokens.now.count first.old (entry_at (tokens_of tokens.now) at) }
@@ -78,7 +78,7 @@ pub fn declaration(tokens: &Tokens, at: usize, first: &mut [u32; 11], log: &mut 
 }
 
 // Of all lines. Where a line ends is found while it is read, so that no `for` counts the steps.
-pub fn declarations(tokens: &Tokens, first: &mut [u32; 11], log: &mut Log)
+pub(crate) fn declarations(tokens: &Tokens, first: &mut [u32; 11], log: &mut Log)
     requires few { tokens.now.count < 2 ^ 32 }
     requires room { log.old.count + tokens.now.count < 2 ^ 64 }
     requires fed { Fed (tokens_of tokens.now) }

@@ -21,7 +21,7 @@ pub fn line_error(t: Token, log: &mut Log)
 }
 
 // Of all lines. Where a line ends is found while it is read, so that no `for` counts the steps.
-pub fn line_errors(tokens: &Tokens, log: &mut Log)
+pub(crate) fn line_errors(tokens: &Tokens, log: &mut Log)
     requires room { log.old.count + tokens.now.count < 2 ^ 64 }
     requires fed { Fed (tokens_of tokens.now) }
     ensures { Appends log.old log.new (line_errors (entries (tokens_of tokens.now))) }

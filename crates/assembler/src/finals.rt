@@ -129,7 +129,7 @@ impl<'a> Names<'a> {
     }
 
     // The diagnostics of F, of the first declarations; the marks may be any before.
-    pub fn finals(&self, marks: &mut [u32], first: &[u32; 11], log: &mut Log)
+    pub(crate) fn finals(&self, marks: &mut [u32], first: &[u32; 11], log: &mut Log)
         requires room { (self.now.tokens.count ≤ length marks.old) × (log.old.count + self.now.tokens.count < 2 ^ 64) }
         ensures { Appends log.old log.new (finals_errors self.now.text.now (row_of self.now) first.now) }
     {
@@ -141,7 +141,7 @@ impl<'a> Names<'a> {
 }
 
 // The diagnostics of F, of the first declarations; without F there is none, and nobody looks at the row of first equal words or at the marks.
-pub fn finals(
+pub(crate) fn finals(
     text: &[u8],
     tokens: &Tokens,
     firsts: &[u32],

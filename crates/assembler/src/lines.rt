@@ -18,7 +18,7 @@ use tokens::{Token, Tokens};
 
 // The number of an item, in the source's order. ItemKind is declared in parser, so that no From can stand here, and machine's numbers another table.
 #[tactic(auto, unfolding(crate::specs::Entered::item_number))]
-pub fn item_number(k: ItemKind) -> u32
+pub(crate) fn item_number(k: ItemKind) -> u32
     ensures { result ≡ item_number k }
 {
     k as u32
@@ -148,7 +148,7 @@ fn enter(work: &mut [u32], count: usize, at: usize)
 }
 
 // All lines, entered. Where a line ends stands in its entry, so that no `for` counts the steps.
-pub fn lines(work: &mut [u32], count: usize)
+pub(crate) fn lines(work: &mut [u32], count: usize)
     requires { (4 * count ≤ length work.old) × (count < 2 ^ 31) }
     ensures { work.new ≡ onto (flat (entered (rows count work.old))) work.old }
 {

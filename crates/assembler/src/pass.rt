@@ -14,7 +14,7 @@ use diag::Log;
 use tokens::Tokens;
 
 // Of the lines that failed.
-pub fn failed(tokens: &Tokens, k: usize, log: &mut Log)
+pub(crate) fn failed(tokens: &Tokens, k: usize, log: &mut Log)
     requires room { log.old.count + tokens.now.count < 2 ^ 64 }
     requires fed { Fed (tokens_of tokens.now) }
     requires number { k ≡ length (line_errors (entries (tokens_of tokens.now))) }
@@ -26,7 +26,7 @@ pub fn failed(tokens: &Tokens, k: usize, log: &mut Log)
 }
 
 // Of the declarations.
-pub fn declared(tokens: &Tokens, k: usize, log: &mut Log)
+pub(crate) fn declared(tokens: &Tokens, k: usize, log: &mut Log)
     requires few { tokens.now.count < 2 ^ 32 }
     requires room { log.old.count + tokens.now.count < 2 ^ 64 }
     requires fed { Fed (tokens_of tokens.now) }
@@ -40,7 +40,7 @@ pub fn declared(tokens: &Tokens, k: usize, log: &mut Log)
 }
 
 // Of the rules.
-pub fn ruled(tokens: &Tokens, k: usize, log: &mut Log)
+pub(crate) fn ruled(tokens: &Tokens, k: usize, log: &mut Log)
     requires few { tokens.now.count < 2 ^ 32 }
     requires room { log.old.count + tokens.now.count < 2 ^ 64 }
     requires fed { Fed (tokens_of tokens.now) }

@@ -92,7 +92,7 @@ pub fn rule_error(v: Verdict, cut: bool, place: Span, log: &mut Log)
 }
 
 // Of all lines. Where a line ends is found while it is read, so that no `for` counts the steps.
-pub fn rules(tokens: &Tokens, log: &mut Log)
+pub(crate) fn rules(tokens: &Tokens, log: &mut Log)
     requires few { tokens.now.count < 2 ^ 32 }
     requires room { log.old.count + tokens.now.count < 2 ^ 64 }
     requires fed { Fed (tokens_of tokens.now) }

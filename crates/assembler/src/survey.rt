@@ -20,7 +20,7 @@ pub struct Counts {
 
 // Of all lines; those that hold nothing, or a comment alone, change no count. The logs have no words, so that they only count. Where a line ends is found
 // while it is read, so that no `for` counts the steps.
-pub fn survey(tokens: &Tokens, first: &mut [u32; 11]) -> Counts
+pub(crate) fn survey(tokens: &Tokens, first: &mut [u32; 11]) -> Counts
     requires few { tokens.now.count < 2 ^ 32 }
     requires fed { Fed (tokens_of tokens.now) }
     ensures { Surveyed tokens.now.count tokens.now.words.now first.old first.new result }

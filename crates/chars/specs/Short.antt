@@ -1,4 +1,4 @@
--- Characters of two and three bytes, told by their bytes.
+-- Characters of two and three bytes, told by their bytes: what the code goes by to be fast, and no rule of a text.
 use Rattle.std.specs.Prelude.{ℕ, ◌+◌, ◌-◌, ◌*◌, ◌≤◌, ◌<◌, ◌≡◌, Bool, true, ◌&&◌, ◌||◌, Option, Some, None, cond, List, ltb, leb, drop}
 use Rattle.chars.specs.Utf8.{size, Front, one, bad, none, front, decoded_at}
 use Rattle.chars.specs.Ranges.{within}
@@ -17,6 +17,10 @@ is_two a b = (leb 0xC2 a && ltb a 0xE0) && is_tail b
 unfoldable pub two_code : ℕ → ℕ → ℕ
 two_code a b = (a - 0xC0) * 64 + (b - 0x80)
 
+-- a character that its first bytes tell: of two bytes, or of three that begin with E2
+unfoldable pub is_short : ℕ → Bool
+is_short c = (leb 0x80 c && ltb c 0x800) || (leb 0x2000 c && ltb c 0x3000)
+
 -- two bytes that are a character of the set, of those whose first byte tells it
 unfoldable pub plain_two : ℕ → ℕ → Bool
 unfolding is_tail
@@ -33,8 +37,3 @@ plain_next at none = None
 pub data Short (t : List ℕ) (at : ℕ) (T : ℕ → ℕ → Bool → Type 0) (lo hi c next : ℕ) : Type 0 where
   of_two : Some (c, next) ≡ decoded_at at (front (drop at t)) → (a b : ℕ) → T a b true → c ≡ two_code a b → Short t at T lo hi c next
   of_three : Some (c, next) ≡ decoded_at at (front (drop at t)) → lo ≤ c → c < hi → Short t at T lo hi c next
-
--- from the place i of the text t to another stand only characters above ASCII
-pub data Above (t : List ℕ) (i : ℕ) : ℕ → Type 0 where
-  no_more : Above t i i
-  one_more : {j k c : ℕ} → Above t i j → Some (c, k) ≡ decoded_at j (front (drop j t)) → 0x80 ≤ c → Above t i k

@@ -3,14 +3,19 @@
 // back to, and a cursor would make each contract say that it keeps the text.
 #![tactic(auto)]
 
-ghost use Rattle.std.specs.Prelude.{◌≡◌, true, ◌+◌, ◌*◌, ◌^◌, ◌<◌, ◌≤◌, length, get_or, drop, IfSome, IfNone, Some, nat_le, position, unwrap_or};
-ghost use Rattle.chars.specs.Utf8.{scalar, size, tail_of, form, front, decoded_at, valid_up_to};
+ghost use Rattle.std.specs.Prelude.{◌≡◌, ℕ, true, ◌+◌, ◌*◌, ◌^◌, ◌<◌, ◌≤◌, length, get_or, drop, IfSome, IfNone, Some, false, nat_le, position, unwrap_or, take_while};
+ghost use Rattle.chars.specs.Utf8.{scalar, size, sizes, tail_of, one, form, front, decode, decoded_at, valid_up_to};
 ghost use Rattle.chars.specs.Ranges.{within};
 ghost use Rattle.chars.specs.Blocks.{ors};
-ghost use Rattle.chars.specs.Short.{is_tail, is_two, two_code, plain_two, plain_next, Short, Above};
+ghost use Rattle.chars.specs.Short.{is_tail, is_two, two_code, plain_two, plain_next, Short, is_short};
 ghost use Rattle.chars.specs.Class.{admitted, first_outside, plain_up_to, Passes, class_of};
 
 use std::ops::Range;
+
+// The last of the three ranges of the set: its characters of three bytes.
+const LAST_FROM: u32 = 0x2190;
+
+const LAST_TO: u32 = 0x243F;
 
 // The class of a code point, as the lexer asks for it.
 #[derive(Clone, Copy, PartialEq, Eq, Debug)]
@@ -113,7 +118,8 @@ fn plain_two(a: u8, b: u8) -> bool
     matches!(a, 0xC2..0xCB | 0xCE..0xD2) && is_tail(b)
 }
 
-// The character at a place, if its bytes alone tell it: of two bytes that `two` takes, or of three that begin with E2 and lie in `three`.
+// The character at a place, if its bytes alone tell it: of two bytes that `two` takes, or of three that begin with E2 and lie in `three`. Three bytes are
+// looked at, so that one test of the length is enough.
 fn short_at<F: Fn(u8, u8) -> bool>(
     text: &[u8],
     at: usize,
@@ -125,7 +131,10 @@ fn short_at<F: Fn(u8, u8) -> bool>(
     requires takes { (a b : _) → F.post two a b true → is_two a b ≡ true }
     requires from { 0x2000 ≤ three.start }
     requires below { three.end ≤ 0x3000 }
-    ensures { IfSome result (λ found. Short text.now at (F.post two) three.start three.end found.0 found.1) }
+    ensures some { IfSome result (λ found. Short text.now at (F.post two) three.start three.end found.0 found.1) }
+    ensures none_of_two { IfNone result (at + 3 ≤ length text.now
+        → F.post two (get_or text.now at 0) (get_or text.now (at + 1) 0) false) }
+    ensures none_of_three { IfNone result ((c : ℕ) → front (drop at text.now) ≡ one c → three.start ≤ c → three.end ≤ c) }
 {
     let &[a, b, c, ..] = &text[at..] else {
         return None;
@@ -167,10 +176,10 @@ pub fn glyph_at(text: &[u8], at: usize) -> Option<(u32, usize)>
     long_at(text, at)
 }
 
-// The place behind the characters above ASCII at a place, as far as their first bytes tell them: those of two bytes and those that begin with E2. None is
+// The place behind the characters at a place that their first bytes tell, one behind the other: those of two bytes and those that begin with E2. None is
 // decoded.
 pub fn above_end(text: &[u8], at: usize) -> usize
-    ensures { Above text.now at result }
+    ensures { result ≡ at + sizes (take_while is_short (decode (drop at text.now))) }
 {
     if text.len() < at {
         return at;
@@ -179,7 +188,11 @@ pub fn above_end(text: &[u8], at: usize) -> usize
     while let Some((_, next)) = short_at(text, i, is_two, 0x2000..0x3000) {
         i = next;
     }
-    i
+    // The loop wants three bytes: two that the text ends with are left.
+    match &text[i..] {
+        &[a, b] if is_two(a, b) => i + 2,
+        _ => i,
+    }
 }
 
 // The length of the longest UTF-8 beginning.
@@ -195,10 +208,10 @@ pub fn valid_up_to(text: &[u8]) -> usize
 }
 
 // Whether a code point is in the set that a text may use.
-pub fn is_admitted(c: u32) -> bool
+pub(crate) fn is_admitted(c: u32) -> bool
     ensures { result ≡ within admitted c }
 {
-    matches!(c, 0x0000..=0x02C1 | 0x0370..=0x0481 | 0x2190..=0x243F)
+    matches!(c, 0x0000..=0x02C1 | 0x0370..=0x0481 | LAST_FROM..=LAST_TO)
 }
 
 // The place of the first character outside that set, in the longest UTF-8 beginning.
@@ -283,12 +296,12 @@ fn ascii_gap(text: &[u8], at: usize) -> usize
     ascii_end(text, at + 1)
 }
 
-// The place behind the character of the set at a place, if the first bytes tell that one stands there; those of three bytes are 2190 to 243F.
+// The place behind the character of the set at a place, if the first bytes tell that one stands there.
 fn plain_short(text: &[u8], at: usize) -> Option<usize>
     requires { at ≤ length text.now }
     ensures { IfSome result (λ next. Some next ≡ plain_next at (front (drop at text.now))) }
 {
-    let (_, next) = short_at(text, at, plain_two, 0x2190..0x2440)?;
+    let (_, next) = short_at(text, at, plain_two, LAST_FROM..LAST_TO + 1)?;
     Some(next)
 }
 

@@ -22,14 +22,6 @@ impl<'a> Log<'a> {
         Log { row, count: 0 }
     }
 
-    // A log behind the diagnostics that a row was given before, of which there were `count`.
-    pub fn behind(row: &'a mut [u32], count: usize) -> Log<'a>
-        ensures same_row { result.row.ghost_name ≡ row.entry.ghost_name }
-        ensures given { logged result.row.now result.count ≡ logged row.old count }
-    {
-        Log { row, count }
-    }
-
     // How many it was given.
     pub fn count(&self) -> usize
         ensures { result ≡ self.now.count }

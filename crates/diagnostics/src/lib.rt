@@ -10,8 +10,8 @@ ghost use Rattle.diagnostics.specs.Stands.{Stands, Started};
 use assembler::rules::Tally;
 use diag::Diagnostic;
 
-pub mod lines;
-pub mod passes;
+mod lines;
+mod passes;
 
 // The passes, in their order.
 #[derive(Clone, Copy, Debug, PartialEq, Eq)]
@@ -51,7 +51,7 @@ pub struct Step {
 
 impl Search {
     // The search at a token of a pass.
-    pub fn moved(mut self, pass: Pass, at: usize) -> Self
+    pub(crate) fn moved(mut self, pass: Pass, at: usize) -> Self
         ensures { result ≡ moved self pass at }
     {
         self.pass = pass;
@@ -60,7 +60,7 @@ impl Search {
     }
 
     // The search with the rules so far.
-    pub fn tallied(mut self, tally: Tally) -> Self
+    pub(crate) fn tallied(mut self, tally: Tally) -> Self
         ensures { result ≡ tallied self tally }
     {
         self.tally = tally;

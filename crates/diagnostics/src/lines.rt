@@ -30,7 +30,7 @@ fn stepped(search: Search, row: &[u32; 5], n: usize) -> Step
 }
 
 // A line, as one that may have failed.
-pub fn failure(tokens: &Tokens, s: Search) -> Step
+pub(crate) fn failure(tokens: &Tokens, s: Search) -> Step
     requires { s.at + 2 < 2 ^ 64 }
     ensures taken { taken result ≡ line_error (peek (tokens_of tokens.now) s.at) }
     ensures search { result.search ≡ moved s Pass.Failures (next_line (tokens_of tokens.now) s.at) }
@@ -65,7 +65,7 @@ fn name_error(tokens: &Tokens, at: usize, first: &[u32; 11], log: &mut Log)
 }
 
 // A line, as one that may declare a name.
-pub fn name(tokens: &Tokens, s: Search) -> Step
+pub(crate) fn name(tokens: &Tokens, s: Search) -> Step
     requires { (s.at < tokens.now.count) × (s.at + 2 < 2 ^ 64) }
     ensures taken { taken result ≡ name_error (tokens_of tokens.now) s.first (entry_at (tokens_of tokens.now) s.at) }
     ensures search { result.search ≡ moved s Pass.Names (next_line (tokens_of tokens.now) s.at) }
@@ -80,7 +80,7 @@ pub fn name(tokens: &Tokens, s: Search) -> Step
 }
 
 // A token of F's line.
-pub fn listed(names: &Names, marks: &mut [u32], s: Search, declared: bool) -> Step
+pub(crate) fn listed(names: &Names, marks: &mut [u32], s: Search, declared: bool) -> Step
     requires { (s.at < names.now.tokens.count) × (names.now.tokens.count ≤ length marks.old) }
     ensures search { result.search ≡ moved s Pass.Finals (s.at + 1) }
     ensures taken { (qs before : List ℕ) → Marked names.now marks.old qs before
@@ -95,7 +95,7 @@ pub fn listed(names: &Names, marks: &mut [u32], s: Search, declared: bool) -> St
 }
 
 // A line, as one that may be a rule.
-pub fn rule(tokens: &Tokens, s: Search) -> Step
+pub(crate) fn rule(tokens: &Tokens, s: Search) -> Step
     requires { (tokens.now.count < 2 ^ 31) × (s.at < tokens.now.count) × (s.tally.rules ≤ 262144) }
     ensures taken { taken result
         ≡ rule_error (verdict s.tally.rules (entry_at (tokens_of tokens.now) s.at)) s.tally.cut

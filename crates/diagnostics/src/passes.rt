@@ -122,7 +122,7 @@ fn at_finals(text: &[u8], work: &mut [u32], s: Search) -> Step
 }
 
 // One step of a search that is not at its end.
-pub fn step(text: &[u8], work: &mut [u32], s: Search) -> Step
+pub(crate) fn step(text: &[u8], work: &mut [u32], s: Search) -> Step
     requires { Stands text.now work.old s × (1 ≤ length (pending text.now work.old s)) }
     ensures { Stepped text.now work.old work.new s result }
 {

@@ -24,14 +24,6 @@ impl<'a> Output<'a> {
         Output { row, at: 0 }
     }
 
-    // An output behind the bytes that were appended to a row before, of which there were `at`.
-    pub fn behind(row: &'a mut [u8], at: usize) -> Output<'a>
-        ensures holds { held result ≡ output row.old at }
-        ensures same_row { lent_row result ≡ row.entry.ghost_name }
-    {
-        Output { row, at }
-    }
-
     // How many bytes were appended.
     pub fn count(&self) -> usize
         ensures { result ≡ (held self.now).at }

@@ -109,7 +109,7 @@ impl Layout {
     ghost use Rattle.equal_names.specs.Indexed.{Indexed};
 
     // The layout of a table of so many slots, with at most `most` of them to begin in and a window of no more than `longest`.
-    pub fn of(size: usize, most: usize, longest: usize) -> Self
+    pub(crate) fn of(size: usize, most: usize, longest: usize) -> Self
         requires size { 128 ≤ size }
         requires most { 288 ≤ most }
         requires narrow { most < 2 ^ 34 }
@@ -172,7 +172,7 @@ impl Layout {
     }
 
     // The row of first equal words by a table whose slots these are.
-    pub fn index(self, words: &Words, row: &mut [u32], slots: &mut [u32]) -> Result<(), Full>
+    pub(crate) fn index(self, words: &Words, row: &mut [u32], slots: &mut [u32]) -> Result<(), Full>
         requires row { count_of words.now ≤ length row.old }
         requires slots { self.span + self.window ≤ length slots.old }
         ensures { OnOk result (AllFirsts words.now row.new) }

@@ -54,7 +54,7 @@ pub fn string(out: &mut Output, text: &[u8], p: Span)
 // ---- comments
 
 // The comment at a place; a space parts the slashes from its text.
-pub fn comment(out: &mut Output, text: &[u8], p: Span)
+pub(crate) fn comment(out: &mut Output, text: &[u8], p: Span)
     requires { Utf8At text.now p }
     ensures { Writes (comment (characters_at text.now p)) out.old out.new }
 {

@@ -135,7 +135,7 @@ impl<'a> Names<'a> {
     }
 
     // Marks the names that F lists, and no other: a mark's index is that of a token, so no more than there are tokens are cleared.
-    pub fn finals(&self, first: &[u32; 11], marks: &mut [u32])
+    pub(crate) fn finals(&self, first: &[u32; 11], marks: &mut [u32])
         requires marks { length self.now.firsts.now ≤ length marks.old }
         ensures { marks.new ≡ finals self.now.firsts.now (row_of self.now) first.now marks.old }
     {
@@ -144,7 +144,7 @@ impl<'a> Names<'a> {
     }
 
     // The states, once the finals are marked.
-    pub fn states(&self, first: &[u32; 11], marks: &mut [u32], out: &mut Sheet)
+    pub(crate) fn states(&self, first: &[u32; 11], marks: &mut [u32], out: &mut Sheet)
         requires marks { length self.now.firsts.now ≤ length marks.old }
         ensures puts { Puts (states_add self.now.firsts.now (row_of self.now) first.now marks.old) out.old out.new }
         ensures marked { marks.new ≡ states_mark self.now.firsts.now (row_of self.now) first.now marks.old }

@@ -15,11 +15,11 @@ pub fn fill<R: Read>(input: &mut R, row: &mut [u8]) -> io::Result<usize>
 {
     let mut done = 0;
     while done < row.len() {
-        let n = input.read(&mut row[done..])?;
-        if n == 0 {
-            break;
+        match input.read(&mut row[done..]) {
+            Ok(0) => break,
+            Ok(n) => done += n,
+            Err(e) => return Err(e),
         }
-        done += n;
     }
     Ok(done)
 }

@@ -143,6 +143,7 @@ claim t u good fine a b e f =
     let agree = both_agree t u good fine a b e f in
     record {
       forms = (λ p. agree.0 (same.0 (sym left ∙ (p ∙ right))), λ p. left ∙ (same.1 (agree.1 p) ∙ sym right));
+      form_written = left;
       form_writable = subst Writable (sym left) (form-writes t good);
       form_agrees_lem = subst (λ x. (c : Lent) → Enough x c → BothAgree (answer_given x (reading x c)) (answer_given t (reading t a))) (sym left)
           (λ c g. (both_agree (form_of t) t (form-writes t good) good c a g e).0 (round_trip t good.is_admitted good.form_short).1);

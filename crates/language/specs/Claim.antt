@@ -52,6 +52,8 @@ BothAgree none o = ⊥
 pub record Claim (t u : List ℕ) (a b : Lent) : Type 0 where
   -- the forms are equal bytes exactly when the answers agree
   pub forms : (form_left (writing t a) ≡ form_left (writing u b)) ↔ BothAgree (answer_given t (reading t a)) (answer_given u (reading u b))
+  -- the bytes that are written are the text's plain form
+  pub form_written : form_left (writing t a) ≡ form_of t
   -- a form is a text of that kind again
   pub form_writable : Writable (form_left (writing t a))
   -- and with any buffers long enough it reads as a machine that agrees with the text's

@@ -6,13 +6,13 @@ use Prim.Native.Nat.{ℕ, ◌+◌, ◌-◌, ◌*◌, ◌≤◌, ◌<◌}
 use native.Mathlib.Omega.{arith}
 use lib.Dec.{eqb, leb}
 use lib.ListN.{length, get_or, drop, get_or-eq_default}
-use lib.Seq.{sets, length-sets}
+use lib.Seq.{sets}
 use mir.Syntax.{w32, w64}
 use mir.Val.{Fits}
 use borrow.Author.Tests.{eqb-true, eq-eqb, ne_eqb, leb-true, leb-false}
 use Rattle.chars.specs.Utf8.{decode}
 use Rattle.lexer.specs.Places.{Found, Tok, piece}
-use Rattle.lexer.specs.Quick.{lead_of, leads_from, leads, WordAt, QuickAt, quick_value, quick_piece, comma_words, WordPut}
+use Rattle.lexer.specs.Quick.{lead_of, QuickAt, quick_value, comma_words, WordPut}
 use Rattle.diag.proofs.Cases.{by_test_lem as by_test}
 use Rattle.lexer.proofs.Leads.{ascii_at, quick_lead}
 use Rattle.lexer.proofs.Writes.{State, word_end_in, token_falls, state_token, state_quick}
@@ -64,8 +64,8 @@ module _ (t : List ℕ) (at : ℕ) where
 
   -- what stands there is the comma's token
   comma-piece : get_or t at 0 ≡ 0x2C → QuickAt t at 8
-  unfolding leads leads_from lead_of
-  comma-piece e = quick_lead t at 8 (ascii_at t leads at 0x2C 0x2C 8 refl (inside e) (sym e) (omega arith) refl refl) (omega arith) (omega arith)
+  unfolding lead_of
+  comma-piece e = quick_lead t at 8 (ascii_at t at 0x2C 0x2C 8 (inside e) (sym e) (omega arith) refl refl) (omega arith) (omega arith)
 
   module _ (w₀ w : List ℕ) (n : ℕ) (st : State t w₀ w at n) (r : ℕ) (w' : List ℕ) (k : 4 * r ≡ length (comma_words t at)) (q : w' ≡ sets w (4 * n) (comma_words t at)) where
     pub state-comma : State t w₀ w' (at + r) (n + r)

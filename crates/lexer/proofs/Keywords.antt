@@ -3,18 +3,18 @@ use mathlib.Core.Path.{◌≡◌, refl, sym, ap, ◌∙◌}
 use Prim.Native.Nat.{ℕ, zero, suc, ◌+◌, ◌-◌, ◌≤◌, ◌<◌}
 use native.Mathlib.Omega.{arith}
 use native.Mathlib.Numerals.{add-one}
-use mathlib.Core.Logic.{⊎_elim}
+use mathlib.Core.Logic.{◌⊎◌, inl, inr, ⊎_elim}
 use mathlib.Core.Bool.{Bool, true, false, cond, ◌&&◌}
 use mathlib.Core.List.{List, [], ◌∷◌}
 use lib.Dec.{eqb, leb}
 use lib.ListN.{length, get_or, take, drop, drop_of_length-le}
 use lib.Seq.{drop-cons}
-use borrow.Author.Tests.{eq-eqb, ne_eqb, eqb-true, eqb-false, le-leb, lt-leb}
+use borrow.Author.Tests.{eq-eqb, eqb-true, eqb-false, le-leb, lt-leb}
 use Rattle.chars.proofs.Tests.{and_both, lt-or-ge}
 use Rattle.chars.proofs.Segments.{has, Not, no_none, no_more}
 use Rattle.lexer.specs.Text.{same}
 use Rattle.lexer.specs.Words.{keyword_bytes, position, numbered, keywords_of, number_in}
-use Rattle.lexer.specs.Places.{part}
+use Rattle.lexer.specs.Places.{part, part_start}
 use Rattle.diag.proofs.Cases.{by_test_lem as by_test}
 
 -- ---- equality of lists of numbers
@@ -41,19 +41,31 @@ tests_equal false false f g = refl
 pub same_lengths : (a b : List ℕ) → (length a ≡ length b → ⊥) → false ≡ same a b
 same_lengths a b f = by_test (same a b) (λ e. absurd (f (ap length (same_true a b e)))) (λ e. sym e)
 
--- ---- a part of the text
+-- ---- a part of a text, whose own address is n
 module _ (t : List ℕ) (a b : ℕ) where
   pub part-inside : a ≤ b → b ≤ length t → take (b - a) (drop a t) ≡ part t a b
   unfolding part
   part-inside g h = rw (le-leb a b g, le-leb b (length t) h)
 
-  pub part_backwards : b < a → [] ≡ part t a b
-  unfolding part
-  part_backwards g = rw (lt-leb a b g)
+  pub start-inside : (n : ℕ) → a ≤ b → b ≤ length t → a + n ≡ n + part_start t a b
+  unfolding part_start
+  start-inside n g h = rw (part_start, le-leb a b g, le-leb b (length t) h) (omega arith)
 
-  pub part_beyond : length t < b → [] ≡ part t a b
+  -- as the code finds it
+  abbrev Outside : Type 0
+  Outside = ((a ≤ b) × (length t < b)) ⊎ (b < a)
+
+  outside_lem : Outside → (leb a b && leb b (length t)) ≡ false
+  outside_lem (inl h) = rw (le-leb a b h.0, lt-leb b (length t) h.1)
+  outside_lem (inr g) = rw (lt-leb a b g)
+
+  pub part_outside : Outside → [] ≡ part t a b
   unfolding part
-  part_beyond h = rw (lt-leb b (length t) h) (by_test (leb a b) (λ e. rw e) (λ e. rw e))
+  part_outside h = rw (part, outside_lem h)
+
+  pub start_outside : (n : ℕ) → Outside → n ≡ n + part_start t a b
+  unfolding part_start
+  start_outside n h = rw (part_start, outside_lem h) (omega arith)
 
 -- ---- the table of keywords
 abbrev pub all_below : (ℕ → Bool) → ℕ → Bool

@@ -3,9 +3,9 @@ use mathlib.Core.Path.{◌≡◌, refl, sym, ap, subst, ◌∙◌}
 use Prim.Native.Nat.{ℕ, zero, suc, ◌+◌, ◌%◌, ◌≤◌, ◌<◌, min}
 use native.Mathlib.Omega.{arith}
 use native.Mathlib.Nat.{add-zero}
-use mathlib.Core.Bool.{Bool, true, false, cond, not}
+use mathlib.Core.Bool.{Bool, true, false, cond, not, ◌||◌}
 use mathlib.Core.List.{List, [], ◌∷◌}
-use mathlib.Core.Logic.{⊎_elim}
+use mathlib.Core.Logic.{⊎_elim, inl, inr}
 use lib.Dec.{eqb, ltb, leb}
 use lib.ListN.{length, get_or, drop}
 use borrow.Author.Tests.{eq-eqb, ne_eqb, eqb-true, eqb-false, le-leb, ltb-true, lt-ltb}
@@ -13,17 +13,20 @@ use Rattle.chars.specs.Utf8.{size, sizes, decode}
 use Rattle.chars.specs.Class.{class_of}
 use Rattle.chars.specs.declared.Class.{Class}
 use Rattle.chars.specs.declared.Class.TheVariants.{Letter, Digit, Space, Sign, Other}
+use types.Run.{OneOf}
 use Rattle.chars.proofs.Tests.{lt-or-ge}
+use Rattle.chars.proofs.Segments.{all_of}
 use Rattle.std.proofs.lemmas.Bool.{not-true}
 use Rattle.chars.proofs.Laws.{decode-end}
 use Rattle.chars.proofs.Blocks.{ascii_decode}
-use Rattle.lexer.specs.Tokens.{sign, tok, is_digit, is_ascii_digit, is_word_continue, run, word_step, number_step, step}
+use Rattle.lexer.specs.Tokens.{sign, tok, is_digit, is_ascii_digit, is_word_continue, is_whitespace, run, word_step, number_step, step}
 use Rattle.lexer.specs.Words.{sign_number, position, keyword_bytes, value_from, value}
 use Rattle.lexer.specs.Places.{part, Found, Tok, piece_of, piece}
 use Rattle.lexer.specs.Quick.{other_lead, lead_of, leads_from, leads, AsciiAt, EndsAt, WordAt, QuickAt, quick_value, quick_piece}
 use Rattle.diag.proofs.Cases.{by_test_lem as by_test}
 use Rattle.lexer.proofs.Scans.{run_true, run_false, run-nil, sizes-nil, digit_range}
 use Rattle.lexer.proofs.Keywords.{all_below, all_below_lem}
+use Rattle.lexer.proofs.Ascii.{agree, agree_eq}
 use Rattle.lexer.proofs.Pieces.{word-one, word_long, number_token, step_class, step-word, step_sign, sign_token, piece_of_lem, from_feed, from_space}
 
 -- ---- the table
@@ -36,6 +39,9 @@ leads_from_lem (suc n) c (suc j) h = let e : suc c + j ≡ c + suc j = omega ari
 lead_at : (c : ℕ) → c < 128 → get_or leads c 0 ≡ lead_of c
 unfolding leads
 lead_at c h = let e : 0 + c ≡ c = omega arith in leads_from_lem 128 0 c h ∙ ap lead_of e
+
+pub lead_found : (table : List ℕ) (c k : ℕ) → table ≡ leads → c < 0x80 → k ≡ get_or table c 0 → k ≡ lead_of c
+lead_found table c k e h p = p ∙ ap (λ (s : List ℕ). get_or s c 0) e ∙ lead_at c h
 
 -- a character that begins 3 or more continues no word, and one that does not begin 1 is no digit
 stops : all_below (λ (c : ℕ). cond (leb 3 (lead_of c)) (not (is_word_continue c)) true) 128 ≡ true
@@ -62,6 +68,38 @@ stop_number c h f =
     not-true (is_ascii_digit c)
     (sym (ap (λ (b : Bool). cond b true (not (is_ascii_digit c))) (ne_eqb (lead_of c) 1 f))
     ∙ all_below_lem (λ (x : ℕ). cond (eqb (lead_of x) 1) true (not (is_ascii_digit x))) 128 ends c h)
+
+-- the leads of the characters that continue a word, and of white space
+continue_right : all_below (λ (c : ℕ). agree (leb (lead_of c) 2) (is_word_continue c)) 128 ≡ true
+unfolding lead_of is_word_continue
+continue_right = refl
+
+blank_right : all_below (λ (c : ℕ). agree (eqb (lead_of c) 13 || eqb (lead_of c) 16) (is_whitespace c)) 128 ≡ true
+unfolding lead_of is_whitespace
+blank_right = refl
+
+neither : (a b : Bool) → a ≡ false → b ≡ false → (a || b) ≡ false
+neither false false e f = refl
+neither false true e f = cc
+neither true b e f = cc
+
+module _ (c k : ℕ) (h : c < 128) (e : k ≡ lead_of c) where
+  pub continue_lead : leb k 2 ≡ is_word_continue c
+  continue_lead =
+      ap (λ (x : ℕ). leb x 2) e
+      ∙ agree_eq (leb (lead_of c) 2) (is_word_continue c) (all_below_lem (λ (x : ℕ). agree (leb (lead_of x) 2) (is_word_continue x)) 128 continue_right c h)
+
+  blank_lead : (eqb k 13 || eqb k 16) ≡ is_whitespace c
+  blank_lead =
+      ap (λ (x : ℕ). eqb x 13 || eqb x 16) e
+      ∙ agree_eq (eqb (lead_of c) 13 || eqb (lead_of c) 16) (is_whitespace c)
+      (all_below_lem (λ (x : ℕ). agree (eqb (lead_of x) 13 || eqb (lead_of x) 16) (is_whitespace x)) 128 blank_right c h)
+
+  pub blank_in : OneOf (13 ∷ 16 ∷ []) k → true ≡ is_whitespace c
+  blank_in p = sym (all_of (λ (x : ℕ). (eqb x 13 || eqb x 16) ≡ true) (13 ∷ 16 ∷ []) (refl, (refl, tt)) k p) ∙ blank_lead
+
+  pub blank_out : (OneOf (13 ∷ 16 ∷ []) k → ⊥) → false ≡ is_whitespace c
+  blank_out f = sym (neither (eqb k 13) (eqb k 16) (ne_eqb k 13 (λ e. f (inl e))) (ne_eqb k 16 (λ e. f (inr e)))) ∙ blank_lead
 
 -- ---- what a character begins, by its lead
 sign_range : (c : ℕ) → (4 ≤ sign_number c) × (sign_number c ≤ 11)
@@ -188,13 +226,9 @@ unfolding value value_from
 digit_value c l u = omega arith
 
 -- ---- `ends_at`
--- the table has the lead of the byte b, read at the place x
-pub ascii_at : (t table : List ℕ) (at b x k : ℕ) → table ≡ leads → at < length t → b ≡ get_or t at 0 → b < 0x80 → x ≡ b → k ≡ get_or table x 0 → AsciiAt t at k
-ascii_at t table at b x k i h e l f g = record {
-  inside = h;
-  ascii = subst (λ (y : ℕ). y < 0x80) e l;
-  lead = g ∙ ap (λ (y : ℕ). get_or table y 0) f ∙ ap (λ (s : List ℕ). get_or s b 0) i ∙ lead_at b l ∙ ap lead_of e;
-}
+-- the lead of the byte b
+pub ascii_at : (t : List ℕ) (at b x k : ℕ) → at < length t → b ≡ get_or t at 0 → b < 0x80 → x ≡ b → k ≡ lead_of x → AsciiAt t at k
+ascii_at t at b x k h e l f g = record { inside = h; ascii = subst (λ (y : ℕ). y < 0x80) e l; lead = g ∙ ap lead_of (f ∙ e) }
 
 -- where the text ends, or an ASCII character stands at whose lead no character of a token stands, the token's characters end
 pub run_ends : (f : ℕ → Bool) (P : ℕ → Type 0) (t : List ℕ) (at : ℕ) → EndsAt P t at → ((c : ℕ) → c < 0x80 → P (lead_of c) → f c ≡ false) → run f (decode (drop at t)) ≡ []

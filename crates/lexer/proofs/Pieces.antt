@@ -480,15 +480,6 @@ module _ (t : List ℕ) (at c next : ℕ) (m : next ≡ at + size c) where
   unfolding size step
   from_slash x e p = moved x slash_step (one-next at c 0x2F next m e refl) (ap (λ (y : ℕ). step y (decode (drop next t))) e) p
 
-  -- an ASCII letter
-  pub from_latin : (y : Found) (b : Bool) → (b ≡ true → class_of c ≡ Letter) → b ≡ true → y ≡ piece_of at next (decode (drop next t)) (word_step c (decode (drop next t)))
-      → y ≡ piece_of at next (decode (drop next t)) (step c (decode (drop next t)))
-  unfolding class_of
-  from_latin y b f e q = piece_of_lem at next _ _ _ y (step_class c (decode (drop next t)) (λ (z : c ≡ 10). feed_letter (ap class_of (sym z) ∙ f e)) Letter (f e)) q
-    where
-      feed_letter : class_of 10 ≡ Letter → ⊥
-      feed_letter p = let z : ◌≡◌ {A = ℕ} 0 1 = cc in omega arith
-
   -- ---- by class
   pub from_feed : c ≡ 10 → Tok 13 next 0 next ≡ piece_of at next (decode (drop next t)) (step c (decode (drop next t)))
   unfolding step kind_number token_value sizes size

@@ -15,13 +15,15 @@ use Rattle.chars.specs.Class.{class_of, classes}
 use Rattle.chars.specs.Ranges.{Entry, row, lookup}
 use Rattle.chars.specs.declared.Class.{Class}
 use Rattle.chars.specs.declared.Class.TheVariants.{Letter, Digit, Space, Sign, Other}
-use Rattle.std.specs.Prelude.{Option as Perhaps, Some, None}
+use Rattle.std.specs.Prelude.{Option as Perhaps, Some, None, take_while}
+use Rattle.std.proofs.lemmas.List.Sums.{take_while-cons}
+use Rattle.chars.proofs.Short.{short_least}
 use Rattle.chars.specs.contracts.Class.{the_type}
 use Rattle.chars.proofs.Tests.{and_both}
+use Rattle.chars.specs.Short.{is_short}
+use Rattle.chars.proofs.Laws.{char_next, char_falls, char_decode, none_decode, points_next}
 use Rattle.std.proofs.Math.Bool.{or-false}
 use Rattle.diag.proofs.Cases.{by_test_lem as by_test}
-use Rattle.chars.specs.Short.{Above, no_more, one_more}
-use Rattle.chars.proofs.Laws.{char_next, char_lt, char_falls, char_decode, none_decode}
 use Rattle.lexer.specs.Tokens.{is_letter, is_digit, is_space, is_word_start, is_word_continue, is_ascii_digit, is_whitespace, run, line, trim_cons, trim_end, escape, Inside, closed, unclosed, put, pass, inside}
 use Rattle.lexer.specs.Words.{value_from, value}
 use Rattle.lexer.specs.Places.{line_at, trimmed_at, string_end}
@@ -351,29 +353,46 @@ module _ (t : List ℕ) (at i : ℕ) (b : Bool) (r : Perhaps (ℕ × ℕ)) (s : 
         moved (eqb c 0x5C) (sym (end-plain i c (decode (drop n t)) f g)
         ∙ sym (ap (λ (x : Bool). end_of i (c ∷ decode (drop n t)) (inside x (c ∷ decode (drop n t)))) p) ∙ seen)
 
--- behind characters above ASCII a string ends where it ended before them
-behind_above : (t : List ℕ) (n : ℕ) (v : Perhaps ℕ) (m : ℕ) → Above t n m → string_end false n (decode (drop n t)) ≡ v → string_end false m (decode (drop m t)) ≡ v
-behind_above t n v m no_more q = q
-behind_above t n v m (one_more {j = j} {c = c} a s h) q =
-    ap (λ (x : Bool). string_end x m (decode (drop m t))) (sym (ne_eqb c 0x5C (λ z. omega arith)))
-    ∙ string-plain t 0 j false (Some (c, m)) s v (behind_above t n v j a q) c m refl (λ z. omega arith) refl (λ z. omega arith)
+-- the characters above ASCII that are passed over at once: behind them a string ends where it ended before them
+short_rest : (c m n : ℕ) (cs : List ℕ) (b : Bool) → is_short c ≡ b → m ≡ n + sizes (take_while is_short (c ∷ cs)) → m ≡ cond b (n + size c + sizes (take_while is_short cs)) n
+unfolding sizes
+short_rest c m n cs true e p =
+    let l : take_while is_short (c ∷ cs) ≡ c ∷ take_while is_short cs = take_while-cons is_short c cs ∙ rw e refl in
+    let q : sizes (take_while is_short (c ∷ cs)) ≡ size c + sizes (take_while is_short cs) = ap sizes l in
+    omega arith
+short_rest c m n cs false e p =
+    let l : take_while is_short (c ∷ cs) ≡ [] = take_while-cons is_short c cs ∙ rw e refl in
+    let q : sizes (take_while is_short (c ∷ cs)) ≡ 0 = ap sizes l in
+    omega arith
 
-above_le : (t : List ℕ) (n m : ℕ) → Above t n m → n ≤ m
-above_le t n m no_more = omega arith
-above_le t n m (one_more {j = j} {c = c} a s h) = omega (arith, above_le t n j a, char_lt t j (Some (c, m)) s c m refl)
+behind_short : (t : List ℕ) (v : Perhaps ℕ) (cs : List ℕ) (n m : ℕ) → decode (drop n t) ≡ cs → m ≡ n + sizes (take_while is_short cs) → string_end false n cs ≡ v
+    → string_end false m (decode (drop m t)) ≡ v
+unfolding sizes
+behind_short t v [] n m d p q = let z : m ≡ n = omega arith in rw (z, d) q
+behind_short t v (c ∷ cs) n m d p q =
+    by_test (is_short c)
+    (λ e. let l = short_least c e in
+    behind_short t v cs (n + size c) m (points_next t n c cs d) (short_rest c m n cs true e p)
+    (string_end_of false (n + size c) cs
+    ∙ ap (λ (x : Bool). end_of (n + size c) cs (inside x cs)) (sym (ne_eqb c 0x5C (λ z. omega arith)))
+    ∙ sym (end-plain n c cs (λ z. omega arith) (λ z. omega arith))
+    ∙ sym (string_end_of false n (c ∷ cs)) ∙ q))
+    (λ e. let z : m ≡ n = short_rest c m n cs false e p in rw (z, d) q)
 
 module _ (t : List ℕ) (at i : ℕ) (b : Bool) (r : Perhaps (ℕ × ℕ)) (s : r ≡ decoded_at i (front (drop i t))) (v : Perhaps ℕ) (inv : string_end b i (decode (drop i t)) ≡ v)
     (c n : ℕ) (e : r ≡ Some (c, n)) where
   pub string-slash : (c ≡ 10 → ⊥) → b ≡ false → (c ≡ 0x22 → ⊥) → c ≡ 0x5C → string_end true n (decode (drop n t)) ≡ v
   string-slash f p g k = ap (λ (x : Bool). string_end x n (decode (drop n t))) (sym (eq-eqb c 0x5C k)) ∙ string-plain t at i b r s v inv c n e f p g
 
-  pub string_above : (c ≡ 10 → ⊥) → b ≡ false → (c ≡ 0x22 → ⊥) → (c ≡ 0x5C → ⊥) → (m : ℕ) → Above t n m → string_end b m (decode (drop m t)) ≡ v
+  pub string_above : (c ≡ 10 → ⊥) → b ≡ false → (c ≡ 0x22 → ⊥) → (c ≡ 0x5C → ⊥) → (m : ℕ) → m ≡ n + sizes (take_while is_short (decode (drop n t)))
+      → string_end b m (decode (drop m t)) ≡ v
   string_above f p g k m a =
       ap (λ (x : Bool). string_end x m (decode (drop m t))) p
-      ∙ behind_above t n v m a (ap (λ (x : Bool). string_end x n (decode (drop n t))) (sym (ne_eqb c 0x5C k)) ∙ string-plain t at i b r s v inv c n e f p g)
+      ∙ behind_short t v (decode (drop n t)) n m refl a (ap (λ (x : Bool). string_end x n (decode (drop n t))) (sym (ne_eqb c 0x5C k)) ∙ string-plain t at i b r s v inv c n e f p g)
 
-pub above_falls : (t : List ℕ) (i : ℕ) (r : Perhaps (ℕ × ℕ)) → r ≡ decoded_at i (front (drop i t)) → (c n : ℕ) → r ≡ Some (c, n) → (m : ℕ) → Above t n m → length t - m < length t - i
-above_falls t i r s c n e m a = omega (arith, char_falls t i r s c n e, above_le t n m a)
+pub above_falls : (t : List ℕ) (i : ℕ) (r : Perhaps (ℕ × ℕ)) → r ≡ decoded_at i (front (drop i t)) → (c n : ℕ) → r ≡ Some (c, n) → (m : ℕ)
+    → m ≡ n + sizes (take_while is_short (decode (drop n t))) → length t - m < length t - i
+above_falls t i r s c n e m a = omega (arith, char_falls t i r s c n e, a)
 
 -- ---- by class
 pub above_in : (c : ℕ) (k : Class) → k ≡ class_of c → 0x80 ≤ c → (k ≡ Letter) ⊎ (k ≡ Digit) → true ≡ is_word_continue c
@@ -388,6 +407,17 @@ above_out c k e l f g = go k refl
     go Space p = continue_class_above c k Space false e p l refl
     go Sign p = continue_class_above c k Sign false e p l refl
     go Other p = continue_class_above c k Other false e p l refl
+
+digit_test : (x : Class) → sameb the_type x Digit ≡ is_digit x
+digit_test Letter = refl
+digit_test Digit = refl
+digit_test Space = refl
+digit_test Sign = refl
+digit_test Other = refl
+
+pub digit_same : (c : ℕ) (k : Class) → k ≡ class_of c → sameb the_type k Digit ≡ is_ascii_digit c
+unfolding is_ascii_digit
+digit_same c k e = ap (λ (y : Class). sameb the_type y Digit) e ∙ digit_test (class_of c)
 
 pub space_same : (c : ℕ) (k : Class) → k ≡ class_of c → sameb the_type k Space ≡ is_whitespace c
 space_same c k e = go k refl

@@ -18,6 +18,10 @@ starts_with c (x ∷ r) = eqb x c
 unfoldable pub part : List ℕ → ℕ → ℕ → List ℕ
 part t a b = cond (leb a b && leb b (length t)) (take (b - a) (drop a t)) []
 
+-- where it begins: at the first offset, or at the text's front where the offsets do not lie inside it
+unfoldable pub part_start : List ℕ → ℕ → ℕ → ℕ
+part_start t a b = cond (leb a b && leb b (length t)) a 0
+
 -- the characters at a place
 unfoldable pub chars_at : List ℕ → Span → List ℕ
 unfolding decode

@@ -145,15 +145,12 @@ impl Head<'_> {
         }
     }
 
-    // What begins with a character that is no quote and no slash. ASCII letters first: most words begin so.
+    // What begins with a character that is no quote and no slash.
     fn unmarked(&self) -> Piece
         requires unquoted { (self.now.c ≡ 0x22 → ⊥) × (self.now.c ≡ 0x27 → ⊥) }
         requires no_slash { self.now.c ≡ 0x2F → ⊥ }
         ensures { found result ≡ begins self.now step }
     {
-        if scan::is_latin(self.c) {
-            return self.word();
-        }
         if self.c == 10 {
             return Piece::token(TokenKind::Newline, self.next, 0);
         }

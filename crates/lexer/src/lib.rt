@@ -20,7 +20,6 @@ mod quick;
 mod scan;
 
 use crate::kind::TokenKind;
-use crate::quick::Table;
 pub use diag::Span;
 
 // What stands at a place of the text.
@@ -127,16 +126,17 @@ fn word(text: &[u8], at: usize, work: &mut [u32], n: usize) -> Cursor
     }
 }
 
-// The tokens of a text, as `tokenize` has them: of one ASCII character by the table, longer words that begin with one by their end, any other by what
-// stands at the place; those of more than one character together with a comma behind them.
-fn fill(table: Table, text: &[u8], work: &mut [u32]) -> usize
+// The tokens of a text, at the front of work; answers their number. The rest of work stays as it was.
+// Those of one ASCII character go by the table, longer words that begin with one by their end, any other by what stands at the place; those of more than one
+// character together with a comma behind them.
+pub fn tokenize(text: &[u8], work: &mut [u32]) -> usize
     requires { (length text.now ≤ 0x400000) × (4 * length text.now + 4 ≤ length work.old) }
     ensures { (result ≡ length (tokens (decode text.now))) × (work.new ≡ onto (flat (tokens (decode text.now))) work.old) }
 {
     let (mut at, mut n) = (0, 0);
     // How far a turn goes depends on what stands there, so that no `for` counts it.
     loop {
-        let k = table.lead_at(text, at);
+        let k = quick::lead_at(text, at);
         if k < quick::BLANK {
             let v = quick::value_of(k, text[at]);
             push(work, n, k, at as u32, (at + 1) as u32, v);
@@ -167,16 +167,6 @@ fn fill(table: Table, text: &[u8], work: &mut [u32]) -> usize
             }
         }
     }
-}
-
-// The tokens of a text, at the front of work; answers their number. The rest of work stays as it was.
-#[tactic(auto, unfolding(crate::specs::Quick::leads))]
-pub fn tokenize(text: &[u8], work: &mut [u32]) -> usize
-    requires { (length text.now ≤ 0x400000) × (4 * length text.now + 4 ≤ length work.old) }
-    ensures { (result ≡ length (tokens (decode text.now))) × (work.new ≡ onto (flat (tokens (decode text.now))) work.old) }
-{
-    let bytes = quick::LEADS;
-    fill(Table { bytes: &bytes }, text, work)
 }
 
 // The same for callers in other languages; a text that is too long or work that is too short is left as it is, and the answer is all ones.

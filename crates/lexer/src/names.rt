@@ -1,15 +1,22 @@
 // Parts of the text: names, and their numbers among the keywords.
-ghost use Rattle.std.specs.Prelude.{◌≡◌};
+ghost use Rattle.std.specs.Prelude.{◌≡◌, ◌+◌};
 ghost use Rattle.lexer.specs.Words.{position, keyword_bytes, keywords_of, number_in};
-ghost use Rattle.lexer.specs.Places.{part};
+ghost use Rattle.lexer.specs.Places.{part, part_start};
 
 use crate::keyword::Keyword;
 
-// The part of the text between two offsets; empty where they do not lie inside it.
+// The part of the text between two offsets, where it stands in the text; the text's empty front where they do not lie inside it.
 pub fn part_of(text: &[u8], start: usize, end: usize) -> &[u8]
-    ensures { result.now ≡ part text.now start end }
+    ensures bytes { result.now ≡ part text.now start end }
+    ensures place { (result.ref_ptr.0 ≡ text.entry.ref_ptr.0)
+        × (result.ref_ptr.1 ≡ text.entry.ref_ptr.1 + part_start text.now start end) }
 {
-    text.get(start..end).unwrap_or(&[])
+    // Not `get`, whose contract does not say where the part stands.
+    if start <= end && end <= text.len() {
+        &text[start..end]
+    } else {
+        &text[..0]
+    }
 }
 
 // The number that a table of keywords of N bytes gives a name; 0 if it is none of them.

@@ -1,21 +1,12 @@
 // Scans: how far a word, a number, a line or a string goes.
 ghost use Rattle.std.specs.Prelude.{◌≡◌, true, false, ◌+◌, ◌-◌, ◌*◌, ◌<◌, ◌≤◌, min};
 ghost use Rattle.chars.specs.Utf8.{sizes};
-ghost use Rattle.chars.specs.Class.{class_of};
-ghost use Rattle.chars.specs.declared.Class.TheVariants.{Letter};
 ghost use Rattle.lexer.specs.Tokens.{is_word_continue, is_ascii_digit, is_whitespace, run};
 ghost use Rattle.lexer.specs.Words.{value};
 ghost use Rattle.lexer.specs.Places.{rest, starts_with, line_at, string_end};
 
-use crate::{Line, block};
+use crate::{Line, block, kind, quick};
 use chars::Class;
-
-// Whether c is an ASCII letter.
-pub(crate) fn is_latin(c: u32) -> bool
-    ensures { result ≡ true → class_of c ≡ Letter }
-{
-    matches!(c, 0x61..=0x7A | 0x41..=0x5A)
-}
 
 // Whether c, which is above ASCII, can continue a word.
 fn continues_above(c: u32) -> bool
@@ -25,22 +16,21 @@ fn continues_above(c: u32) -> bool
     matches!(chars::class_of(c), Class::Letter | Class::Digit)
 }
 
-// Whether c can continue a word.
+// Whether c can continue a word: ASCII by the table, whose leads up to a quoted character's are those of letters, the underscore, digits and the quote.
 pub(crate) fn is_word_continue(c: u32) -> bool
     ensures { result ≡ is_word_continue c }
 {
-    match c {
-        0x30..=0x39 | 0x61..=0x7A | 0x41..=0x5A | 0x27 | 0x5F => true,
-        0x00..=0x7F => false,
-        _ => continues_above(c),
+    if c < 0x80 {
+        return quick::lead_of(c) <= kind::QUOTED;
     }
+    continues_above(c)
 }
 
 // Whether c is an ASCII digit.
 fn is_ascii_digit(c: u32) -> bool
     ensures { result ≡ is_ascii_digit c }
 {
-    matches!(c, 0x30..=0x39)
+    chars::class_of(c) == Class::Digit
 }
 
 // Whether c is white space, by its class.
@@ -50,15 +40,14 @@ fn space_by_class(c: u32) -> bool
     chars::class_of(c) == Class::Space
 }
 
-// Whether c is white space.
+// Whether c is white space: ASCII by the table, any other by its class.
 pub(crate) fn is_whitespace(c: u32) -> bool
     ensures { result ≡ is_whitespace c }
 {
-    match c {
-        0x09..=0x0D | 0x20 => true,
-        0x00..=0x7F => false,
-        _ => space_by_class(c),
+    if c < 0x80 {
+        return matches!(quick::lead_of(c), kind::NEWLINE | quick::BLANK);
     }
+    space_by_class(c)
 }
 
 // Whether the character at a place is c, an ASCII character.

@@ -6,5 +6,5 @@ use std::io;
 fn main(rt: HostRuntime) -> io::Result<()> {
     let mut text = [0; 4096];
     let n = input::fill(&mut rt.stdin(), &mut text)?;
-    listing::print(&rt, &text[..n])
+    listing::print(&mut rt.stdout(), &text[..n])
 }

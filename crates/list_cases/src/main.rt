@@ -1,12 +1,15 @@
-// The list program on the cases that are stored in data/: the samples P1 to P11 of paper 01, every refusal that it can give, two tapes, and the longest text.
+// The list program on the cases that are stored in data/: the samples P1 to P11 of paper 01, every refusal that it can give, two tapes,
+// texts on both sides of 2,048 bytes and of 16,384 words, of 1,023 and of 1,024 diagnostics, which no text of 2,048 bytes exceeds,
+// and a listing above a megabyte.
 // Its log and its work are long enough for every text of 2,048 bytes, so it never refuses with 2 or 5.
 #![tactic(auto)]
 
+use std::fs;
+use std::io::{self, Write};
 use std::rt::Files;
-use std::{fs, io};
 
 // Paper 01, P1 to P11; two tapes, final states, refusals, and the limits.
-const CASES: [&str; 21] = [
+const CASES: [&str; 26] = [
     "p01-two-rules.tm",
     "p01-fault.tm",
     "p02-empty-set.tm",
@@ -28,19 +31,25 @@ const CASES: [&str; 21] = [
     "refused-6.tm",
     "bytes-2048.tm",
     "bytes-2049.tm",
+    "sheet-16384.tm",
+    "sheet-16385.tm",
+    "records-1023.tm",
+    "records-1024.tm",
+    "megabyte.tm",
 ];
 
-// The name of a case and its listing.
-fn show(rt: &(impl Files + Print), name: &str) -> io::Result<()> {
-    println!(rt; "{name}")?;
+// The name of a case and its listing, neither where the case cannot be read.
+fn show<W: Write>(rt: &(impl Files + Print), out: &mut W, name: &str) -> io::Result<()> {
     let mut text = [0; 4096];
     let n = input::fill(&mut fs::open(rt, name)?, &mut text)?;
-    listing::print(rt, &text[..n])
+    println!(rt; "{name}")?;
+    listing::print(out, &text[..n])
 }
 
 fn main(rt: HostRuntime) -> io::Result<()> {
+    let mut out = rt.stdout();
     for name in CASES {
-        show(&rt, name)?;
+        show(&rt, &mut out, name)?;
     }
     Ok(())
 }

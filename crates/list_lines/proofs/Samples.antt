@@ -6,7 +6,6 @@ use mathlib.Core.Path.{◌≡◌, refl}
 use lib.ListN.{replicate}
 use Rattle.chars.specs.Utf8.{encode}
 use Rattle.lexer.specs.Text.{codes}
-use Rattle.language.specs.Outcome.{zeros}
 use Rattle.list_lines.specs.Listing.{listed}
 
 -- a text, and what is printed for it
@@ -17,13 +16,9 @@ record Sample : Type 0 where
 abbrev sample : String → String → Sample
 sample s p = record { given = s; printed = p }
 
--- with the work, the log and the sheet of the list program
-abbrev list : List ℕ → List ℕ
-list t = listed t 12294 (zeros 5120) (zeros 16384)
-
 run : Sample → List ℕ
 unfolding listed encode
-run s = list (encode (codes s.given))
+run s = listed (encode (codes s.given))
 
 want : Sample → List ℕ
 unfolding encode
@@ -43,6 +38,6 @@ unfolding run want
 table = refl
 
 -- refusals 1 (a text of 2,049 bytes), 3 and 4
-table_refusals : map list (replicate 2049 0x3F ∷ (0x61 ∷ 0xFF ∷ []) ∷ (0x61 ∷ 0xCC ∷ 0x80 ∷ []) ∷ []) ≡ codes "refused=1 0\n" ∷ codes "refused=3 1\n" ∷ codes "refused=4 1\n" ∷ []
+table_refusals : map listed (replicate 2049 0x3F ∷ (0x61 ∷ 0xFF ∷ []) ∷ (0x61 ∷ 0xCC ∷ 0x80 ∷ []) ∷ []) ≡ codes "refused=1 0\n" ∷ codes "refused=3 1\n" ∷ codes "refused=4 1\n" ∷ []
 unfolding listed
 table_refusals = refl

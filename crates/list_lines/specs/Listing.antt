@@ -4,7 +4,7 @@ use Rattle.std.specs.Prelude.{ℕ, ◌/◌, ◌*◌, ◌+◌, min, Bool, true, f
 use Rattle.lexer.specs.Tokens.{Span}
 use Rattle.lexer.specs.Places.{part}
 use Rattle.language.specs.Layout.{Counts}
-use Rattle.language.specs.Outcome.{refusal_number, refusal_value, machine, diagnosed, refused, ReadOutcome, read_outcome}
+use Rattle.language.specs.Outcome.{refusal_number, refusal_value, machine, diagnosed, refused, work_needed, zeros, ReadOutcome, read_outcome}
 use Rattle.language.specs.Agreement.{groups, records, at, place_at, dir_of}
 use Rattle.language.specs.Plain.{Piece, ◌⨾◌, nothing, say, verbatim, end, each, direction}
 use Rattle.emit.specs.Decimal.{digits_from}
@@ -133,11 +133,20 @@ unfoldable pub listing : List ℕ → ReadOutcome → List ℕ
 unfolding lines
 listing text r = lines text r []
 
--- the longest text that the list program takes
+-- paper 01, "The list program": the longest text that is taken, records of the log, and words of the sheet
 abbrev pub max_input : ℕ
 max_input = 2048
 
--- what the list program prints: a text above 2,048 bytes is refused as row 1 says; else how many words of work, and the log and the sheet at entry
-unfoldable pub listed : List ℕ → ℕ → List ℕ → List ℕ → List ℕ
+abbrev pub max_records : ℕ
+max_records = 1024
+
+abbrev pub max_words : ℕ
+max_words = 16384
+
+-- what the list program prints: a text above 2,048 bytes is refused as row 1 says; else a reading call has the work that such a text needs, and a log and a sheet of those sizes
+unfoldable pub listed : List ℕ → List ℕ
 unfolding refused_line listing read_outcome
-listed text work log sheet = elim (ltb max_input (length text)) [ true ↦ refused_line 1 0 [] | false ↦ listing text (read_outcome text work log sheet) ]
+listed text = elim (ltb max_input (length text)) [
+  | true ↦ refused_line 1 0 []
+  | false ↦ listing text (read_outcome text (work_needed max_input) (zeros (5 * max_records)) (zeros max_words))
+]

@@ -1,12 +1,12 @@
 -- What is printed for an answer, whole.
-use mathlib.Core.Option.{Option, none, some}
 use mathlib.Core.Path.{◌≡◌, refl, sym, ap, ◌∙◌}
-use Prim.Native.Nat.{ℕ, ◌<◌, ◌≤◌}
-use mathlib.Core.List.{List, []}
-use lib.ListN.{length, replicate, length-replicate}
+use Prim.Native.Nat.{ℕ, ◌*◌, ◌<◌, ◌≤◌}
+use mathlib.Core.List.{List, [], ◌++◌}
+use lib.ListN.{length, take, drop, replicate, length-replicate}
+use lib.Seq.{take_at}
+use native.Mathlib.Omega.{arith}
 use borrow.Author.Tests.{lt-ltb, le-ltb}
-use Rattle.language.specs.Outcome as L
-use Rattle.language.specs.Outcome.{ReadOutcome, read_outcome, refusal_of}
+use Rattle.language.specs.Outcome.{zeros, ReadOutcome, read_outcome}
 use Rattle.language.specs.Plain.{◌⨾◌}
 use Rattle.machine.specs.declared.Head.{Head}
 use Rattle.machine.specs.Head.{counts_in}
@@ -18,11 +18,13 @@ use Rattle.answer.specs.declared.Answer.{Answer}
 use Rattle.answer.specs.declared.Answer.TheVariants.{Machine, Diagnostics}
 use Rattle.answer.specs.Answer.{refusal_number, refusal_value, read_in}
 use Rattle.emit.specs.Output as O
-use Rattle.emit.specs.Output.{appended}
+use Rattle.emit.specs.Output.{appended, counted}
 use Rattle.emit.specs.declared.Output.{Output}
 use Rattle.emit.specs.Appends.{held}
-use Rattle.emit.proofs.Appends.{appended-nil}
+use Rattle.emit.proofs.Appends.{appended-nil, appended-front}
 use Rattle.list_lines.specs.Puts.{Puts}
+use Rattle.list_lines.proofs.Alone.{listing_alone}
+use Rattle.room.proofs.Listings.{room}
 use Rattle.list_lines.specs.Listing.{lines, listing, listed, bytes_line, machine_lines, diagnostic_lines, refused_line}
 
 -- ---- by the answer's case
@@ -53,23 +55,33 @@ pub at_front : (row row' : List ℕ) (n : ℕ) (o r : Output) (printed listed : 
     → O.output row' n ≡ appended (O.output row 0) listed
 at_front row row' n o r printed listed e f g h k = rw (e, f, ← g, ← k) h
 
--- what the log held at entry is not printed
-same-listing : (text : List ℕ) (work : ℕ) (log log' sheet : List ℕ) → length log ≡ length log' → listing text (read_outcome text work log sheet) ≡ listing text (read_outcome text work log' sheet)
-unfolding read_outcome listing lines
-same-listing text work log log' sheet e = go (refusal_of text work) refl
-  where
-    go : (o : Option L.Refusal) → refusal_of text work ≡ o → listing text (read_outcome text work log sheet) ≡ listing text (read_outcome text work log' sheet)
-    go (some r) q = rw (read_outcome, q)
-    go none q = rw (read_outcome, q, e)
-
 -- a text of more bytes than are taken, and any other
-module _ (text : List ℕ) (work : ℕ) (log sheet : List ℕ) where
-  pub too_long : (a : Result Answer Refusal) (log' sheet' : List ℕ) → 2048 < length text → a ≡ Err TextTooLong → listing text (read_in a log' sheet') ≡ listed text work log sheet
+module _ (text : List ℕ) where
+  pub too_long : (a : Result Answer Refusal) (log sheet : List ℕ) → 2048 < length text → a ≡ Err TextTooLong → listing text (read_in a log sheet) ≡ listed text
   unfolding listed listing lines
-  too_long a log' sheet' h e = rw (e, listed, lt-ltb 2048 (length text) h)
+  too_long a log sheet h e = rw (e, listed, lt-ltb 2048 (length text) h)
 
-  pub text_listed : (outcome : ReadOutcome) → length text ≤ 2048 → length log ≡ 5120 → outcome ≡ read_outcome text work (replicate 5120 0) sheet → listing text outcome ≡ listed text work log sheet
+  pub text_listed : (work : ℕ) (sheet : List ℕ) (outcome : ReadOutcome) → length text ≤ 2048 → work ≡ 12294 → length sheet ≡ 16384
+      → outcome ≡ read_outcome text work (replicate 5120 0) sheet → listing text outcome ≡ listed text
   unfolding listed
-  text_listed outcome h n e =
+  text_listed work sheet outcome h m n e =
       let z : ℕ = 0 in
-      rw (listed, le-ltb 2048 (length text) h) (ap (listing text) e ∙ same-listing text work (replicate 5120 z) log sheet (length-replicate 5120 z ∙ sym n))
+      let same : listing text (read_outcome text work (replicate 5120 z) sheet) ≡ listing text (read_outcome text work (zeros (5 * 1024)) (zeros 16384)) =
+      listing_alone text work (replicate 5120 z) (zeros (5 * 1024)) sheet (zeros 16384) refl (n ∙ sym (length-replicate 16384 z)) in
+      rw (listed, le-ltb 2048 (length text) h) (ap (listing text) e ∙ (same ∙ ap (λ k. listing text (read_outcome text k (zeros (5 * 1024)) (zeros 16384))) m))
+
+-- in a row that has room for every listing it stands whole at the front
+module _ (row row' text : List ℕ) (n : ℕ) (long : length row ≡ 2097152) (e : O.output row' n ≡ appended (O.output row 0) (listed text)) where
+  pub in_full : take n row' ≡ listed text
+  unfolding appended
+  in_full =
+      let l : List ℕ = listed text in
+      let has_room : length l ≤ length row = omega (arith, long, room text) in
+      let front : O.output row' n ≡ O.output (l ++ drop (length l) row) (length l) = e ∙ appended-front row l (omega (arith, long)) has_room in
+      ap (λ (o : O.Output). take o.at o.row) front ∙ take_at l (drop (length l) row) (length l) refl
+
+  pub counts : n ≡ length (take n row')
+  unfolding appended
+  counts =
+      let count : n ≡ counted 0 (length (listed text)) = ap (λ (o : O.Output). o.at) e in
+      omega (arith, count, room text, ap length in_full)

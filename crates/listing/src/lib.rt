@@ -1,7 +1,8 @@
 // What the list program prints: a text is read, and the answer listed.
 #![tactic(auto)]
 
-ghost use Rattle.std.specs.Prelude.{◌≡◌, length};
+ghost use Rattle.std.specs.Prelude.{◌≡◌, length, OnOk};
+ghost use Rattle.std.specs.Io.KnownBytes.{Appends};
 ghost use Rattle.answer.specs.Answer.{read_in};
 ghost use Rattle.emit.specs.Output.{output, appended};
 ghost use Rattle.list_lines.specs.Listing.{lines, listed};
@@ -9,7 +10,7 @@ ghost use Rattle.list_lines.specs.Puts.{Puts};
 
 use answer::{Answer, Refusal};
 use emit::Output;
-use std::io;
+use std::io::{self, Write};
 
 // The longest text that is taken.
 pub const MAX_INPUT: usize = 2048;
@@ -23,7 +24,7 @@ const LOG_WORDS: usize = 5120;
 // Words of a sheet.
 const SHEET_WORDS: usize = 16384;
 
-// More bytes than any listing has (docs/DECISIONS.md, "The list program").
+// More bytes than any listing has (crate room).
 const LISTING_BYTES: usize = 2097152;
 
 // Lists an answer with its log and sheet.
@@ -37,16 +38,18 @@ fn list(out: &mut Output, answer: Result<Answer, Refusal>, text: &[u8], log: &[u
     }
 }
 
-// Reads a text and lists the answer at the front of `out`, as far as there is room; the listing's length. A text above 2,048 bytes is refused.
-fn list_text(
+// Lists a text as `list_text` does, in buffers of the paper's sizes, whatever they hold.
+fn list_in(
     text: &[u8],
     work: &mut [u32],
     log: &mut [u32],
     sheet: &mut [u32],
     out: &mut [u8],
 ) -> usize
-    requires { length log.old ≡ 5120 }
-    ensures { output out.new result ≡ appended (output out.old 0) (listed text.now (length work.old) log.old sheet.old) }
+    requires work { length work.old ≡ 12294 }
+    requires log { length log.old ≡ 5120 }
+    requires sheet { length sheet.old ≡ 16384 }
+    ensures { output out.new result ≡ appended (output out.old 0) (listed text.now) }
 {
     let answer = if MAX_INPUT < text.len() {
         Err(Refusal::TextTooLong)
@@ -65,17 +68,30 @@ fn filled<T: Copy, const N: usize>(value: T) -> [T; N]
     [value; N]
 }
 
-// Prints the listing of a text through an output.
-fn print_through(rt: &impl Print, text: &[u8], out: &mut [u8]) -> io::Result<()> {
+// Reads a text and lists the answer at the front of `out`, as far as there is room; the listing's length.
+// A text above 2,048 bytes is refused.
+pub fn list_text(text: &[u8], out: &mut [u8]) -> usize
+    ensures { output out.new result ≡ appended (output out.old 0) (listed text.now) }
+{
     let mut work = filled::<u32, WORK_WORDS>(0);
     let mut log = filled::<u32, LOG_WORDS>(0);
     let mut sheet = filled::<u32, SHEET_WORDS>(0);
-    let n = list_text(text, &mut work, &mut log, &mut sheet, out);
-    rt.write_all(&out[..n.min(out.len())])
+    list_in(text, &mut work, &mut log, &mut sheet, out)
 }
 
-// Prints the listing of a text.
-pub fn print(rt: &impl Print, text: &[u8]) -> io::Result<()> {
-    let mut out = filled::<u8, LISTING_BYTES>(0);
-    print_through(rt, text, &mut out)
+// The listing of a text at the front of a row in which every listing has room, so that nothing is cut off.
+fn listing_of<'a>(text: &[u8], row: &'a mut [u8]) -> &'a [u8]
+    requires { length row.old ≡ 2097152 }
+    ensures { result.now ≡ listed text.now }
+{
+    let n = list_text(text, row);
+    &row[..n]
+}
+
+// Prints the listing of a text: it fails where the writer does, and where it succeeds, the whole of it was written.
+pub fn print<W: Write>(out: &mut W, text: &[u8]) -> io::Result<()>
+    ensures { OnOk result (Appends (W.contents out.old) (W.contents out.new) (listed text.now)) }
+{
+    let mut row = filled::<u8, LISTING_BYTES>(0);
+    out.write_all(listing_of(text, &mut row))
 }

@@ -1,2 +1,3 @@
 pub mod Reading
+pub mod Reads
 pub mod Sheet

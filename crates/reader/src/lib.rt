@@ -4,8 +4,9 @@
 ghost use Rattle.std.specs.Prelude.{◌≡◌, true, false, length};
 ghost use Rattle.std.proofs.Math.Option.{none};
 ghost use Rattle.language.specs.Outcome.{refusal_of, read_outcome};
-ghost use Rattle.answer.specs.Answer.{read_in, leaves_work};
+ghost use Rattle.answer.specs.Answer.{leaves_work};
 ghost use Rattle.reader.specs.Reading.{given, given_by, leaves_work_number};
+ghost use Rattle.reader.specs.Reads.{Reads};
 
 use answer::{Answer, Refusal, words};
 
@@ -22,7 +23,7 @@ fn admitted(
     sheet: &mut [u32],
 ) -> Result<Answer, Refusal>
     requires { refusal_of text.now (length work.old) ≡ none }
-    ensures { (read_in result log.new sheet.new ≡ read_outcome text.now (length work.old) log.old sheet.old)
+    ensures { Reads text.now (length work.old) log.old sheet.old result log.new sheet.new
         × (leaves_work result ≡ false) }
 {
     let count = lexer::tokenize(text, work);
@@ -43,7 +44,7 @@ pub fn read(
     log: &mut [u32],
     sheet: &mut [u32],
 ) -> Result<Answer, Refusal>
-    ensures { (read_in result log.new sheet.new ≡ read_outcome text.now (length work.old) log.old sheet.old)
+    ensures { Reads text.now (length work.old) log.old sheet.old result log.new sheet.new
         × (leaves_work result ≡ true → work.new ≡ work.old) }
 {
     admission::check(text, work.len())?;

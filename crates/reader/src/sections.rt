@@ -61,7 +61,7 @@ impl Source<'_, '_> {
     }
 
     // The sections, stored where there is room and counted in any case.
-    pub fn sections(&self, blank: u32, row: &mut [u32], sheet: &mut Sheet) -> Measured
+    pub(crate) fn sections(&self, blank: u32, row: &mut [u32], sheet: &mut Sheet) -> Measured
         requires parted { Parted self.now row.old }
         requires front { (held sheet.old).at ≡ 0 }
         ensures written { Puts (joined (sections_in self.now blank row.old)) sheet.old sheet.new }

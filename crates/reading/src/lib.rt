@@ -4,9 +4,10 @@
 ghost use Rattle.std.specs.Prelude.{◌≡◌, true, length, IfSome};
 ghost use Rattle.answer.specs.Answer.{leaves_work};
 ghost use Rattle.reader.specs.Reading.{leaves_work_number};
-ghost use Rattle.enter.specs.Records.{read_in, read_records};
+ghost use Rattle.enter.specs.Records.{read_records};
 ghost use Rattle.opening.specs.Opens.{Reports, reported};
 ghost use Rattle.reading.specs.Given.{given, given_by};
+ghost use Rattle.reading.specs.Reads.{Reads};
 
 use answer::{Answer, Refusal, words};
 use diag::Diagnostic;
@@ -33,7 +34,7 @@ pub fn read(
     log: &mut [Diagnostic],
     sheet: &mut [u32],
 ) -> Result<Answer, Refusal>
-    ensures { (read_in result log.new sheet.new ≡ read_records text.now (length work.old) log.old sheet.old)
+    ensures { Reads text.now (length work.old) log.old sheet.old result log.new sheet.new
         × (leaves_work result ≡ true → work.new ≡ work.old) }
 {
     let opened = opening::open(text, work, log.len(), sheet)?;

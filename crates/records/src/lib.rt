@@ -2,8 +2,8 @@
 // is behind stays as it was.
 #![tactic(auto)]
 
-ghost use Rattle.std.specs.Prelude.{◌≡◌, ◌++◌, ◌+◌, ◌*◌, ◌<◌, ◌≤◌, ◌^◌, length, set, replicate, get_or, take, drop};
-ghost use Rattle.diag.specs.Log.{records, flat, sort};
+ghost use Rattle.std.specs.Prelude.{◌≡◌, ◌++◌, ◌+◌, ◌*◌, ◌<◌, ◌≤◌, ◌^◌, length, set, replicate, take, drop};
+ghost use Rattle.diag.specs.Log.{flat, sort};
 ghost use Rattle.records.specs.Unused.{unused};
 
 use diag::{Diagnostic, Span};
@@ -32,22 +32,6 @@ pub fn clear(log: &mut [Diagnostic])
     ensures { log.new ≡ replicate (length log.old) unused }
 {
     log.fill(UNUSED);
-}
-
-// The record at an index.
-pub fn record_at(log: &[Diagnostic], i: usize) -> Diagnostic
-    requires { i < length log.now }
-    ensures { result ≡ get_or log.now i unused }
-{
-    log[i]
-}
-
-// Copies the first `count` records of a row of words.
-pub fn take(log: &mut [Diagnostic], words: &[u32], count: usize)
-    requires { (count ≤ length log.old) × (5 * count ≤ length words.now) }
-    ensures { log.new ≡ records count words.now ++ drop count log.old }
-{
-    diag::copy_records(words, log, 0, count);
 }
 
 // Copies the first `count` records to the front of a row of words.

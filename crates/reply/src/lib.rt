@@ -37,7 +37,7 @@ impl From<Refusal> for WriteRefusal {
 
 impl WriteRefusal {
     // The number that is returned.
-    pub fn number(self) -> u32
+    pub(crate) fn number(self) -> u32
         ensures { result ≡ refusal_number self }
     {
         match self {
@@ -47,7 +47,7 @@ impl WriteRefusal {
     }
 
     // The value beside it. `number` has the same two cases, but hands on another method's result, of another type.
-    pub fn value(self) -> u64
+    pub(crate) fn value(self) -> u64
         ensures { result ≡ refusal_value self }
     {
         match self {

@@ -33,7 +33,7 @@ impl Pending {
     };
 
     // What is pending behind the line that begins with the token t at an index.
-    pub fn passed(self, t: Token, at: usize) -> Self
+    pub(crate) fn passed(self, t: Token, at: usize) -> Self
         requires { at + 2 < 2 ^ 64 }
         ensures { result ≡ passed self at t }
     {
@@ -52,7 +52,7 @@ impl Pending {
 
     // Where the comments that lead a rule begin.
     #[tactic(auto, unfolding(crate::specs::Comments::lead_from))]
-    pub fn lead_from(self) -> usize
+    pub(crate) fn lead_from(self) -> usize
         ensures { result ≡ lead_from self }
     {
         self.from.unwrap_or(self.block)
@@ -60,7 +60,7 @@ impl Pending {
 }
 
 // The place of a comment's text.
-pub fn text_of(t: Token) -> Span
+pub(crate) fn text_of(t: Token) -> Span
     ensures { result ≡ text_of t }
 {
     Span {
@@ -79,7 +79,7 @@ fn comment(sheet: &mut Sheet, t: Token)
 }
 
 // The comments from the index `from` to before `to`: two numbers, since most callers look at one of them by itself too.
-pub fn comments(sheet: &mut Sheet, tokens: &Tokens, from: usize, to: usize)
+pub(crate) fn comments(sheet: &mut Sheet, tokens: &Tokens, from: usize, to: usize)
     ensures { Puts (flat text_words (between (tokens_of tokens.now) from to)) sheet.old sheet.new }
 {
     for i in from..to {
@@ -89,7 +89,7 @@ pub fn comments(sheet: &mut Sheet, tokens: &Tokens, from: usize, to: usize)
 
 // How many comments stand from the index `from` to before `to`.
 // With `filter` and `count` the goal `returns` stays open: no law of the library ties a count over a range of indices to a list's length.
-pub fn count_between(tokens: &Tokens, from: usize, to: usize) -> usize
+pub(crate) fn count_between(tokens: &Tokens, from: usize, to: usize) -> usize
     ensures { result ≡ length (between (tokens_of tokens.now) from to) }
 {
     let mut n = 0;

@@ -47,7 +47,7 @@ fn choices(
 }
 
 // The rules that the line at an index stands for; the comments that lead it begin at the index `lead`.
-pub fn expand(
+pub(crate) fn expand(
     sheet: &mut Sheet,
     tokens: &Tokens,
     blank: u32,

@@ -42,7 +42,7 @@ impl<'a> Sheet<'a> {
     }
 
     // A word.
-    pub fn word(&mut self, x: u32)
+    pub(crate) fn word(&mut self, x: u32)
         ensures { Puts (x ∷ []) self.old self.new }
     {
         if self.at < self.row.len() {

@@ -48,7 +48,7 @@ fn move_of(t: Token) -> u32
 
 // Where a list of entries, or the one entry, begins.
 #[tactic(auto, unfolding(crate::specs::Rules::first_entry))]
-pub fn first_entry(tokens: &Tokens, at: usize) -> usize
+pub(crate) fn first_entry(tokens: &Tokens, at: usize) -> usize
     requires { at + 1 < 2 ^ 64 }
     ensures { result ≡ first_entry (tokens_of tokens.now) at }
 {
@@ -60,7 +60,7 @@ pub fn first_entry(tokens: &Tokens, at: usize) -> usize
 
 // A rule's own comment, or none.
 #[tactic(auto, unfolding(crate::specs::Rules::own_place))]
-pub fn own_place(tokens: &Tokens, line: usize) -> Span
+pub(crate) fn own_place(tokens: &Tokens, line: usize) -> Span
     ensures { result ≡ own_place (tokens_of tokens.now) line }
 {
     let end = tokens.at(line).value as usize;
@@ -95,7 +95,7 @@ pub struct Rule {
 
 impl Rule {
     // The parts of the rule at a line.
-    pub fn at(tokens: &Tokens, line: usize, tapes: usize) -> Self
+    pub(crate) fn at(tokens: &Tokens, line: usize, tapes: usize) -> Self
         requires { line < tokens.now.count }
         ensures parts { result ≡ rule_at (tokens_of tokens.now) line tapes }
         ensures small { (result.write ≤ 2 ^ 32) × (result.dir ≤ 2 ^ 32) }
@@ -151,7 +151,7 @@ impl Rule {
     }
 
     // The rule of a choice, with its own comment c, led by the comments from the index `lead` to its line.
-    pub fn put(
+    pub(crate) fn put(
         self,
         sheet: &mut Sheet,
         tokens: &Tokens,

@@ -46,7 +46,7 @@ fn next_entry(tokens: &Tokens, e: usize) -> usize
 
 // The entries from the index `at` on, at most n, each at its first member; how many there are. Each entry tells where the next begins, and the count
 // is what is answered, so that no `for` makes the loop plainer.
-pub fn wheels(
+pub(crate) fn wheels(
     tokens: &Tokens,
     at: usize,
     n: usize,
@@ -74,7 +74,7 @@ pub fn wheels(
 }
 
 // Turns the wheel t: to its next member, or to its first one if it has none; whether it went on.
-pub fn turn(tokens: &Tokens, entries: &[u32], members: &mut [u32], t: usize) -> bool
+pub(crate) fn turn(tokens: &Tokens, entries: &[u32], members: &mut [u32], t: usize) -> bool
     requires wheel { (t < length entries.now) × (t < length members.old) }
     requires small { tokens.now.count < 2 ^ 32 }
     ensures goes { result ≡ goes_on (tokens_of tokens.now) (slice_index entries.now t) (slice_index members.old t) }

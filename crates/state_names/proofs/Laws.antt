@@ -1,8 +1,7 @@
 -- The name of a state and where it stands, one law for each return.
 use mathlib.Core.Path.{◌≡◌, refl, ap, ◌∙◌}
 use mathlib.Core.List.{List, []}
-use mathlib.Core.Logic.{◌⊎◌, inl, inr}
-use mathlib.Core.Bool.{false, ◌&&◌}
+use mathlib.Core.Bool.{Bool, true, false, cond, ◌&&◌}
 use Prim.Native.Nat.{ℕ, zero, suc, ◌+◌, ◌-◌, ◌*◌, ◌/◌, ◌<◌, ◌≤◌}
 use native.Mathlib.Omega.{arith}
 use borrow.Author.Tests.{le-leb, lt-leb}
@@ -11,33 +10,18 @@ use lib.ListN.{length, get_or, take, drop}
 use Rattle.std.specs.Simd.{first_chunks}
 use Rattle.std.proofs.lemmas.List.{get_or-take, get_or-drop}
 use Rattle.language.specs.Outcome.{part, state_name}
-use Rattle.state_names.specs.Starts.{part_start, state_start}
+use Rattle.lexer.specs.Places
+use Rattle.lexer.specs.Places.{part_start}
+use Rattle.state_names.specs.Starts.{state_start}
 
--- a part of a text; n is the text's own address
-module _ (t : List ℕ) (a b n : ℕ) where
-  pub inside : a ≤ b → b ≤ length t → take (b - a) (drop a t) ≡ part t a b
-  unfolding part
-  inside g h = rw (part, le-leb a b g, le-leb b (length t) h)
-
-  pub inside-at : a ≤ b → b ≤ length t → a + n ≡ n + part_start t a b
-  unfolding part_start
-  inside-at g h = rw (part_start, le-leb a b g, le-leb b (length t) h) (omega arith)
-
-  -- as the code finds it
-  abbrev Outside : Type 0
-  Outside = ((a ≤ b) × (length t < b)) ⊎ (b < a)
-
-  outside_lem : Outside → (leb a b && leb b (length t)) ≡ false
-  outside_lem (inl h) = rw (le-leb a b h.0, lt-leb b (length t) h.1)
-  outside_lem (inr g) = rw (lt-leb a b g)
-
-  pub outside : Outside → [] ≡ part t a b
-  unfolding part
-  outside h = rw (part, outside_lem h)
-
-  pub outside_at : Outside → n ≡ n + part_start t a b
-  unfolding part_start
-  outside_at h = rw (part_start, outside_lem h) (omega arith)
+-- a part of a text as the lexer's crate has it
+pub part_same : (t : List ℕ) (a b : ℕ) → Places.part t a b ≡ part t a b
+unfolding part Places.part
+part_same t a b = go (leb a b && leb b (length t))
+  where
+    go : (x : Bool) → cond x (take (b - a) (drop a t)) [] ≡ elim x [ true ↦ take (b - a) (drop a t) | false ↦ [] ]
+    go true = refl
+    go false = refl
 
 -- the word j of the row i of three words each
 pub row_word : (k i j : ℕ) (s d : List ℕ) → i < k → j < 3 → get_or (get_or (first_chunks 3 k s) i d) j 0 ≡ get_or s (3 * i + j) 0
@@ -64,9 +48,11 @@ module _ (s t : List ℕ) (i n : ℕ) (cs : List (List ℕ)) (len : length cs �
         ∙ row_word (length s / 3) i j s row (omega arith) g
         ∙ ap (λ (k : ℕ). get_or s k 0) e
 
-    pub state-part : (l : List ℕ) → l ≡ part t (get_or row 0 0) (get_or row 1 0) → l ≡ state_name s t i
+    pub state-part : (l : List ℕ) → l ≡ Places.part t (get_or row 0 0) (get_or row 1 0) → l ≡ state_name s t i
     unfolding state_name
-    state-part l e = rw (state_name, le-leb (3 * i + 3) (length s) (omega arith), ← word 0 (3 * i) (omega arith) (omega arith), ← word 1 (3 * i + 1) (omega arith) refl) e
+    state-part l e =
+        rw (state_name, le-leb (3 * i + 3) (length s) (omega arith), ← word 0 (3 * i) (omega arith) (omega arith), ← word 1 (3 * i + 1) (omega arith) refl)
+        (e ∙ part_same t (get_or row 0 0) (get_or row 1 0))
 
     pub state-part-at : (m : ℕ) → m ≡ n + part_start t (get_or row 0 0) (get_or row 1 0) → m ≡ n + state_start s t i
     unfolding state_start

@@ -1,9 +1,6 @@
 -- Where in its text a name stands: the address of what is handed back, counted from the text's.
-use Rattle.std.specs.Prelude.{ℕ, ◌+◌, ◌*◌, true, false, ◌&&◌, List, leb, length, get_or}
-
--- where the part between a and b begins: at a, or at the front where they do not lie inside the text
-unfoldable pub part_start : List ℕ → ℕ → ℕ → ℕ
-part_start t a b = elim (leb a b && leb b (length t)) [ true ↦ a | false ↦ 0 ]
+use Rattle.std.specs.Prelude.{ℕ, ◌+◌, ◌*◌, true, false, List, leb, length, get_or}
+use Rattle.lexer.specs.Places.{part_start}
 
 -- where the name of state i begins: at its place's start, or at the front where it is empty because that is not to be had
 unfoldable pub state_start : List ℕ → List ℕ → ℕ → ℕ

@@ -2,22 +2,10 @@
 #![tactic(auto)]
 
 ghost use Rattle.std.specs.Prelude.{◌≡◌, ◌+◌};
-ghost use Rattle.language.specs.Outcome.{part, state_name};
-ghost use Rattle.state_names.specs.Starts.{part_start, state_start};
+ghost use Rattle.language.specs.Outcome.{state_name};
+ghost use Rattle.state_names.specs.Starts.{state_start};
 
-// The part of a text between two offsets, where it stands in the text; its empty front where they do not lie inside it.
-fn part(text: &[u8], start: usize, end: usize) -> &[u8]
-    ensures bytes { result.now ≡ part text.now start end }
-    ensures place { (result.ref_ptr.0 ≡ text.entry.ref_ptr.0)
-        × (result.ref_ptr.1 ≡ text.entry.ref_ptr.1 + part_start text.now start end) }
-{
-    // Not `get`, whose contract does not say where the part stands.
-    if start <= end && end <= text.len() {
-        &text[start..end]
-    } else {
-        &text[..0]
-    }
-}
+use lexer::names::part_of;
 
 // The name of state i: a part of the text, empty if the state's words are outside the sheet or its place is not inside the text.
 pub fn state_name<'a>(sheet: &[u32], text: &'a [u8], i: usize) -> &'a [u8]
@@ -26,7 +14,7 @@ pub fn state_name<'a>(sheet: &[u32], text: &'a [u8], i: usize) -> &'a [u8]
         × (result.ref_ptr.1 ≡ text.entry.ref_ptr.1 + state_start sheet.now text.now i) }
 {
     match sheet.as_chunks::<3>().0.get(i) {
-        Some([start, end, _]) => part(text, *start as usize, *end as usize),
+        Some([start, end, _]) => part_of(text, *start as usize, *end as usize),
         None => &text[..0],
     }
 }

@@ -4,7 +4,7 @@
 ghost use Rattle.std.specs.Prelude.{◌≡◌, ◌+◌, ◌*◌, ◌<◌, ◌≤◌, length};
 ghost use Rattle.lexer.specs.Tokens.{span};
 ghost use Rattle.tokens.specs.View.{token_in};
-ghost use Rattle.tokens.specs.Row.{peek, rows};
+ghost use Rattle.tokens.specs.Row.{peek};
 
 use diag::Span;
 use lexer::kind;
@@ -62,15 +62,6 @@ pub struct Tokens<'a> {
 
 impl<'a> Tokens<'a> {
     ghost use Rattle.tokens.specs.Listed.{tokens_of};
-
-    // The first `count` tokens of a row.
-    pub fn new(words: &'a [u32], count: usize) -> Self
-        requires { 4 * count ≤ length words.now }
-        ensures tokens { tokens_of result ≡ rows count words.now }
-        ensures count { result.count ≡ count }
-    {
-        Self { words, count }
-    }
 
     // How many they are.
     pub fn len(&self) -> usize

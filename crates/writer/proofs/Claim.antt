@@ -39,6 +39,7 @@ claim t u good fine r s w x =
         λ e. subst (λ o. L.BothAgree o (answered s)) (same_answer t r) (subst (λ o. L.BothAgree (L.answer_given t (L.reading t (lent t r))) o) (same_answer u s) (known.forms.0 (p ∙ (e ∙ sym q)))),
         λ b. sym p ∙ (known.forms.1 (subst (λ o. L.BothAgree o (L.answer_given u (L.reading u (lent u s)))) (sym (same_answer t r)) (subst (λ o. L.BothAgree (answered r) o) (sym (same_answer u s)) b)) ∙ q),
       );
+      form_written = form_is t good w;
       form_writable = subst L.Writable p known.form_writable;
       form_agrees_lem = λ again.
           let agrees : L.BothAgree (L.answer_given (form w) (L.reading (form w) (lent (form w) again))) (L.answer_given t (L.reading t (lent t r))) =

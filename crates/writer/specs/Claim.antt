@@ -4,14 +4,16 @@ use Rattle.std.proofs.Math.Option.{Option}
 use Rattle.chars.specs.Utf8.{decode}
 use Rattle.language.specs.Agreement as L
 use Rattle.language.specs.Lines.{read_lines}
-use Rattle.language.specs.Outcome.{work_needed, words_needed, read_outcome}
-use Rattle.language.specs.Claim.{Lent, writing, Enough, Writable, form_left, answer_given, BothAgree}
+use Rattle.language.specs.Outcome.{work_needed, words_needed, form_of}
+use Rattle.language.specs.Claim.{Lent, Enough, Writable, form_left, answer_given, BothAgree}
 use Rattle.answer.specs.declared.Answer.{Answer}
 use Rattle.answer.specs.declared.Refusal.{Refusal}
 use Rattle.answer.specs.Answer.{read_in}
 use Rattle.reply.specs.declared.WriteAnswer.{WriteAnswer}
 use Rattle.reply.specs.declared.WriteRefusal.{WriteRefusal}
 use Rattle.reply.specs.Answer.{write_in}
+use Rattle.reader.specs.Reads.{Reads}
+use Rattle.writer.specs.Writes.{Writes}
 
 -- a call of `read` on a text, lent work and a sheet long enough: what it was lent, and what it left, as its contract says
 pub record ReadCall (t : List ℕ) : Type 0 where
@@ -23,7 +25,7 @@ pub record ReadCall (t : List ℕ) : Type 0 where
   pub answer : Result Answer Refusal
   pub log : List ℕ
   pub sheet : List ℕ
-  pub contract : read_in answer log sheet ≡ read_outcome t work log_lent sheet_lent
+  pub contract : Reads t work log_lent sheet_lent answer log sheet
 
 -- a call of `write`, lent an output long enough too
 pub record WriteCall (t : List ℕ) : Type 0 where
@@ -33,7 +35,7 @@ pub record WriteCall (t : List ℕ) : Type 0 where
   pub log : List ℕ
   pub sheet : List ℕ
   pub output : List ℕ
-  pub contract : write_in answer log sheet output ≡ writing t lent
+  pub contract : Writes t lent.work lent.log lent.sheet lent.output answer log sheet output
 
 -- the bytes at the front of the output, as many as `Written` says
 abbrev pub form : {t : List ℕ} → WriteCall t → List ℕ
@@ -47,6 +49,8 @@ answered {t} r = answer_given t (read_in r.answer r.log r.sheet)
 pub record Claim (t u : List ℕ) (r : ReadCall t) (s : ReadCall u) (w : WriteCall t) (x : WriteCall u) : Type 0 where
   -- the forms are equal bytes exactly when the machines that were read agree
   pub forms : (form w ≡ form x) ↔ BothAgree (answered r) (answered s)
+  -- the bytes that are written are the text's plain form
+  pub form_written : form w ≡ form_of t
   -- a form is a text of that kind again
   pub form_writable : Writable (form w)
   -- and every reading of it gives a machine that agrees with the text's

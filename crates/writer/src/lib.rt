@@ -4,8 +4,9 @@
 ghost use Rattle.std.specs.Prelude.{true, ◌≡◌, length};
 ghost use Rattle.language.specs.Outcome.{write_outcome};
 ghost use Rattle.reader.specs.Reading.{leaves_work_number};
-ghost use Rattle.reply.specs.Answer.{write_reply_in, write_in, leaves_work};
+ghost use Rattle.reply.specs.Answer.{write_reply_in, leaves_work};
 ghost use Rattle.writer.specs.Given.{given, given_by};
+ghost use Rattle.writer.specs.Writes.{Writes};
 
 use reply::{WriteAnswer, WriteRefusal};
 
@@ -17,8 +18,7 @@ pub fn write(
     sheet: &mut [u32],
     output: &mut [u8],
 ) -> Result<WriteAnswer, WriteRefusal>
-    ensures { (write_in result log.new sheet.new output.new
-        ≡ write_outcome text.now (length work.old) log.old sheet.old output.old)
+    ensures { Writes text.now (length work.old) log.old sheet.old output.old result log.new sheet.new output.new
         × (leaves_work (write_reply_in result) ≡ true → work.new ≡ work.old) }
 {
     let answer = reader::read(text, work, log, sheet);

@@ -51,4 +51,4 @@ write {t} w = record {
 pub claim : Demand3
 claim t u good fine r s w x =
     let known : Words.Claim t u (read r) (read s) (write w) (write x) = Known.claim t u good fine (read r) (read s) (write w) (write x) in
-    record { forms = known.forms; form_writable = known.form_writable; form_agrees_lem = λ again. known.form_agrees_lem (read again) }
+    record { forms = known.forms; form_written = known.form_written; form_writable = known.form_writable; form_agrees_lem = λ again. known.form_agrees_lem (read again) }

@@ -10,11 +10,11 @@ use Rattle.language.specs.Claim.{Writable, BothAgree}
 use Rattle.answer.specs.declared.Answer.{Answer}
 use Rattle.answer.specs.declared.Refusal.{Refusal}
 use Rattle.answer.specs.Answer.{reply_in}
-use Rattle.enter.specs.Records.{read_in, read_records}
+use Rattle.reading.specs.Reads.{Reads}
 use Rattle.reply.specs.declared.WriteAnswer.{WriteAnswer}
 use Rattle.reply.specs.declared.WriteRefusal.{WriteRefusal}
 use Rattle.reply.specs.Answer.{write_reply_in}
-use Rattle.writing.specs.Records.{write_in, write_records}
+use Rattle.writing.specs.Writes.{Writes}
 
 -- a call of `read` on a text, lent work and a sheet long enough: what it was lent, and what it left, as its contract says
 pub record ReadCall (t : List ℕ) : Type 0 where
@@ -26,7 +26,7 @@ pub record ReadCall (t : List ℕ) : Type 0 where
   pub answer : Result Answer Refusal
   pub log : List Diagnostic
   pub sheet : List ℕ
-  pub contract : read_in answer log sheet ≡ read_records t work log_lent sheet_lent
+  pub contract : Reads t work log_lent sheet_lent answer log sheet
 
 -- a call of `write`, lent an output long enough too
 pub record WriteCall (t : List ℕ) : Type 0 where
@@ -41,7 +41,7 @@ pub record WriteCall (t : List ℕ) : Type 0 where
   pub log : List Diagnostic
   pub sheet : List ℕ
   pub output : List ℕ
-  pub contract : write_in answer log sheet output ≡ write_records t work log_lent sheet_lent output_lent
+  pub contract : Writes t work log_lent sheet_lent output_lent answer log sheet output
 
 -- the bytes at the front of the output, as many as `Written` says
 abbrev pub form : {t : List ℕ} → WriteCall t → List ℕ
@@ -55,6 +55,8 @@ answered {t} r = elim (reply_in r.answer) [ machine h ↦ some (record { head = 
 pub record Claim (t u : List ℕ) (r : ReadCall t) (s : ReadCall u) (w : WriteCall t) (x : WriteCall u) : Type 0 where
   -- the forms are equal bytes exactly when the machines that were read agree
   pub forms : (form w ≡ form x) ↔ BothAgree (answered r) (answered s)
+  -- the bytes that are written are the text's plain form
+  pub form_written : form w ≡ form_of t
   -- a form is a text of that kind again
   pub form_writable : Writable (form w)
   -- and every reading of it gives a machine that agrees with the text's

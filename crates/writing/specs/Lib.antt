@@ -1,3 +1,4 @@
 pub mod Records
 pub mod Given
+pub mod Writes
 pub mod Claim

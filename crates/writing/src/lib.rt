@@ -4,8 +4,9 @@
 ghost use Rattle.std.specs.Prelude.{◌≡◌, true, length};
 ghost use Rattle.reply.specs.Answer.{write_reply_in, leaves_work};
 ghost use Rattle.reader.specs.Reading.{leaves_work_number};
-ghost use Rattle.writing.specs.Records.{write_in, write_records};
+ghost use Rattle.writing.specs.Records.{write_records};
 ghost use Rattle.writing.specs.Given.{given, given_by};
+ghost use Rattle.writing.specs.Writes.{Writes};
 
 use diag::Diagnostic;
 use reply::{WriteAnswer, WriteRefusal};
@@ -19,8 +20,7 @@ pub fn write(
     sheet: &mut [u32],
     output: &mut [u8],
 ) -> Result<WriteAnswer, WriteRefusal>
-    ensures { (write_in result log.new sheet.new output.new
-        ≡ write_records text.now (length work.old) log.old sheet.old output.old)
+    ensures { Writes text.now (length work.old) log.old sheet.old output.old result log.new sheet.new output.new
         × (leaves_work (write_reply_in result) ≡ true → work.new ≡ work.old) }
 {
     let answer = reading::read(text, work, log, sheet);

@@ -7,4 +7,4 @@ pub short_at-requires-clause-takes : goal.short_at-requires-clause-takes
 short_at-requires-clause-takes c = λ a b e. plain_is_two a b (sym e)
 
 pub returns : goal.returns
-returns c = next_in _ _ _ _ (short_char _ _ _ _ _ _ _ c.in_ok-next.ensures) (short_in _ _ _ _ _ _ _ c.in_ok-next.ensures (λ a b e. sym e) refl refl)
+returns c = next_in _ _ _ _ (short_char _ _ _ _ _ _ _ c.in_ok-next.ensures.some) (short_in _ _ _ _ _ _ _ c.in_ok-next.ensures.some (λ a b e. sym e) refl refl)

@@ -16,8 +16,10 @@ front_grown a k n xs ys within fits =
     sym (take-add a n row ∙ cc)
 
 pub loop-done-preserved : goal.loop-done-preserved
-loop-done-preserved g c = record {
-  within = search rules;
-  taken = subst (Consumes _ _) (front_grown c.loop-done.done _ c.in_ok-n.n c.loop-done.row c.read.new.buf c.loop-done.invariant.within c.in_ok-n.ensures.bound.0)
-      (Consumes-trans _ _ _ _ _ c.loop-done.invariant.taken c.in_ok-n.ensures.bytes.0);
-}
+loop-done-preserved g c =
+    let read = c.in-Ok.ensures in
+    record {
+      within = search rules;
+      taken = subst (Consumes _ _) (front_grown c.loop-done.done _ c.in-Ok.n c.loop-done.row c.read.new.buf c.loop-done.invariant.within read.bound.0)
+          (Consumes-trans _ _ _ _ _ c.loop-done.invariant.taken read.bytes.0);
+    }

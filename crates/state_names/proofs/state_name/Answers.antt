@@ -5,12 +5,12 @@ use Rattle.state_names.proofs.state_name.Goals as goal
 
 pub returns-in-Some-clause-bytes : goal.returns-in-Some-clause-bytes
 returns-in-Some-clause-bytes c =
-    state-part _ _ _ 0 _ c.as_chunks.ensures.front_len _ c.as_chunks.ensures.front c.in-Some.ensures.lookup.3.0 c.in-Some.ensures.lookup.1 _ c.part.ensures.bytes
+    state-part _ _ _ 0 _ c.as_chunks.ensures.front_len _ c.as_chunks.ensures.front c.in-Some.ensures.lookup.3.0 c.in-Some.ensures.lookup.1 _ c.part_of.ensures.bytes
 
 pub returns-in-Some-clause-place : goal.returns-in-Some-clause-place
 returns-in-Some-clause-place c = (
-  c.part.ensures.place.0,
-  state-part-at _ _ _ _ _ c.as_chunks.ensures.front_len _ c.as_chunks.ensures.front c.in-Some.ensures.lookup.3.0 c.in-Some.ensures.lookup.1 _ c.part.ensures.place.1,
+  c.part_of.ensures.place.0,
+  state-part-at _ _ _ _ _ c.as_chunks.ensures.front_len _ c.as_chunks.ensures.front c.in-Some.ensures.lookup.3.0 c.in-Some.ensures.lookup.1 _ c.part_of.ensures.place.1,
 )
 
 pub returns-in-None-clause-bytes : goal.returns-in-None-clause-bytes

@@ -1,16 +1,10 @@
--- Answers for `lexer::scan::is_whitespace`: ASCII by ranges, as one computed test says, any other character by its class.
+-- `lexer::scan::is_whitespace` meets its contract: ASCII by the table, as one computed test says.
 use Rattle.std.proofs.Common.{rules}
-use Rattle.lexer.proofs.Ascii.{blank_mark, blank_from, blank_below}
+use Rattle.lexer.proofs.Leads.{blank_in, blank_out}
 use Rattle.lexer.proofs.scan.is_whitespace.Goals as goal
 
-pub returns-in-0-to-127 : goal.returns-in-0-to-127
-returns-in-0-to-127 c = search (rules, blank_mark, blank_from, blank_below)
+pub returns-in-13 : goal.returns-in-13
+returns-in-13 c = search (rules, blank_in)
 
-pub returns-in-0-to-127-2 : goal.returns-in-0-to-127-2
-returns-in-0-to-127-2 c = search (rules, blank_mark, blank_from, blank_below)
-
-pub returns-in-9-to-13 : goal.returns-in-9-to-13
-returns-in-9-to-13 c = search (rules, blank_mark, blank_from, blank_below)
-
-pub returns-in-9-to-13-2 : goal.returns-in-9-to-13-2
-returns-in-9-to-13-2 c = search (rules, blank_mark, blank_from, blank_below)
+pub returns-in_default : goal.returns-in_default
+returns-in_default c = search (rules, blank_out)

@@ -1,12 +1,9 @@
 -- `lexer::lex::Head::unmarked` meets its contract: one law for each class.
 use Rattle.std.proofs.Common.{rules, refl, ◌∙◌}
-use Rattle.lexer.proofs.Pieces.{from_latin, from_feed, from_space, from_letter, from_digit, from_sign, from_other, digit_by, class_by}
+use Rattle.lexer.proofs.Pieces.{from_feed, from_space, from_letter, from_digit, from_sign, from_other, digit_by, class_by}
 use Rattle.lexer.proofs.lex.Head.unmarked.Goals as goal
 
-ruleset laws = (rules, from_latin, from_feed, from_space, from_letter, from_digit, from_sign, from_other, digit_by, class_by)
-
-pub returns-then-is_latin : goal.returns-then-is_latin
-returns-then-is_latin c = search laws
+ruleset laws = (rules, from_feed, from_space, from_letter, from_digit, from_sign, from_other, digit_by, class_by)
 
 pub returns-then-self-eq10 : goal.returns-then-self-eq10
 returns-then-self-eq10 c = c.token.ensures ∙ search laws

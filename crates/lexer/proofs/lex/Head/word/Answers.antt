@@ -10,4 +10,4 @@ pub overflow_add-k : goal.overflow_add-k
 overflow_add-k c = search (rules, word_fits)
 
 pub returns : goal.returns
-returns c = let h = c.args.self.now in c.token-2.ensures ∙ word_long _ _ _ _ _ h.behind h.read h.inside c.word_end-end.ensures _ _ c.if-end-self.false c.part_of.ensures c.keyword_of-k.ensures
+returns c = let h = c.args.self.now in c.token-2.ensures ∙ word_long _ _ _ _ _ h.behind h.read h.inside c.word_end-end.ensures _ _ c.if-end-self.false c.part_of.ensures.bytes c.keyword_of-k.ensures
