@@ -1,9 +1,10 @@
 #!/usr/bin/env python3
 """Makes finished proof files shorter: today `rt tidy` does, which this calls.
 
-tools/fold.py PROOF_FILE..: tidies the crate of each file, and says how many lines each had and has. A proof's answers stood once in one file with a line for
-each goal, and this folded them into one term; today `Answers.antt` answers only the goals that Rattle leaves, and what can still go is imports that nothing
-uses. `rt tidy` drops those, lays the files out and checks the crate again; where that fails, it puts the files back. The crate must be proved.
+tools/fold.py PROOF_FILE..: tidies the crate of each file, and says how many lines each had and has. A proof's answers stood once
+in one file with a line for each goal, and this folded them into one term; today `Answers.antt` answers only the goals that Rattle
+leaves, and what can still go is imports that nothing uses. `rt tidy` drops those, lays the files out and checks the crate again;
+where that fails, it puts the files back. The crate must be proved.
 """
 import os
 import subprocess

@@ -1,6 +1,8 @@
-"""What the tools here need of the installed kit: where it is, what crates.txt says, and the words by which its `rattle` is given the crates below one.
+"""What the tools here need of the installed kit: where it is, what crates.txt says, and the words by which its `rattle` is given
+the crates below one.
 
-tools/kit.py CRATE prints, one to a line, the words that `rattle check` and `rattle build` take for a crate whose libraries are built."""
+tools/kit.py CRATE prints, one to a line, the words that `rattle check` and `rattle build` take for a crate whose libraries are
+built."""
 import os
 import re
 import shutil

@@ -1,8 +1,8 @@
 #!/usr/bin/env python3
 """Writes the proof files that a check offers: today `rt check --start FUNCTION` does, which this calls.
 
-tools/offered.py CRATE [FUNCTION..]: for each FUNCTION, and if none is given for each that has no proof in target/dev.out, which `tools/dev CRATE` wrote. Files
-that are there stay as they are. Holes stay holes.
+tools/offered.py CRATE [FUNCTION..]: for each FUNCTION, and if none is given for each that has no proof in target/dev.out, which
+`tools/dev CRATE` wrote. Files that are there stay as they are. Holes stay holes.
 """
 import os
 import re

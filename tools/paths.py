@@ -1,12 +1,12 @@
 #!/usr/bin/env python3
 """Where facts stand at a goal: the steps that an answer can cite, by name, from the first to the last.
 
-tools/paths.py CRATE FUNCTION [GOAL..]: FUNCTION is a path below the crate, as a check prints it (`words::give`), GOAL a goal as a refusal names it
-(`returns`); without one, all are shown. A line is `c.STEP` and the fields of that step; of a call they are `.result`, `.ensures`, and `.new.p` of a
-parameter `p` that it may write.
+tools/paths.py CRATE FUNCTION [GOAL..]: FUNCTION is a path below the crate, as a check prints it (`words::give`), GOAL a goal as a
+refusal names it (`returns`); without one, all are shown. A line is `c.STEP` and the fields of that step; of a call they are
+`.result`, `.ensures`, and `.new.p` of a parameter `p` that it may write.
 
-A check prints the same names, "names you can use", at each goal that is open (`rt check --allow-holes` over an answer `?`), with the facts' types. This
-shows them at the goals that are proved too: it reads what `rt check --start FUNCTION --generated` writes.
+A check prints the same names, "names you can use", at each goal that is open (`rt check --allow-holes` over an answer `?`), with
+the facts' types. This shows them at the goals that are proved too: it reads what `rt check --start FUNCTION --generated` writes.
 """
 import os
 import re

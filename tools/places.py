@@ -79,7 +79,8 @@ def blocks(word):
 
 
 def point1():
-    """Own enums of the shape of Option or Result; structs with a flag beside other fields; constants that number kinds, items, codes or passes."""
+    """Own enums of the shape of Option or Result; structs with a flag beside other fields; constants that number kinds, items,
+    codes or passes."""
     for path, line, name, inside in blocks("enum"):
         variants = [x.rstrip(",") for x in inside if re.match(r"[A-Z]\w*", x)]
         loaded = [v for v in variants if "(" in v or "{" in v]
@@ -102,7 +103,8 @@ def shape(body):
 
 
 def point2():
-    """Functions whose bodies are equal but for names, types and constants (25 words and more, or one-line conversions), all but the first of each group."""
+    """Functions whose bodies are equal but for names, types and constants (25 words and more, or one-line conversions), all but
+    the first of each group."""
     groups = collections.defaultdict(list)
     for f in everything():
         s = shape(f.body)
@@ -142,7 +144,8 @@ def travelling():
 
 
 def point5():
-    """Functions that share a pair of parameters with two others of their crate; then facts that three or more functions of a crate require or ensure."""
+    """Functions that share a pair of parameters with two others of their crate; then facts that three or more functions of a
+    crate require or ensure."""
     seen = {}
     for (crate, p, q), fs in travelling().items():
         for f in fs:

@@ -27,7 +27,8 @@ DATA = re.compile(rf"^(\s*){MARKS}(?:data|record) (?:pub )?({NAME})")
 LIBRARY = set("""append length take drop map replicate set sets get_or slice_index reverse cons nil concat filter foldr foldl zip sum all any mem le lt ge gt eq
 suc add sub mul div mod and or not cond some none map_option""".split())
 
-# Names of the older spelling that stand several on a line, or that a `use` line or a `where` gives; and the lemma that would have the name of one of them.
+# Names of the older spelling that stand several on a line, or that a `use` line or a `where` gives; and the lemma that would have
+# the name of one of them.
 LISTED = """unterminatedQuote unterminatedString finalItem tapeAlphabetItem statesItem machineItem inputItem inputAlphabetItem goesBy wordOutput binaryOutput
 unaryOutput lineFeed tooMany wrongArity sigmaWord logTooShort gammaWord deltaWord tapesWord statesWord startWord outputWord machineWord kindWord inputWord
 finalWord blankWord workTooShort textTooLong readOne outsideSet invalidUtf8 sheetTooShort itemBy listedNames itemOrder outputTooShort readLeaves nSigma nF
@@ -113,12 +114,14 @@ def table():
 
 
 def is_function(word, path):
-    """Whether a word of a file is there only as the name of a function of src/, which a definition may share: in a source, in a path, behind a dot."""
+    """Whether a word of a file is there only as the name of a function of src/, which a definition may share: in a source, in a
+    path, behind a dot."""
     return path.endswith(".rt") or not re.search(rf"(?<![\w.'-]){re.escape(word)}(?![\w'-])", re.sub(r"--[^\n]*", "", read(path)))
 
 
 def steps():
-    """A function, a variable, a field or a constant of src/ with dashes for its underscores, as a step of an older proof has it."""
+    """A function, a variable, a field or a constant of src/ with dashes for its underscores, as a step of an older proof has
+    it."""
     found = set()
     for path in files(".rt"):
         found |= {w for w in re.findall(r"\b[a-z]\w*\b", read(path)) if "_" in w}
@@ -149,7 +152,8 @@ def turn_rt(text, rows):
 
 
 def lemmas_apart(rows):
-    """For each file, the lemmas in it that have, already in snake case, the spelling that a definition beside them gets: they end in `_lem`."""
+    """For each file, the lemmas in it that have, already in snake case, the spelling that a definition beside them gets: they end
+    in `_lem`."""
     texts = {path: read(path) for path in files(".antt")}
     new = set(rows.values())
     homes = {}

@@ -3,10 +3,10 @@
 
 usage: tools/steps.py NAMES [CRATE..]     at the top of the repository, once, on proofs of the older Rattle
 
-NAMES/CRATE/names.json is what `rattle check --generated NAMES/CRATE --old-names` writes for a crate: for each function the older and today's name of each
-loop, step and place, in the order of the code. A chain of `.before` in front of a named step goes, since a record has the steps of all places before it.
-It was run once for the port (docs/PORT.md). What it got wrong was mended by hand: a field of a record that is spelled as a step, and a `let` for a place
-that is handed on whole.
+NAMES/CRATE/names.json is what `rattle check --generated NAMES/CRATE --old-names` writes for a crate: for each function the older
+and today's name of each loop, step and place, in the order of the code. A chain of `.before` in front of a named step goes, since
+a record has the steps of all places before it. It was run once for the port (docs/PORT.md). What it got wrong was mended by hand:
+a field of a record that is spelled as a step, and a `let` for a place that is handed on whole.
 """
 
 import json

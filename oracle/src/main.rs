@@ -61,7 +61,7 @@ usage:
   oracle compare [tokens|read|write|read-records|write-records|list] [COUNT [SEED [FAMILY]]]
   oracle bench [--callgrind] [--small-pages] [--size BYTES] [CASE..]
                                        time, or instructions, of the original and of the port
-families: grammar damaged soup short lines limits changed joined odd filled spliced named listed large";
+families: grammar damaged soup short lines limits changed joined odd filled spliced named listed large glyphs";
 
 /// What `compare` runs over unless told otherwise.
 const EVERY_CALL: [&str; 6] = [

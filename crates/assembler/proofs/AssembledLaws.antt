@@ -43,7 +43,7 @@ use Rattle.assembler.specs.Records.{record_of, records_of}
 use Rattle.assembler.specs.Assembled as S
 use Rattle.assembler.proofs.Rows.{length-rows, entries_few}
 use Rattle.assembler.proofs.RowWords.{rows-onto, length-onto}
-use Rattle.equal_names.proofs.NameLaws.{kept-rows}
+use Rattle.assembler_names.proofs.NameLaws.{kept-rows}
 use Rattle.assembler.proofs.MarkLaws.{kept_interned, kept_trans}
 use Rattle.assembler.proofs.PartLaws.{part-rows, part-kept}
 use Rattle.assembler.proofs.FailureLaws.{line_error-one}

@@ -1,4 +1,5 @@
--- A line feed stands behind each comment of an entered row: it does in the tokens of a text, entering puts a comment nowhere, and nothing over a line feed.
+-- A line feed stands behind each comment of an entered row: it does in the tokens of a text, entering puts a
+-- comment nowhere, and nothing over a line feed.
 use Rattle.std.specs.Prelude.{Err}
 use mathlib.Core.Path.{◌≡◌, refl, sym, subst}
 use mathlib.Core.Bool.{Bool, true, false, cond}

@@ -1,9 +1,8 @@
 -- The entries of a row, once the lines of a text are entered in it, mean the language's lines.
-use Rattle.std.specs.Prelude.{Err}
+use Rattle.std.specs.Prelude.{Err, None}
 use mathlib.Core.Path.{◌≡◌, refl, sym, ap, subst, ◌∙◌}
 use mathlib.Core.Bool.{Bool, true, false, cond}
 use mathlib.Core.List.{List, [], ◌∷◌, ◌++◌, map, append-nil, append_assoc}
-use mathlib.Core.Option.{none}
 use Prim.Native.Nat.{ℕ, zero, suc, ◌+◌, ◌-◌, ◌≤◌, ◌<◌, min}
 use native.Mathlib.Omega.{arith}
 use native.Mathlib.Nat.{le_of_suc-le-suc, min-eq_left}
@@ -295,7 +294,7 @@ module _ (text : List ℕ) (E : List Token) (i : ℕ) (t : Lexed Place) (l' : To
     pub entry_is : peek E i ≡ item_entry i x
     entry_is = first_is ∙ ap (λ (y : List Token). peek y 0) L-is ∙ parts_first x.kind i x.parts (item_entry i x) (map token_of l')
 
-    -- of a declaration only the first token changes
+    -- entering a declaration changes only its first token
     module _ (plain : item_number x.kind ≡ 11 → ⊥) where
       pub plain-L : L ≡ item_entry i x ∷ map token_of l'
       plain-L = L-is ∙ parts-other x.kind i x.parts (item_entry i x ∷ map token_of l') plain
@@ -339,7 +338,7 @@ module _ (text : List ℕ) (E : List Token) (i : ℕ) (t : Lexed Place) (l' : To
           by_test_lem (eqb (peek W e).kind 12)
           (λ y.
           let z : b ≡ e + 1 = b_is ∙ inside.ends ∙ ap (newline_at W) (sym q) ∙ rw y in
-          let none_here : state_in (at l e).kind ≡ none = no_state (at l e) 12 (sound_at e (omega (arith, short))) (ap (λ (w : Token). eqb w.kind 12) (sym (peek-map l e)) ∙ y) (λ z. omega arith) in
+          let none_here : state_in (at l e).kind ≡ None = no_state (at l e) 12 (sound_at e (omega (arith, short))) (ap (λ (w : Token). eqb w.kind 12) (sym (peek-map l e)) ∙ y) (λ z. omega arith) in
           ap (λ (m : ℕ). seen state_in (between l e m)) z ∙ ap (seen state_in) (between-one l e (omega (arith, short))) ∙ seen_none state_in (at l e) [] none_here)
           (λ n.
           let z : b ≡ e = b_is ∙ inside.ends ∙ ap (newline_at W) (sym q) ∙ rw n in
@@ -358,7 +357,7 @@ module _ (text : List ℕ) (E : List Token) (i : ℕ) (t : Lexed Place) (l' : To
           let parts : between l 1 b ≡ between l 1 2 ++ (between l 2 e ++ between l e b) =
           between_split l 1 2 b (omega arith) (omega arith) ∙ ap (λ (y : Tokens). between l 1 2 ++ y) (between_split l 2 e b (omega arith) within) in
           let sign : between l 1 2 ≡ at l 1 ∷ [] = between-one l 1 (omega (arith, short)) in
-          let eq-none : state_in (at l 1).kind ≡ none = no_state (at l 1) 9 (sound_at 1 (omega (arith, short))) (ap (λ (w : Token). eqb w.kind 9) (sym (peek-map l 1)) ∙ a.1) (λ z. omega arith) in
+          let eq-none : state_in (at l 1).kind ≡ None = no_state (at l 1) 9 (sound_at 1 (omega (arith, short))) (ap (λ (w : Token). eqb w.kind 9) (sym (peek-map l 1)) ∙ a.1) (λ z. omega arith) in
           let shown : seen state_in (body n more) ≡ seen state_in (between l x.value e) =
           ap (seen state_in) (start ∙ parts ∙ ap (λ (y : Tokens). y ++ (between l 2 e ++ between l e b)) sign) ∙ seen_none state_in (at l 1) (between l 2 e ++ between l e b) eq-none
           ∙ seen-append state_in (between l 2 e) (between l e b) ∙ ap (λ (y : List (Located Place (List ℕ))). seen state_in (between l 2 e) ++ y) (remark e refl)
@@ -379,7 +378,7 @@ module _ (text : List ℕ) (E : List Token) (i : ℕ) (t : Lexed Place) (l' : To
             place = ap place_of third ∙ place ∙ ap (λ (r : ℕ). (at l r).place) (sym a.0);
           }
 
-    -- of a rule the tokens behind δ and behind its state change too
+    -- entering a rule changes the tokens behind δ and behind its state too
     module _ (rule : x.kind ≡ Transition) where
       abbrev pub q : Parts
       q = x.parts
@@ -421,7 +420,7 @@ module _ (text : List ℕ) (E : List Token) (i : ℕ) (t : Lexed Place) (l' : To
           behind-first : (r : ℕ) → peek base (4 + r) ≡ peek W (4 + r)
           behind-first r = let z : 4 + r ≡ suc (3 + r) = omega arith in ap (peek base) z ∙ ap (peek W) (sym z)
 
-      -- what it reads
+      -- what a rule reads
       abbrev pub m : ℕ
       m = q.to - 4
 
@@ -564,7 +563,7 @@ pub data Lines (P : ℕ → Line Place → Type 0) (ts : List Token) : ℕ → L
   lines_end : {i : ℕ} → i ≡ length ts → Lines P ts i []
   lines-on : {i : ℕ} {l : Line Place} {ls : List (Line Place)} → i < length ts → P i l → Lines P ts (i + 1 + behind i (peek ts i)) ls → Lines P ts i (l ∷ ls)
 
--- so its entries mean what P says
+-- the entries of a row of lines mean what P says of these
 pub lines_mean : (X : Entry → Item Place → Type 0) (P : ℕ → Line Place → Type 0) (ts : List Token) → ((i : ℕ) (l : Line Place) → P i l → Means X (entry_at ts i) l)
     → (i : ℕ) (ls : List (Line Place)) → Lines P ts i ls → AllMean X ts (entries_at ts i) ls
 lines_mean X P ts f i [] (lines_end h) = subst (λ (es : List Entry). AllMean X ts es []) (sym (entries-end ts i (omega arith))) no_lines

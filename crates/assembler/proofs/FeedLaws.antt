@@ -1,4 +1,5 @@
--- Each line of an entered row ends at the first line feed from its first token on: entering puts a line feed nowhere, and over none.
+-- Each line of an entered row ends at the first line feed from its first token on: entering
+-- puts a line feed nowhere, and over none.
 use Rattle.std.specs.Prelude.{Err}
 use mathlib.Core.Path.{◌≡◌, refl, sym, ap, subst, ◌∙◌}
 use mathlib.Core.Bool.{Bool, true, false}

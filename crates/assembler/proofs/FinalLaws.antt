@@ -9,7 +9,7 @@ use borrow.Author.Tests.{eq-eqb, ne_eqb}
 use lib.Dec.{eqb, ltb}
 use lib.ListN.{length, get_or, drop, set, drop_of_length-le, length-append}
 use lib.Seq.{drop-cons}
-use mathlib.Core.Option.{Option, none, some}
+use Rattle.std.specs.Prelude.{Option, None, Some}
 use Rattle.diag.specs.declared.Span.{Span}
 use Rattle.diag.specs.declared.Diagnostic.{Diagnostic}
 use Rattle.diag.specs.declared.log.Log.{Log}
@@ -59,7 +59,7 @@ module _ (names : Names) (i : ℕ) (low : i < names.tokens.count) (t : Token) (a
   pub state_skip : x ≡ false → (marks qs before : List ℕ) → Marked names marks qs [] → Marked names marks (qs ++ name_at i (peek (row_of names) i)) []
   state_skip k marks qs before p = rw (name-other i (peek (row_of names) i) (tested false k), append-nil) p
 
-  -- as a name of F
+  -- a token that is no name is passed over in F's line
   pub final_skip : (d : Bool) (l : Log) (marks : List ℕ) → x ≡ false → (qs before : List ℕ) → Marked names marks qs before
       → Appends l l (final_error_at names.text.now (row_of names) d qs before i) × Marked names marks qs (before ++ name_at i (peek (row_of names) i))
   unfolding final_error_at
@@ -165,10 +165,10 @@ unfolding final_error unknown_error
 one-final text ts d qs before i = one (listed text ts i before) (listed text ts i qs)
   where
     one : (o q : Option ℕ)
-        → length {A = Diagnostic} (elim o [ some j ↦ with_related (error 11 (place_of (peek ts i))) (place_of (peek ts j)) ∷ [] | none ↦ cond d (elim q [ some j ↦ [] | none ↦ error 3 (place_of (peek ts i)) ∷ [] ]) [] ]) ≤ 1
-    one (some j) q = omega arith
-    one none (some k) = at_most_one d [] [] (omega arith) (omega arith)
-    one none none = at_most_one d (error 3 (place_of (peek ts i)) ∷ []) [] (omega arith) (omega arith)
+        → length {A = Diagnostic} (elim o [ Some j ↦ with_related (error 11 (place_of (peek ts i))) (place_of (peek ts j)) ∷ [] | None ↦ cond d (elim q [ Some j ↦ [] | None ↦ error 3 (place_of (peek ts i)) ∷ [] ]) [] ]) ≤ 1
+    one (Some j) q = omega arith
+    one None (Some k) = at_most_one d [] [] (omega arith) (omega arith)
+    one None None = at_most_one d (error 3 (place_of (peek ts i)) ∷ []) [] (omega arith) (omega arith)
 
 pub at_most_final : (text : List ℕ) (ts : List Token) (d : Bool) (qs before : List ℕ) (i : ℕ) → length (final_error_at text ts d qs before i) ≤ 1
 unfolding final_error_at

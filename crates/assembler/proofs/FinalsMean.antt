@@ -2,7 +2,7 @@
 use mathlib.Core.Path.{◌≡◌, refl, sym, ap, subst, ◌∙◌}
 use mathlib.Core.Bool.{Bool, true, false, cond}
 use mathlib.Core.List.{List, [], ◌∷◌, ◌++◌}
-use mathlib.Core.Option.{Option, none, some}
+use Rattle.std.specs.Prelude.{Option, None, Some, unwrap_or}
 use Prim.Native.Nat.{ℕ, suc, ◌+◌, ◌≤◌, ◌<◌}
 use native.Mathlib.Omega.{arith}
 use borrow.Author.Tests.{leb-true, lt-ltb, le-ltb, le-leb, ltb-true, eqb-true, eqb-false}
@@ -24,6 +24,7 @@ use Rattle.parser.specs.Meaning.{token_of}
 use Rattle.language.specs.Machine.{Located}
 use Rattle.language.specs.Lines.{Item, machine_item, input_item, kind_item, output_item, tapes_item, states_item, final_item, input_alphabet_item, tape_alphabet_item, blank_item, start_item, transition_item, Line, blank_line, comment_line, item_line, error_line}
 use Rattle.language.specs.Assembly as A
+use Rattle.language.proofs.Columns
 use Rattle.language.specs.Layout.{or_none}
 use Rattle.assembler.specs.Rows.{place_of}
 use Rattle.assembler.specs.Entries.{Entry}
@@ -77,19 +78,19 @@ module _ (text : List ℕ) (ts : List Token) where
 
   -- where a name is listed first
   abbrev ListedMeans : Option ℕ → Option Span → Type 0
-  ListedMeans none none = Unit {0}
-  ListedMeans none (some p) = ⊥
-  ListedMeans (some j) none = ⊥
-  ListedMeans (some j) (some p) = place_of (peek ts j) ≡ p
+  ListedMeans None None = Unit {0}
+  ListedMeans None (Some p) = ⊥
+  ListedMeans (Some j) None = ⊥
+  ListedMeans (Some j) (Some p) = place_of (peek ts j) ≡ p
 
   module _ (x : ℕ) (f : Located Span (List ℕ)) (name : NameIs text (peek ts x) f) where
-    listed_by : (j : ℕ) (js : List ℕ) (b : Bool) → same_name text (peek ts j) (peek ts x) ≡ b → listed text ts x (j ∷ js) ≡ elim b [ true ↦ some j | false ↦ listed text ts x js ]
+    listed_by : (j : ℕ) (js : List ℕ) (b : Bool) → same_name text (peek ts j) (peek ts x) ≡ b → listed text ts x (j ∷ js) ≡ elim b [ true ↦ Some j | false ↦ listed text ts x js ]
     unfolding listed
-    listed_by j js b e = ap (λ (b : Bool). elim b [ true ↦ some j | false ↦ listed text ts x js ]) e
+    listed_by j js b e = ap (λ (b : Bool). elim b [ true ↦ Some j | false ↦ listed text ts x js ]) e
 
-    language_by : (l : Located Span (List ℕ)) (ls : List (Located Span (List ℕ))) (b : Bool) → same l.value f.value ≡ b → A.listed_at f.value (l ∷ ls) ≡ elim b [ true ↦ some l.place | false ↦ A.listed_at f.value ls ]
+    language_by : (l : Located Span (List ℕ)) (ls : List (Located Span (List ℕ))) (b : Bool) → same l.value f.value ≡ b → A.listed_at f.value (l ∷ ls) ≡ elim b [ true ↦ Some l.place | false ↦ A.listed_at f.value ls ]
     unfolding A.listed_at
-    language_by l ls b e = ap (λ (b : Bool). elim b [ true ↦ some l.place | false ↦ A.listed_at f.value ls ]) e
+    language_by l ls b e = ap (λ (b : Bool). elim b [ true ↦ Some l.place | false ↦ A.listed_at f.value ls ]) e
 
     listed_mean : (js : List ℕ) (ls : List (Located Span (List ℕ))) → AllNames text ts js ls → ListedMeans (listed text ts x js) (A.listed_at f.value ls)
     unfolding listed A.listed_at
@@ -100,8 +101,8 @@ module _ (text : List ℕ) (ts : List Token) where
         let s : same_name text (peek ts j) (peek ts x) ≡ same l.value f.value = names_same text (peek ts j) (peek ts x) l f m name in
         by_test_lem (same l.value f.value)
         (λ y.
-        let a : listed text ts x (j ∷ js) ≡ some j = listed_by j js true (s ∙ y) in
-        let b : A.listed_at f.value (l ∷ ls) ≡ some l.place = language_by l ls true y in
+        let a : listed text ts x (j ∷ js) ≡ Some j = listed_by j js true (s ∙ y) in
+        let b : A.listed_at f.value (l ∷ ls) ≡ Some l.place = language_by l ls true y in
         rw (a, b) (name-place text (peek ts j) l m))
         (λ n.
         let a : listed text ts x (j ∷ js) ≡ listed text ts x js = listed_by j js false (s ∙ n) in
@@ -110,19 +111,19 @@ module _ (text : List ℕ) (ts : List Token) where
 
   -- Q, declared or not
   abbrev pub StatesMean : Bool → List ℕ → Option (List (Located Span (List ℕ))) → Type 0
-  StatesMean d qs none = d ≡ false
-  StatesMean d qs (some q) = (d ≡ true) × AllNames text ts qs q
+  StatesMean d qs None = d ≡ false
+  StatesMean d qs (Some q) = (d ≡ true) × AllNames text ts qs q
 
   -- ---- one name of F
   module _ (d : Bool) (qs : List ℕ) (q : Option (List (Located Span (List ℕ)))) (states : StatesMean d qs q) where
     module _ (x : ℕ) (f : Located Span (List ℕ)) (name : NameIs text (peek ts x) f) where
-      unknown_by : (b : Bool) (o : Option ℕ) → d ≡ b → listed text ts x qs ≡ o → unknown_error text ts d qs x ≡ cond b (elim o [ some j ↦ [] | none ↦ error 3 (place_of (peek ts x)) ∷ [] ]) []
+      unknown_by : (b : Bool) (o : Option ℕ) → d ≡ b → listed text ts x qs ≡ o → unknown_error text ts d qs x ≡ cond b (elim o [ Some j ↦ [] | None ↦ error 3 (place_of (peek ts x)) ∷ [] ]) []
       unfolding unknown_error
       unknown_by b o e l =
-          ap (λ (b : Bool). cond b (elim (listed text ts x qs) [ some j ↦ [] | none ↦ error 3 (place_of (peek ts x)) ∷ [] ]) []) e
-          ∙ ap (λ (o : Option ℕ). cond b (elim o [ some j ↦ [] | none ↦ error 3 (place_of (peek ts x)) ∷ [] ]) []) l
+          ap (λ (b : Bool). cond b (elim (listed text ts x qs) [ Some j ↦ [] | None ↦ error 3 (place_of (peek ts x)) ∷ [] ]) []) e
+          ∙ ap (λ (o : Option ℕ). cond b (elim o [ Some j ↦ [] | None ↦ error 3 (place_of (peek ts x)) ∷ [] ]) []) l
 
-      missing : error 3 (place_of (peek ts x)) ≡ record_of (A.diagnostic 3 f.place none)
+      missing : error 3 (place_of (peek ts x)) ≡ record_of (A.diagnostic 3 f.place None)
       unfolding record_of or_none
       missing = ap (error 3) (name-place text (peek ts x) f name)
 
@@ -130,31 +131,31 @@ module _ (text : List ℕ) (ts : List Token) where
       unfolding A.unknown_error records_of
       unknown_mean = go q states
         where
-          language : (q : List (Located Span (List ℕ))) (o : Option Span) → A.listed_at f.value q ≡ o → A.unknown_error (some q) f ≡ elim o [ some p ↦ [] | none ↦ A.diagnostic 3 f.place none ∷ [] ]
-          language q o e = ap (λ (o : Option Span). elim o [ some p ↦ [] | none ↦ A.diagnostic 3 f.place none ∷ [] ]) e
+          language : (q : List (Located Span (List ℕ))) (o : Option Span) → A.listed_at f.value q ≡ o → A.unknown_error (Some q) f ≡ elim o [ Some p ↦ [] | None ↦ A.diagnostic 3 f.place None ∷ [] ]
+          language q o e = ap (λ (o : Option Span). elim o [ Some p ↦ [] | None ↦ A.diagnostic 3 f.place None ∷ [] ]) e
 
           found : (q : List (Located Span (List ℕ))) (a : Option ℕ) (b : Option Span) → d ≡ true → listed text ts x qs ≡ a → A.listed_at f.value q ≡ b → ListedMeans a b
-              → unknown_error text ts d qs x ≡ records_of (A.unknown_error (some q) f)
-          found q none none y e g m = unknown_by true none y e ∙ ap (λ (x : Diagnostic). x ∷ []) missing ∙ ap records_of (sym (language q none g))
-          found q none (some p) y e g m = absurd m
-          found q (some j) none y e g m = absurd m
-          found q (some j) (some p) y e g m = unknown_by true (some j) y e ∙ ap records_of (sym (language q (some p) g))
+              → unknown_error text ts d qs x ≡ records_of (A.unknown_error (Some q) f)
+          found q None None y e g m = unknown_by true None y e ∙ ap (λ (x : Diagnostic). x ∷ []) missing ∙ ap records_of (sym (language q None g))
+          found q None (Some p) y e g m = absurd m
+          found q (Some j) None y e g m = absurd m
+          found q (Some j) (Some p) y e g m = unknown_by true (Some j) y e ∙ ap records_of (sym (language q (Some p) g))
 
           go : (q : Option (List (Located Span (List ℕ)))) → StatesMean d qs q → unknown_error text ts d qs x ≡ records_of (A.unknown_error q f)
-          go none m = unknown_by false (listed text ts x qs) m refl
-          go (some q) m = found q (listed text ts x qs) (A.listed_at f.value q) m.0 refl refl (listed_mean x f name qs q m.1)
+          go None m = unknown_by false (listed text ts x qs) m refl
+          go (Some q) m = found q (listed text ts x qs) (A.listed_at f.value q) m.0 refl refl (listed_mean x f name qs q m.1)
 
       error_by : (before : List ℕ) (o : Option ℕ) → listed text ts x before ≡ o
-          → final_error text ts d qs before x ≡ elim o [ some j ↦ with_related (error 11 (place_of (peek ts x))) (place_of (peek ts j)) ∷ [] | none ↦ unknown_error text ts d qs x ]
+          → final_error text ts d qs before x ≡ elim o [ Some j ↦ with_related (error 11 (place_of (peek ts x))) (place_of (peek ts j)) ∷ [] | None ↦ unknown_error text ts d qs x ]
       unfolding final_error
-      error_by before o e = ap (λ (o : Option ℕ). elim o [ some j ↦ with_related (error 11 (place_of (peek ts x))) (place_of (peek ts j)) ∷ [] | none ↦ unknown_error text ts d qs x ]) e
+      error_by before o e = ap (λ (o : Option ℕ). elim o [ Some j ↦ with_related (error 11 (place_of (peek ts x))) (place_of (peek ts j)) ∷ [] | None ↦ unknown_error text ts d qs x ]) e
 
       language_error : (before : List (Located Span (List ℕ))) (o : Option Span) → A.listed_at f.value before ≡ o
-          → A.final_error q before f ≡ elim o [ some p ↦ A.diagnostic 11 f.place (some p) ∷ [] | none ↦ A.unknown_error q f ]
+          → A.final_error q before f ≡ elim o [ Some p ↦ A.diagnostic 11 f.place (Some p) ∷ [] | None ↦ A.unknown_error q f ]
       unfolding A.final_error
-      language_error before o e = ap (λ (o : Option Span). elim o [ some p ↦ A.diagnostic 11 f.place (some p) ∷ [] | none ↦ A.unknown_error q f ]) e
+      language_error before o e = ap (λ (o : Option Span). elim o [ Some p ↦ A.diagnostic 11 f.place (Some p) ∷ [] | None ↦ A.unknown_error q f ]) e
 
-      again : (j : ℕ) (p : Span) → place_of (peek ts j) ≡ p → with_related (error 11 (place_of (peek ts x))) (place_of (peek ts j)) ≡ record_of (A.diagnostic 11 f.place (some p))
+      again : (j : ℕ) (p : Span) → place_of (peek ts j) ≡ p → with_related (error 11 (place_of (peek ts x))) (place_of (peek ts j)) ≡ record_of (A.diagnostic 11 f.place (Some p))
       unfolding record_of or_none
       again j p m = ap (λ (a : Span). with_related (error 11 a) (place_of (peek ts j))) (name-place text (peek ts x) f name) ∙ ap (with_related (error 11 f.place)) m
 
@@ -163,10 +164,10 @@ module _ (text : List ℕ) (ts : List Token) where
       name_mean before ns all = go (listed text ts x before) (A.listed_at f.value ns) refl refl (listed_mean x f name before ns all)
         where
           go : (a : Option ℕ) (b : Option Span) → listed text ts x before ≡ a → A.listed_at f.value ns ≡ b → ListedMeans a b → final_error text ts d qs before x ≡ records_of (A.final_error q ns f)
-          go none none e g m = error_by before none e ∙ unknown_mean ∙ ap records_of (sym (language_error ns none g))
-          go none (some p) e g m = absurd m
-          go (some j) none e g m = absurd m
-          go (some j) (some p) e g m = error_by before (some j) e ∙ ap (λ (x : Diagnostic). x ∷ []) (again j p m) ∙ ap records_of (sym (language_error ns (some p) g))
+          go None None e g m = error_by before None e ∙ unknown_mean ∙ ap records_of (sym (language_error ns None g))
+          go None (Some p) e g m = absurd m
+          go (Some j) None e g m = absurd m
+          go (Some j) (Some p) e g m = error_by before (Some j) e ∙ ap (λ (x : Diagnostic). x ∷ []) (again j p m) ∙ ap records_of (sym (language_error ns (Some p) g))
 
     -- ---- all names of F
     names_mean : (before fs : List ℕ) (bs ls : List (Located Span (List ℕ))) → AllNames text ts before bs → AllNames text ts fs ls → final_errors text ts d qs before fs ≡ records_of (A.final_errors q bs ls)
@@ -231,148 +232,24 @@ module _ (text : List ℕ) (ts : List Token) where
   abbrev pub NamesIn : Entry → Item Span → Type 0
   NamesIn e (states_item q) = AllNames text ts (names_from (suc e.at) e.rest) q
   NamesIn e (final_item q) = AllNames text ts (names_from (suc e.at) e.rest) q
-  NamesIn e (machine_item x) = Unit {0}
-  NamesIn e (kind_item x) = Unit {0}
-  NamesIn e (input_item x) = Unit {0}
-  NamesIn e (output_item x) = Unit {0}
-  NamesIn e (tapes_item x) = Unit {0}
-  NamesIn e (input_alphabet_item x) = Unit {0}
-  NamesIn e (tape_alphabet_item x) = Unit {0}
-  NamesIn e (blank_item x) = Unit {0}
-  NamesIn e (start_item x) = Unit {0}
-  NamesIn e (transition_item x) = Unit {0}
+  NamesIn e _ = Unit {0}
 
-  -- a part of an item that only the items of number k have: names
-  record Selects (k : ℕ) (part : A.Parts Span → Option Names) : Type 0 where
-    others : (i : Item Span) → (number i ≡ k → ⊥) → part (A.parts i) ≡ none
-    names : (i : Item Span) → number i ≡ k → Names
-    itself : (i : Item Span) (h : number i ≡ k) → part (A.parts i) ≡ some (names i h)
-    listed : (e : Entry) (i : Item Span) (h : number i ≡ k) → NamesIn e i → AllNames text ts (names_from (suc e.at) e.rest) (names i h)
+  -- a part of an item that the items of number k alone have: the names in their entry
+  abbrev Selects : ℕ → (Columns.Parts Span → Option Names) → Type 0
+  Selects k part = (e : Entry) (i : Item Span) → NamesIn e i → StatesMean text ts (eqb (number i) k) (names_from (suc e.at) e.rest) (part (Columns.parts i))
 
-  selects_states : Selects 5 (λ p. p.states)
-  unfolding number A.parts
-  selects_states = record { others = others; names = names; itself = itself; listed = listed }
-    where
-      others : (i : Item Span) → (number i ≡ 5 → ⊥) → (A.parts i).states ≡ none
-      others (machine_item x) h = refl
-      others (kind_item x) h = refl
-      others (input_item x) h = refl
-      others (output_item x) h = refl
-      others (tapes_item x) h = refl
-      others (states_item x) h = absurd (h refl)
-      others (input_alphabet_item x) h = refl
-      others (tape_alphabet_item x) h = refl
-      others (blank_item x) h = refl
-      others (start_item x) h = refl
-      others (final_item x) h = refl
-      others (transition_item x) h = refl
-
-      names : (i : Item Span) → number i ≡ 5 → Names
-      names (machine_item x) h = []
-      names (kind_item x) h = []
-      names (input_item x) h = []
-      names (output_item x) h = []
-      names (tapes_item x) h = []
-      names (states_item x) h = x
-      names (input_alphabet_item x) h = []
-      names (tape_alphabet_item x) h = []
-      names (blank_item x) h = []
-      names (start_item x) h = []
-      names (final_item x) h = []
-      names (transition_item x) h = []
-
-      itself : (i : Item Span) (h : number i ≡ 5) → (A.parts i).states ≡ some (names i h)
-      itself (machine_item x) h = absurd (omega arith)
-      itself (kind_item x) h = absurd (omega arith)
-      itself (input_item x) h = absurd (omega arith)
-      itself (output_item x) h = absurd (omega arith)
-      itself (tapes_item x) h = absurd (omega arith)
-      itself (states_item x) h = refl
-      itself (input_alphabet_item x) h = absurd (omega arith)
-      itself (tape_alphabet_item x) h = absurd (omega arith)
-      itself (blank_item x) h = absurd (omega arith)
-      itself (start_item x) h = absurd (omega arith)
-      itself (final_item x) h = absurd (omega arith)
-      itself (transition_item x) h = absurd (omega arith)
-
-      listed : (e : Entry) (i : Item Span) (h : number i ≡ 5) → NamesIn e i → AllNames text ts (names_from (suc e.at) e.rest) (names i h)
-      listed e (machine_item x) h n = absurd (omega arith)
-      listed e (kind_item x) h n = absurd (omega arith)
-      listed e (input_item x) h n = absurd (omega arith)
-      listed e (output_item x) h n = absurd (omega arith)
-      listed e (tapes_item x) h n = absurd (omega arith)
-      listed e (states_item x) h n = n
-      listed e (input_alphabet_item x) h n = absurd (omega arith)
-      listed e (tape_alphabet_item x) h n = absurd (omega arith)
-      listed e (blank_item x) h n = absurd (omega arith)
-      listed e (start_item x) h n = absurd (omega arith)
-      listed e (final_item x) h n = absurd (omega arith)
-      listed e (transition_item x) h n = absurd (omega arith)
-
-  selects_finals : Selects 10 (λ p. p.finals)
-  unfolding number A.parts
-  selects_finals = record { others = others; names = names; itself = itself; listed = listed }
-    where
-      others : (i : Item Span) → (number i ≡ 10 → ⊥) → (A.parts i).finals ≡ none
-      others (machine_item x) h = refl
-      others (kind_item x) h = refl
-      others (input_item x) h = refl
-      others (output_item x) h = refl
-      others (tapes_item x) h = refl
-      others (states_item x) h = refl
-      others (input_alphabet_item x) h = refl
-      others (tape_alphabet_item x) h = refl
-      others (blank_item x) h = refl
-      others (start_item x) h = refl
-      others (final_item x) h = absurd (h refl)
-      others (transition_item x) h = refl
-
-      names : (i : Item Span) → number i ≡ 10 → Names
-      names (machine_item x) h = []
-      names (kind_item x) h = []
-      names (input_item x) h = []
-      names (output_item x) h = []
-      names (tapes_item x) h = []
-      names (states_item x) h = []
-      names (input_alphabet_item x) h = []
-      names (tape_alphabet_item x) h = []
-      names (blank_item x) h = []
-      names (start_item x) h = []
-      names (final_item x) h = x
-      names (transition_item x) h = []
-
-      itself : (i : Item Span) (h : number i ≡ 10) → (A.parts i).finals ≡ some (names i h)
-      itself (machine_item x) h = absurd (omega arith)
-      itself (kind_item x) h = absurd (omega arith)
-      itself (input_item x) h = absurd (omega arith)
-      itself (output_item x) h = absurd (omega arith)
-      itself (tapes_item x) h = absurd (omega arith)
-      itself (states_item x) h = absurd (omega arith)
-      itself (input_alphabet_item x) h = absurd (omega arith)
-      itself (tape_alphabet_item x) h = absurd (omega arith)
-      itself (blank_item x) h = absurd (omega arith)
-      itself (start_item x) h = absurd (omega arith)
-      itself (final_item x) h = refl
-      itself (transition_item x) h = absurd (omega arith)
-
-      listed : (e : Entry) (i : Item Span) (h : number i ≡ 10) → NamesIn e i → AllNames text ts (names_from (suc e.at) e.rest) (names i h)
-      listed e (machine_item x) h n = absurd (omega arith)
-      listed e (kind_item x) h n = absurd (omega arith)
-      listed e (input_item x) h n = absurd (omega arith)
-      listed e (output_item x) h n = absurd (omega arith)
-      listed e (tapes_item x) h n = absurd (omega arith)
-      listed e (states_item x) h n = absurd (omega arith)
-      listed e (input_alphabet_item x) h n = absurd (omega arith)
-      listed e (tape_alphabet_item x) h n = absurd (omega arith)
-      listed e (blank_item x) h n = absurd (omega arith)
-      listed e (start_item x) h n = absurd (omega arith)
-      listed e (final_item x) h n = n
-      listed e (transition_item x) h n = absurd (omega arith)
+  selects : (e : Entry) (i : Item Span) → NamesIn e i
+      → StatesMean text ts (eqb (number i) 5) (names_from (suc e.at) e.rest) (Columns.parts i).states
+      × StatesMean text ts (eqb (number i) 10) (names_from (suc e.at) e.rest) (Columns.parts i).finals
+  unfolding number
+  selects e (states_item q) n = ((refl, n), refl)
+  selects e (final_item q) n = (refl, (refl, n))
+  selects e _ n = (refl, refl)
 
   -- the index where the search for the first such item ends
   data Looked (start final : ℕ) : Option (Located Span Names) → Type 0 where
-    absent : final ≡ start → Looked start final none
-    present : {l : Located Span Names} → final < length ts → AllNames text ts (names_of ts final) l.value → Looked start final (some l)
+    absent : final ≡ start → Looked start final None
+    present : {l : Located Span Names} → final < length ts → AllNames text ts (names_of ts final) l.value → Looked start final (Some l)
 
   names_of_lem : (a : ℕ) (rest : List Token) (l : Names) → rest ≡ drop (suc a) ts → AllNames text ts (names_from (suc a) rest) l → AllNames text ts (names_of ts a) l
   unfolding names_of
@@ -381,11 +258,11 @@ module _ (text : List ℕ) (ts : List Token) where
   looked_from : (start start' final : ℕ) (o : Option (Located Span Names)) → start ≡ start' → Looked start final o → Looked start' final o
   looked_from start start' final o e l = subst (λ (s : ℕ). Looked s final o) e l
 
-  module _ (X : Entry → Item Span → Type 0) (asks : (e : Entry) (i : Item Span) → X e i → NamesIn e i) (k : ℕ) (low : k < 11) (part : A.Parts Span → Option Names) (selects : Selects k part) where
-    first_by : (i : Located Span (Item Span)) (is : List (Located Span (Item Span))) (o : Option Names) → part (A.parts i.value) ≡ o
-        → A.first part (i ∷ is) ≡ elim o [ some a ↦ some (record { value = a; place = i.place }) | none ↦ A.first part is ]
+  module _ (X : Entry → Item Span → Type 0) (asks : (e : Entry) (i : Item Span) → X e i → NamesIn e i) (k : ℕ) (low : k < 11) (part : Columns.Parts Span → Option Names) (selects : Selects k part) where
+    first_by : (i : Located Span (Item Span)) (is : List (Located Span (Item Span))) (o : Option Names) → part (Columns.parts i.value) ≡ o
+        → A.first (Columns.select part) (i ∷ is) ≡ elim o [ Some a ↦ Some (record { value = a; place = i.place }) | None ↦ A.first (Columns.select part) is ]
     unfolding A.first
-    first_by i is o e = ap (λ (o : Option Names). elim o [ some a ↦ some (record { value = a; place = i.place }) | none ↦ A.first part is ]) e
+    first_by i is o e = ap (λ (o : Option Names). elim o [ Some a ↦ Some (record { value = a; place = i.place }) | None ↦ A.first (Columns.select part) is ]) e
 
     declares-kind : (e : Entry) (m : ℕ) → e.first.kind ≡ 16 + m → m < 11 → declares e.first ≡ true
     unfolding declares
@@ -398,8 +275,12 @@ module _ (text : List ℕ) (ts : List Token) where
         (λ y. let z : ltb e.first.kind 27 ≡ true = rw y at h in (leb-true 16 e.first.kind y, ltb-true e.first.kind 27 z))
         (λ n. let z : false ≡ true = rw n at h in absurd (let o : ◌≡◌ {A = ℕ} 0 1 = cc in omega arith))
 
+    -- where the search ends that began at `first`, and went on over the entry e and the entries es
+    abbrev Ends : List ℕ → Entry → List Entry → Option (Located Span Names) → Type 0
+    Ends first e es o = Looked (get_or first k 0) (get_or (declarations (length ts) (declare (length ts) first e) es) k 0) o
+
     lookup : (first : List ℕ) (es : List Entry) (ls : List (Line Span)) → AllMean X ts es ls → length first ≡ 11 → ltb (get_or first k 0) (length ts) ≡ false
-        → Looked (get_or first k 0) (get_or (declarations (length ts) first es) k 0) (A.first part (A.items ls))
+        → Looked (get_or first k 0) (get_or (declarations (length ts) first es) k 0) (A.first (Columns.select part) (A.items ls))
     unfolding declarations A.items A.first
     lookup first [] [] no_lines s f = absent refl
     lookup first [] (l ∷ ls) m s f = elim m [ ]
@@ -414,24 +295,24 @@ module _ (text : List ℕ) (ts : List Token) where
         let p : get_or (declare (length ts) first e) k 0 ≡ get_or first k 0 = passes (length ts) k low first e (λ d z. omega (arith, declares-within e d, m.0)) in
         looked_from _ _ _ _ p (lookup (declare (length ts) first e) es ls r (declare-length (length ts) first e ∙ s) (ap (λ (m : ℕ). ltb m (length ts)) p ∙ f))
     lookup first (e ∷ es) (item_line i x c ∷ ls) (one_line h q m r) s f =
-        by_test_lem (eqb (number i) k)
-        (λ y.
-        let z : number i ≡ k = eqb-true (number i) k y in
-        let l : Located Span Names = record { value = selects.names i z; place = x } in
-        let lands_here : get_or (declare (length ts) first e) k 0 ≡ e.at = lands (length ts) k low first e s (declares-kind e (number i) m.kind (omega arith)) (omega (arith, m.kind)) f in
-        let final : get_or (declarations (length ts) (declare (length ts) first e) es) k 0 ≡ e.at =
-        all_stays (length ts) k low (declare (length ts) first e) es (ap (λ (m : ℕ). ltb m (length ts)) lands_here ∙ lt-ltb e.at (length ts) h) ∙ lands_here in
-        let rest : e.rest ≡ drop (suc e.at) ts = ap (λ (e : Entry). e.rest) q in
-        let all : AllNames text ts (names_of ts e.at) l.value = names_of_lem e.at e.rest l.value rest (selects.listed e i z (asks e i m.more)) in
-        subst (λ (o : Option (Located Span Names)). Looked (get_or first k 0) (get_or (declarations (length ts) (declare (length ts) first e) es) k 0) o)
-        (sym (first_by (record { value = i; place = x }) (A.items ls) (some (selects.names i z)) (selects.itself i z)))
-        (present (omega (arith, final)) (subst (λ (n : ℕ). AllNames text ts (names_of ts n) l.value) (sym final) all)))
-        (λ n.
-        let o : number i ≡ k → ⊥ = eqb-false (number i) k n in
-        let p : get_or (declare (length ts) first e) k 0 ≡ get_or first k 0 = passes (length ts) k low first e (λ d z. o (omega (arith, m.kind))) in
-        subst (λ (w : Option (Located Span Names)). Looked (get_or first k 0) (get_or (declarations (length ts) (declare (length ts) first e) es) k 0) w)
-        (sym (first_by (record { value = i; place = x }) (A.items ls) none (selects.others i o)))
-        (looked_from _ _ _ _ p (lookup (declare (length ts) first e) es ls r (declare-length (length ts) first e ∙ s) (ap (λ (m : ℕ). ltb m (length ts)) p ∙ f))))
+        line (part (Columns.parts i)) refl (selects e i (asks e i m.more))
+        (λ p. looked_from _ _ _ _ p (lookup (declare (length ts) first e) es ls r (declare-length (length ts) first e ∙ s) (ap (λ (m : ℕ). ltb m (length ts)) p ∙ f)))
+      where
+        line : (o : Option Names) → part (Columns.parts i) ≡ o → StatesMean text ts (eqb (number i) k) (names_from (suc e.at) e.rest) o
+            → (get_or (declare (length ts) first e) k 0 ≡ get_or first k 0 → Ends first e es (A.first (Columns.select part) (A.items ls)))
+            → Ends first e es (A.first (Columns.select part) (record { value = i; place = x } ∷ A.items ls))
+        line None g d again =
+            let o : number i ≡ k → ⊥ = eqb-false (number i) k d in
+            subst (Ends first e es) (sym (first_by (record { value = i; place = x }) (A.items ls) None g)) (again (passes (length ts) k low first e (λ d z. o (omega (arith, m.kind)))))
+        line (Some l) g (y, n) again =
+            let z : number i ≡ k = eqb-true (number i) k y in
+            let lands_here : get_or (declare (length ts) first e) k 0 ≡ e.at = lands (length ts) k low first e s (declares-kind e (number i) m.kind (omega arith)) (omega (arith, m.kind)) f in
+            let final : get_or (declarations (length ts) (declare (length ts) first e) es) k 0 ≡ e.at =
+            all_stays (length ts) k low (declare (length ts) first e) es (ap (λ (m : ℕ). ltb m (length ts)) lands_here ∙ lt-ltb e.at (length ts) h) ∙ lands_here in
+            let rest : e.rest ≡ drop (suc e.at) ts = ap (λ (e : Entry). e.rest) q in
+            let all : AllNames text ts (names_of ts e.at) l = names_of_lem e.at e.rest l rest n in
+            subst (Ends first e es) (sym (first_by (record { value = i; place = x }) (A.items ls) (Some l) g))
+            (present (omega (arith, final)) (subst (λ (n : ℕ). AllNames text ts (names_of ts n) l) (sym final) all))
 
   -- ---- the diagnostics of F
   no_such : (n : ℕ) → length ts ≤ n → names_of ts n ≡ []
@@ -440,13 +321,13 @@ module _ (text : List ℕ) (ts : List Token) where
 
   states_looked : (final : ℕ) (o : Option (Located Span Names)) → length ts ≤ 0xffffffff → Looked 0xffffffff final o → StatesMean text ts (ltb final (length ts)) (names_of ts final) (A.found o)
   unfolding A.found
-  states_looked final none h (absent e) = le-ltb final (length ts) (omega arith)
-  states_looked final (some l) h (present g all) = (lt-ltb final (length ts) g, all)
+  states_looked final None h (absent e) = le-ltb final (length ts) (omega arith)
+  states_looked final (Some l) h (present g all) = (lt-ltb final (length ts) g, all)
 
-  finals_looked : (final : ℕ) (o : Option (Located Span Names)) → length ts ≤ 0xffffffff → Looked 0xffffffff final o → AllNames text ts (names_of ts final) (A.or_else (A.found o) [])
-  unfolding A.found A.or_else
-  finals_looked final none h (absent e) = subst (λ (l : List ℕ). AllNames text ts l []) (sym (no_such final (omega arith))) no_names
-  finals_looked final (some l) h (present g all) = all
+  finals_looked : (final : ℕ) (o : Option (Located Span Names)) → length ts ≤ 0xffffffff → Looked 0xffffffff final o → AllNames text ts (names_of ts final) (unwrap_or (A.found o) [])
+  unfolding A.found
+  finals_looked final None h (absent e) = subst (λ (l : List ℕ). AllNames text ts l []) (sym (no_such final (omega arith))) no_names
+  finals_looked final (Some l) h (present g all) = all
 
   pub finals_mean : (X : Entry → Item Span → Type 0) → ((e : Entry) (i : Item Span) → X e i → NamesIn e i) → length ts ≤ 0xffffffff → (es : List Entry) (ls : List (Line Span)) → AllMean X ts es ls
       → finals_errors text ts (declarations (length ts) undeclared es) ≡ records_of (A.final_errors (A.states_in (A.items ls)) [] (A.finals_in (A.items ls)))
@@ -454,8 +335,8 @@ module _ (text : List ℕ) (ts : List Token) where
   finals_mean X asks h es ls all =
       let first : List ℕ = declarations (length ts) undeclared es in
       let none_yet : (k : ℕ) → ltb 0xffffffff (length ts) ≡ false = λ k. le-ltb 0xffffffff (length ts) h in
-      let q : Looked 0xffffffff (get_or first 5 0) (A.first (λ p. p.states) (A.items ls)) = lookup X asks 5 (omega arith) (λ p. p.states) selects_states undeclared es ls all refl (none_yet 5) in
-      let f : Looked 0xffffffff (get_or first 10 0) (A.first (λ p. p.finals) (A.items ls)) = lookup X asks 10 (omega arith) (λ p. p.finals) selects_finals undeclared es ls all refl (none_yet 10) in
-      names_mean text ts (ltb (get_or first 5 0) (length ts)) (names_of ts (get_or first 5 0)) (A.found (A.first (λ p. p.states) (A.items ls)))
-      (states_looked (get_or first 5 0) (A.first (λ p. p.states) (A.items ls)) h q) [] (names_of ts (get_or first 10 0)) [] (A.or_else (A.found (A.first (λ p. p.finals) (A.items ls))) []) no_names
-      (finals_looked (get_or first 10 0) (A.first (λ p. p.finals) (A.items ls)) h f)
+      let q : Looked 0xffffffff (get_or first 5 0) (A.first (Columns.select λ p. p.states) (A.items ls)) = lookup X asks 5 (omega arith) (λ p. p.states) (λ e i n. (selects e i n).0) undeclared es ls all refl (none_yet 5) in
+      let f : Looked 0xffffffff (get_or first 10 0) (A.first (Columns.select λ p. p.finals) (A.items ls)) = lookup X asks 10 (omega arith) (λ p. p.finals) (λ e i n. (selects e i n).1) undeclared es ls all refl (none_yet 10) in
+      names_mean text ts (ltb (get_or first 5 0) (length ts)) (names_of ts (get_or first 5 0)) (A.found (A.first (Columns.select λ p. p.states) (A.items ls)))
+      (states_looked (get_or first 5 0) (A.first (Columns.select λ p. p.states) (A.items ls)) h q) [] (names_of ts (get_or first 10 0)) [] (unwrap_or (A.found (A.first (Columns.select λ p. p.finals) (A.items ls))) []) no_names
+      (finals_looked (get_or first 10 0) (A.first (Columns.select λ p. p.finals) (A.items ls)) h f)

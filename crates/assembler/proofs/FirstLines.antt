@@ -1,4 +1,5 @@
--- What the line of a first declaration tells: where there is one, its number is an index of a token, and where there is none, it is no such index.
+-- What the line of a first declaration tells: where there is one, its number is an index of a token, and
+-- where there is none, it is no such index.
 use mathlib.Core.Path.{◌≡◌, refl, sym, ap, ◌∙◌}
 use mathlib.Core.Bool.{Bool, true, false, cond}
 use Prim.Native.Nat.{ℕ, ◌≤◌, ◌<◌}

@@ -120,7 +120,7 @@ module _ (n i : ℕ) (w : List ℕ) (room : 4 * n ≤ length w) (low : i < n) (f
   rest-length : length rest ≡ n - i
   rest-length = length-drop i (rows n w) ∙ ap (λ (k : ℕ). k - i) (length-rows n w room)
 
-  -- of an item
+  -- the line of an item, entered
   module _ (x : Item) (read : line (drop i (rows n w)) 0 ≡ Read x) where
     item-inside : ItemIn rest x
     item-inside = subst (LineIn rest) read (line_in rest)
@@ -128,7 +128,7 @@ module _ (n i : ℕ) (w : List ℕ) (room : 4 * n ≤ length w) (low : i < n) (f
     pub newline_low : i + x.newline < 2 ^ 32
     newline_low = omega (arith, item-inside.newline, rest-length)
 
-    -- its parts, if it is a rule
+    -- the parts of an item that is a rule are stored
     module _ (m : ℕ) (number : m ≡ item_number x.kind) (rule : m ≡ 11) where
       is_rule : x.kind ≡ Transition
       is_rule = number-rule x.kind (sym number ∙ rule)
@@ -152,7 +152,7 @@ module _ (n i : ℕ) (w : List ℕ) (room : 4 * n ≤ length w) (low : i < n) (f
             dir = omega (arith, p.dir);
           }
 
-    -- its entry is stored
+    -- the entry of an item is stored
     module _ (v : List ℕ) (stored : v ≡ sets w (4 * i) (words_of (item_entry i x))) where
       with_entry : v ≡ onto (flat (set (rows n w) i (item_entry i x))) w
       with_entry = put_row n i w v (item_entry i x) room low stored
@@ -192,7 +192,7 @@ module _ (n i : ℕ) (w : List ℕ) (room : 4 * n ≤ length w) (low : i < n) (f
             p ∙ ap (λ (l : List Token). onto (flat (set (set l (i + 1) (counts_of q)) (i + 3) (parts_of i q))) v) now
             ∙ ap (onto (flat b)) with_entry ∙ onto-onto b a w size ∙ ap (λ (l : List Token). onto (flat l) w) (sym all)
 
-  -- of a failure
+  -- the line of a failure, entered
   module _ (bad : Failure) (read : line (drop i (rows n w)) 0 ≡ Err bad) where
     pub code_fits : Fits w32 (32 + code_number bad.code)
     code_fits = let z : code_number bad.code ≤ 11 = subst (LineIn rest) read (line_in rest) in record { fits = omega arith }

@@ -2,7 +2,7 @@
 use mathlib.Core.Path.{◌≡◌, refl, sym, ap, ◌∙◌}
 use mathlib.Core.Bool.{Bool, true, false, cond}
 use mathlib.Core.List.{List, [], ◌∷◌, ◌++◌}
-use mathlib.Core.Option.{Option, none, some}
+use Rattle.std.specs.Prelude.{Option, None, Some}
 use Prim.Native.Nat.{ℕ, ◌+◌, ◌-◌, ◌≤◌, ◌<◌}
 use native.Mathlib.Omega.{arith}
 use borrow.Author.Tests.{eq-eqb, ne_eqb}
@@ -19,8 +19,8 @@ use Rattle.assembler.specs.Names.{same_name, is_word, first_equal}
 use Rattle.assembler.specs.Finals.{listed, unknown_error, final_error, mark_by, mark_of, Interned, Laid, Kept}
 use Rattle.assembler.specs.declared.finals.Names.{Names}
 use Rattle.assembler.specs.Marked.{row_of, Marked}
-pub use Rattle.equal_names.proofs.NameLaws.{part_of, name-part, part-name, first_low, first_part, first-same, kept_refl, kept_trans}
-use Rattle.equal_names.proofs.NameLaws.{kept-rows}
+pub use Rattle.assembler_names.proofs.NameLaws.{part_of, name-part, part-name, first_low, first_part, first-same, kept_refl, kept_trans}
+use Rattle.assembler_names.proofs.NameLaws.{kept-rows}
 use Rattle.assembler.proofs.Rows.{length-rows}
 
 -- ---- the list in which a name is looked for
@@ -29,70 +29,70 @@ module _ (text : List ℕ) (ts : List Token) where
   unfolding listed same_name
   listed_same x y [] e = refl
   listed_same x y (j ∷ l) e =
-      ap (λ (p : List ℕ). elim (same (part_of text (peek ts j)) p) [ true ↦ some j | false ↦ listed text ts x l ]) e
-      ∙ ap (λ (o : Option ℕ). elim (same_name text (peek ts j) (peek ts y)) [ true ↦ some j | false ↦ o ]) (listed_same x y l e)
+      ap (λ (p : List ℕ). elim (same (part_of text (peek ts j)) p) [ true ↦ Some j | false ↦ listed text ts x l ]) e
+      ∙ ap (λ (o : Option ℕ). elim (same_name text (peek ts j) (peek ts y)) [ true ↦ Some j | false ↦ o ]) (listed_same x y l e)
 
-  listed_yes : (x k : ℕ) (l : List ℕ) → same_name text (peek ts k) (peek ts x) ≡ true → listed text ts x (k ∷ l) ≡ some k
+  listed_yes : (x k : ℕ) (l : List ℕ) → same_name text (peek ts k) (peek ts x) ≡ true → listed text ts x (k ∷ l) ≡ Some k
   unfolding listed
-  listed_yes x k l e = ap (λ (b : Bool). elim b [ true ↦ some k | false ↦ listed text ts x l ]) e
+  listed_yes x k l e = ap (λ (b : Bool). elim b [ true ↦ Some k | false ↦ listed text ts x l ]) e
 
   listed_no : (x k : ℕ) (l : List ℕ) → same_name text (peek ts k) (peek ts x) ≡ false → listed text ts x (k ∷ l) ≡ listed text ts x l
   unfolding listed
-  listed_no x k l e = ap (λ (b : Bool). elim b [ true ↦ some k | false ↦ listed text ts x l ]) e
+  listed_no x k l e = ap (λ (b : Bool). elim b [ true ↦ Some k | false ↦ listed text ts x l ]) e
 
   -- one name more: nothing changes for what was listed, nor for another name
-  listed-before : (x i j : ℕ) (l : List ℕ) → listed text ts x l ≡ some j → listed text ts x (l ++ i ∷ []) ≡ some j
+  listed-before : (x i j : ℕ) (l : List ℕ) → listed text ts x l ≡ Some j → listed text ts x (l ++ i ∷ []) ≡ Some j
   unfolding listed
   listed-before x i j [] e = cc
   listed-before x i j (k ∷ l) e =
       by_test_lem (same_name text (peek ts k) (peek ts x)) (λ y. listed_yes x k (l ++ i ∷ []) y ∙ sym (listed_yes x k l y) ∙ e)
       (λ n. listed_no x k (l ++ i ∷ []) n ∙ listed-before x i j l (sym (listed_no x k l n) ∙ e))
 
-  listed_new : (x i : ℕ) (l : List ℕ) → listed text ts x l ≡ none → same_name text (peek ts i) (peek ts x) ≡ true → listed text ts x (l ++ i ∷ []) ≡ some i
+  listed_new : (x i : ℕ) (l : List ℕ) → listed text ts x l ≡ None → same_name text (peek ts i) (peek ts x) ≡ true → listed text ts x (l ++ i ∷ []) ≡ Some i
   listed_new x i [] e s = listed_yes x i [] s
   listed_new x i (k ∷ l) e s =
-      by_test_lem (same_name text (peek ts k) (peek ts x)) (λ y. let z : some k ≡ none = sym (listed_yes x k l y) ∙ e in cc)
+      by_test_lem (same_name text (peek ts k) (peek ts x)) (λ y. let z : Some k ≡ None = sym (listed_yes x k l y) ∙ e in cc)
       (λ n. listed_no x k (l ++ i ∷ []) n ∙ listed_new x i l (sym (listed_no x k l n) ∙ e) s)
 
   listed-other : (x i : ℕ) (l : List ℕ) → same_name text (peek ts i) (peek ts x) ≡ false → listed text ts x (l ++ i ∷ []) ≡ listed text ts x l
   unfolding listed
   listed-other x i [] s = listed_no x i [] s
-  listed-other x i (k ∷ l) s = ap (λ (o : Option ℕ). elim (same_name text (peek ts k) (peek ts x)) [ true ↦ some k | false ↦ o ]) (listed-other x i l s)
+  listed-other x i (k ∷ l) s = ap (λ (o : Option ℕ). elim (same_name text (peek ts k) (peek ts x)) [ true ↦ Some k | false ↦ o ]) (listed-other x i l s)
 
   -- what a mark says, with one name more
-  -- of F: the name i was not listed before
-  mark-listed : (qs before : List ℕ) (x i : ℕ) → listed text ts i before ≡ none → part_of text (peek ts i) ≡ part_of text (peek ts x) → mark_of text ts qs (before ++ i ∷ []) x ≡ i + 2
+  -- the mark of a name that F lists, where it was not listed before
+  mark-listed : (qs before : List ℕ) (x i : ℕ) → listed text ts i before ≡ None → part_of text (peek ts i) ≡ part_of text (peek ts x) → mark_of text ts qs (before ++ i ∷ []) x ≡ i + 2
   unfolding mark_of mark_by
   mark-listed qs before x i e p =
-      let n : listed text ts x before ≡ none = listed_same x i before (sym p) ∙ e in
+      let n : listed text ts x before ≡ None = listed_same x i before (sym p) ∙ e in
       ap (λ (o : Option ℕ). mark_by o (listed text ts x qs)) (listed_new x i before n (part-name text (peek ts i) (peek ts x) p))
 
   mark-other : (qs before : List ℕ) (x i : ℕ) → same_name text (peek ts i) (peek ts x) ≡ false → mark_of text ts qs (before ++ i ∷ []) x ≡ mark_of text ts qs before x
   unfolding mark_of
   mark-other qs before x i s = ap (λ (o : Option ℕ). mark_by o (listed text ts x qs)) (listed-other x i before s)
 
-  -- of F: the name i was listed before
-  mark_again : (qs before : List ℕ) (x i j : ℕ) → listed text ts i before ≡ some j → mark_of text ts qs (before ++ i ∷ []) x ≡ mark_of text ts qs before x
+  -- the mark of a name that F lists, where it was listed before
+  mark_again : (qs before : List ℕ) (x i j : ℕ) → listed text ts i before ≡ Some j → mark_of text ts qs (before ++ i ∷ []) x ≡ mark_of text ts qs before x
   unfolding mark_of
   mark_again qs before x i j e =
       by_test_lem (same_name text (peek ts i) (peek ts x))
       (λ s.
-      let n : listed text ts x before ≡ some j = listed_same x i before (sym (name-part text (peek ts i) (peek ts x) s)) ∙ e in
+      let n : listed text ts x before ≡ Some j = listed_same x i before (sym (name-part text (peek ts i) (peek ts x) s)) ∙ e in
       ap (λ (o : Option ℕ). mark_by o (listed text ts x qs)) (listed-before x i j before n ∙ sym n))
       (λ s. mark-other qs before x i s)
 
-  -- of Q
+  -- the mark of a name that Q has
   mark_state : (qs : List ℕ) (x i : ℕ) → part_of text (peek ts i) ≡ part_of text (peek ts x) → mark_of text ts (qs ++ i ∷ []) [] x ≡ 1
   unfolding mark_of mark_by listed
   mark_state qs x i p = go (listed text ts x qs) refl
     where
-      go : (o : Option ℕ) → listed text ts x qs ≡ o → mark_by none (listed text ts x (qs ++ i ∷ [])) ≡ 1
-      go (some j) e = ap (mark_by none) (listed-before x i j qs e)
-      go none e = ap (mark_by none) (listed_new x i qs e (part-name text (peek ts i) (peek ts x) p))
+      go : (o : Option ℕ) → listed text ts x qs ≡ o → mark_by None (listed text ts x (qs ++ i ∷ [])) ≡ 1
+      go (Some j) e = ap (mark_by None) (listed-before x i j qs e)
+      go None e = ap (mark_by None) (listed_new x i qs e (part-name text (peek ts i) (peek ts x) p))
 
   mark_no_state : (qs : List ℕ) (x i : ℕ) → same_name text (peek ts i) (peek ts x) ≡ false → mark_of text ts (qs ++ i ∷ []) [] x ≡ mark_of text ts qs [] x
   unfolding mark_of listed
-  mark_no_state qs x i s = ap (mark_by none) (listed-other x i qs s)
+  mark_no_state qs x i s = ap (mark_by None) (listed-other x i qs s)
 
 -- ---- the words of work
 module _ (count a b : ℕ) (w₀ w : List ℕ) (laid : Laid count a b w₀) (kept : Kept b w₀ w) where
@@ -192,23 +192,23 @@ module _ (names : Names) where
         mark_is : m ≡ mark_of text' ts' qs before i
         mark_is = mark ∙ p.marks-at i (omega (arith, size_of)) word
 
-        -- it was listed before
-        mark_high : 2 ≤ m → listed text' ts' i before ≡ some (m - 2)
+        -- a high mark says where the name was listed before
+        mark_high : 2 ≤ m → listed text' ts' i before ≡ Some (m - 2)
         unfolding mark_of mark_by
         mark_high h = go (listed text' ts' i before) (listed text' ts' i qs) mark_is
           where
-            go : (o q : Option ℕ) → m ≡ mark_by o q → o ≡ some (m - 2)
-            go (some j) q e = ap some (omega arith)
-            go none (some k) e = absurd (omega arith)
-            go none none e = absurd (omega arith)
+            go : (o q : Option ℕ) → m ≡ mark_by o q → o ≡ Some (m - 2)
+            go (Some j) q e = ap Some (omega arith)
+            go None (Some k) e = absurd (omega arith)
+            go None None e = absurd (omega arith)
 
-        mark_low : m < 2 → listed text' ts' i before ≡ none
+        mark_low : m < 2 → listed text' ts' i before ≡ None
         unfolding mark_of mark_by
         mark_low h = go (listed text' ts' i before) (listed text' ts' i qs) mark_is
           where
-            go : (o q : Option ℕ) → m ≡ mark_by o q → o ≡ none
-            go (some j) q e = absurd (omega arith)
-            go none q e = refl
+            go : (o q : Option ℕ) → m ≡ mark_by o q → o ≡ None
+            go (Some j) q e = absurd (omega arith)
+            go None q e = refl
 
         pub again_marks : 2 ≤ m → Marked names marks qs (before ++ i ∷ [])
         again_marks h = record { marks-at = λ x g e. p.marks-at x g e ∙ sym (mark_again text' ts' qs before x i (m - 2) (mark_high h)) }
@@ -220,27 +220,27 @@ module _ (names : Names) where
               (λ x q. mark-listed text' ts' qs before x i (mark_low h) q) (λ x s. mark-other text' ts' qs before x i s);
         }
 
-        -- its diagnostic
+        -- the diagnostic of a name that F lists
         module _ (d : Bool) where
           pub final_again : 2 ≤ m → with_related (error 11 (place_of (peek (row_of names) i))) (place_of (peek (row_of names) (m - 2))) ∷ [] ≡ final_error names.text.now (row_of names) d qs before i
           unfolding final_error
-          final_again h = sym (ap (λ (o : Option ℕ). elim o [ some j ↦ with_related (error 11 (place_of (peek ts' i))) (place_of (peek ts' j)) ∷ [] | none ↦ unknown_error text' ts' d qs i ]) (mark_high h))
+          final_again h = sym (ap (λ (o : Option ℕ). elim o [ Some j ↦ with_related (error 11 (place_of (peek ts' i))) (place_of (peek ts' j)) ∷ [] | None ↦ unknown_error text' ts' d qs i ]) (mark_high h))
 
           unknown_is : m < 2 → unknown_error text' ts' d qs i ≡ cond (cond d (eqb m 0) false) (error 3 (place_of (peek ts' i)) ∷ []) []
           unfolding unknown_error mark_of mark_by
           unknown_is h = go d (listed text' ts' i qs) (mark_is ∙ ap (λ (o : Option ℕ). mark_by o (listed text' ts' i qs)) (mark_low h))
             where
-              go : (d : Bool) (q : Option ℕ) → m ≡ mark_by none q
-                  → cond d (elim q [ some j ↦ [] | none ↦ error 3 (place_of (peek ts' i)) ∷ [] ]) [] ≡ cond (cond d (eqb m 0) false) (error 3 (place_of (peek ts' i)) ∷ []) []
-              go true (some j) e = rw (ne_eqb m 0 (omega arith))
-              go true none e = rw (eq-eqb m 0 e)
+              go : (d : Bool) (q : Option ℕ) → m ≡ mark_by None q
+                  → cond d (elim q [ Some j ↦ [] | None ↦ error 3 (place_of (peek ts' i)) ∷ [] ]) [] ≡ cond (cond d (eqb m 0) false) (error 3 (place_of (peek ts' i)) ∷ []) []
+              go true (Some j) e = rw (ne_eqb m 0 (omega arith))
+              go true None e = rw (eq-eqb m 0 e)
               go false q e = refl
 
           pub final-first : m < 2 → cond (cond d (eqb m 0) false) (error 3 (place_of (peek (row_of names) i)) ∷ []) [] ≡ final_error names.text.now (row_of names) d qs before i
           unfolding final_error
           final-first h =
               sym (unknown_is h)
-              ∙ sym (ap (λ (o : Option ℕ). elim o [ some j ↦ with_related (error 11 (place_of (peek ts' i))) (place_of (peek ts' j)) ∷ [] | none ↦ unknown_error text' ts' d qs i ]) (mark_low h))
+              ∙ sym (ap (λ (o : Option ℕ). elim o [ Some j ↦ with_related (error 11 (place_of (peek ts' i))) (place_of (peek ts' j)) ∷ [] | None ↦ unknown_error text' ts' d qs i ]) (mark_low h))
 
   -- ---- no marks
   no_marks : (rest : List ℕ) → Marked names (replicate names.tokens.count 0 ++ rest) [] []

@@ -1,8 +1,9 @@
--- What the entries of a row mean: each says of its line what the language's line says. The diagnostics of the two are then the same.
+-- What the entries of a row mean: each says of its line what the language's line says. The
+-- diagnostics of the two are then the same.
 use mathlib.Core.Path.{◌≡◌, refl, sym, ap, subst, ◌∙◌}
 use mathlib.Core.Bool.{Bool, true, false, cond}
 use mathlib.Core.List.{List, [], ◌∷◌, ◌++◌}
-use mathlib.Core.Option.{Option, none, some}
+use Rattle.std.specs.Prelude.{Option, None, Some}
 use Prim.Native.Nat.{ℕ, ◌+◌, ◌-◌, ◌≤◌, ◌<◌}
 use native.Mathlib.Omega.{arith}
 use borrow.Author.Tests.{lt-ltb, le-ltb, le-leb, lt-leb, eq-eqb, ne_eqb, ltb-true, ltb-false, leb-true, leb-false, eqb-true, eqb-false}
@@ -19,6 +20,7 @@ use Rattle.language.specs.Machine.{Located}
 use Rattle.language.specs.Lines.{Item, machine_item, input_item, kind_item, output_item, tapes_item, states_item, final_item, input_alphabet_item, tape_alphabet_item, blank_item, start_item, transition_item, Line, blank_line, comment_line, item_line, error_line}
 use Rattle.language.specs.Layout.{or_none}
 use Rattle.language.specs.Assembly as A
+use Rattle.language.proofs.Columns
 use Rattle.assembler.specs.Rows.{place_of}
 use Rattle.assembler.specs.Entries.{Entry, entry_at}
 use Rattle.assembler.specs.Failures.{line_error, line_errors}
@@ -48,17 +50,7 @@ pub record TapesMean (e : Entry) (n : Located Span ℕ) : Type 0 where
 
 abbrev pub TapesOf : Entry → Item Span → Type 0
 TapesOf e (tapes_item n) = TapesMean e n
-TapesOf e (machine_item x) = Unit {0}
-TapesOf e (kind_item x) = Unit {0}
-TapesOf e (input_item x) = Unit {0}
-TapesOf e (output_item x) = Unit {0}
-TapesOf e (states_item x) = Unit {0}
-TapesOf e (input_alphabet_item x) = Unit {0}
-TapesOf e (tape_alphabet_item x) = Unit {0}
-TapesOf e (blank_item x) = Unit {0}
-TapesOf e (start_item x) = Unit {0}
-TapesOf e (final_item x) = Unit {0}
-TapesOf e (transition_item x) = Unit {0}
+TapesOf e _ = Unit {0}
 
 -- an entry of an item: what the pass over declarations asks of it, and what X says of it
 pub record ItemMeans (X : Entry → Item Span → Type 0) (e : Entry) (i : Item Span) (p : Span) : Type 0 where
@@ -100,7 +92,7 @@ number_low (final_item x) = omega arith
 number_low (transition_item x) = omega arith
 
 -- ---- failed lines
-failed : (e : Entry) (n : ℕ) (p : Span) → e.first.kind ≡ 32 + n → place_of e.first ≡ p → line_error e.first ≡ record_of (A.diagnostic n p none) ∷ []
+failed : (e : Entry) (n : ℕ) (p : Span) → e.first.kind ≡ 32 + n → place_of e.first ≡ p → line_error e.first ≡ record_of (A.diagnostic n p None) ∷ []
 unfolding line_error record_of or_none
 failed e n p k q =
     let c : e.first.kind - 32 ≡ n = omega arith in
@@ -120,11 +112,11 @@ module _ (X : Entry → Item Span → Type 0) (ts : List Token) where
   line_errors_mean (e ∷ es) (comment_line c ∷ ls) (one_line h q m r) = no_error e es (omega arith) ∙ line_errors_mean es ls r
   line_errors_mean (e ∷ es) (item_line i p c ∷ ls) (one_line h q m r) = no_error e es (omega (arith, m.kind, number_low i)) ∙ line_errors_mean es ls r
   line_errors_mean (e ∷ es) (error_line n p ∷ ls) (one_line h q m r) =
-      ap (λ (l : List Diagnostic). l ++ line_errors es) (failed e n p m.0 m.1) ∙ ap (λ (l : List Diagnostic). record_of (A.diagnostic n p none) ∷ l) (line_errors_mean es ls r)
+      ap (λ (l : List Diagnostic). l ++ line_errors es) (failed e n p m.0 m.1) ∙ ap (λ (l : List Diagnostic). record_of (A.diagnostic n p None) ∷ l) (line_errors_mean es ls r)
 
 -- ---- declarations
 -- the language's number of a name is an item's
-declared-number : (i : Item Span) → number i < 11 → A.declaration i ≡ some (number i)
+declared-number : (i : Item Span) → number i < 11 → A.declaration i ≡ Some (number i)
 unfolding number A.declaration
 declared-number (machine_item x) h = refl
 declared-number (kind_item x) h = refl
@@ -139,8 +131,8 @@ declared-number (start_item x) h = refl
 declared-number (final_item x) h = refl
 declared-number (transition_item x) h = absurd (omega arith)
 
-rule-number : (i : Item Span) → (number i < 11 → ⊥) → (A.declaration i ≡ none) × ((A.parts i).tapes ≡ none)
-unfolding number A.declaration A.parts
+rule-number : (i : Item Span) → (number i < 11 → ⊥) → (A.declaration i ≡ None) × ((Columns.parts i).tapes ≡ None)
+unfolding number A.declaration
 rule-number (machine_item x) h = absurd (h (omega arith))
 rule-number (kind_item x) h = absurd (h (omega arith))
 rule-number (input_item x) h = absurd (h (omega arith))
@@ -159,11 +151,11 @@ not-tapes : (e : Entry) → (e.first.kind ≡ 20 → ⊥) → tapes_error e ≡ 
 unfolding tapes_error
 not-tapes e h = rw (ne_eqb e.first.kind 20 h)
 
-tapes_by : (n : Located Span ℕ) (b : Bool) → leb n.value 255 ≡ b → A.tapes_error (some n) ≡ elim b [ true ↦ [] | false ↦ A.diagnostic 9 n.place none ∷ [] ]
+tapes_by : (n : Located Span ℕ) (b : Bool) → leb n.value 255 ≡ b → A.tapes_error (Some n) ≡ elim b [ true ↦ [] | false ↦ A.diagnostic 9 n.place None ∷ [] ]
 unfolding A.tapes_error
-tapes_by n b e = ap (λ (b : Bool). elim b [ true ↦ [] | false ↦ A.diagnostic 9 n.place none ∷ [] ]) e
+tapes_by n b e = ap (λ (b : Bool). elim b [ true ↦ [] | false ↦ A.diagnostic 9 n.place None ∷ [] ]) e
 
-tapes_large : (e : Entry) (n : Located Span ℕ) → e.first.kind ≡ 20 → TapesMean e n → tapes_error e ≡ records_of (A.tapes_error (some n))
+tapes_large : (e : Entry) (n : Located Span ℕ) → e.first.kind ≡ 20 → TapesMean e n → tapes_error e ≡ records_of (A.tapes_error (Some n))
 unfolding tapes_error records_of record_of or_none
 tapes_large e n k t =
     by_test_lem (leb n.value 255)
@@ -174,8 +166,8 @@ tapes_large e n k t =
     let high : ltb 255 (peek e.rest 1).value ≡ true = t.large ∙ lt-ltb 255 n.value (leb-false n.value 255 x) in
     rw (eq-eqb e.first.kind 20 k, high) (ap (λ (p : Span). error 9 p ∷ []) t.place ∙ ap records_of (sym (tapes_by n false x))))
 
-tapes_mean : (e : Entry) (i : Item Span) → e.first.kind ≡ 16 + number i → TapesOf e i → tapes_error e ≡ records_of (A.tapes_error (A.parts i).tapes)
-unfolding number A.parts A.tapes_error records_of
+tapes_mean : (e : Entry) (i : Item Span) → e.first.kind ≡ 16 + number i → TapesOf e i → tapes_error e ≡ records_of (A.tapes_error (Columns.parts i).tapes)
+unfolding number A.tapes_error records_of
 tapes_mean e (machine_item x) k t = not-tapes e (λ z. omega arith)
 tapes_mean e (kind_item x) k t = not-tapes e (λ z. omega arith)
 tapes_mean e (input_item x) k t = not-tapes e (λ z. omega arith)
@@ -192,38 +184,38 @@ tapes_mean e (transition_item x) k t = not-tapes e (λ z. omega arith)
 -- the first declarations so far, as indices of entries and as places
 pub record TableMeans (ts : List Token) (first : List ℕ) (before : List (Located Span (Item Span))) : Type 0 where
   pub size : length first ≡ 11
-  pub none_yet : (k : ℕ) → k < 11 → A.declared_at k before ≡ none → ltb (get_or first k 0) (length ts) ≡ false
-  pub declared : (k : ℕ) → k < 11 → (p : Span) → A.declared_at k before ≡ some p → (ltb (get_or first k 0) (length ts) ≡ true) × (place_of (peek ts (get_or first k 0)) ≡ p)
+  pub none_yet : (k : ℕ) → k < 11 → A.declared_at k before ≡ None → ltb (get_or first k 0) (length ts) ≡ false
+  pub declared : (k : ℕ) → k < 11 → (p : Span) → A.declared_at k before ≡ Some p → (ltb (get_or first k 0) (length ts) ≡ true) × (place_of (peek ts (get_or first k 0)) ≡ p)
 
 -- one item more
-declared_yes : (k : ℕ) (i : Located Span (Item Span)) (is : List (Located Span (Item Span))) → A.is_number k (A.declaration i.value) ≡ true → A.declared_at k (i ∷ is) ≡ some i.place
+declared_yes : (k : ℕ) (i : Located Span (Item Span)) (is : List (Located Span (Item Span))) → A.is_number k (A.declaration i.value) ≡ true → A.declared_at k (i ∷ is) ≡ Some i.place
 unfolding A.declared_at
-declared_yes k i is e = ap (λ (b : Bool). elim b [ true ↦ some i.place | false ↦ A.declared_at k is ]) e
+declared_yes k i is e = ap (λ (b : Bool). elim b [ true ↦ Some i.place | false ↦ A.declared_at k is ]) e
 
 declared_no : (k : ℕ) (i : Located Span (Item Span)) (is : List (Located Span (Item Span))) → A.is_number k (A.declaration i.value) ≡ false → A.declared_at k (i ∷ is) ≡ A.declared_at k is
 unfolding A.declared_at
-declared_no k i is e = ap (λ (b : Bool). elim b [ true ↦ some i.place | false ↦ A.declared_at k is ]) e
+declared_no k i is e = ap (λ (b : Bool). elim b [ true ↦ Some i.place | false ↦ A.declared_at k is ]) e
 
 -- behind others: what was declared stays, a new name is declared here, another is not
-declared-before : (k : ℕ) (is : List (Located Span (Item Span))) (i : Located Span (Item Span)) (p : Span) → A.declared_at k is ≡ some p → A.declared_at k (is ++ i ∷ []) ≡ some p
+declared-before : (k : ℕ) (is : List (Located Span (Item Span))) (i : Located Span (Item Span)) (p : Span) → A.declared_at k is ≡ Some p → A.declared_at k (is ++ i ∷ []) ≡ Some p
 unfolding A.declared_at
 declared-before k [] i p e = cc
 declared-before k (j ∷ is) i p e =
     by_test_lem (A.is_number k (A.declaration j.value)) (λ y. declared_yes k j (is ++ i ∷ []) y ∙ sym (declared_yes k j is y) ∙ e)
     (λ n. declared_no k j (is ++ i ∷ []) n ∙ declared-before k is i p (sym (declared_no k j is n) ∙ e))
 
-declared_here : (k : ℕ) (is : List (Located Span (Item Span))) (i : Located Span (Item Span)) → A.declared_at k is ≡ none → A.is_number k (A.declaration i.value) ≡ true
-    → A.declared_at k (is ++ i ∷ []) ≡ some i.place
+declared_here : (k : ℕ) (is : List (Located Span (Item Span))) (i : Located Span (Item Span)) → A.declared_at k is ≡ None → A.is_number k (A.declaration i.value) ≡ true
+    → A.declared_at k (is ++ i ∷ []) ≡ Some i.place
 declared_here k [] i e y = declared_yes k i [] y
 declared_here k (j ∷ is) i e y =
-    by_test_lem (A.is_number k (A.declaration j.value)) (λ z. let q : some j.place ≡ none = sym (declared_yes k j is z) ∙ e in absurd (let o : ◌≡◌ {A = ℕ} 0 1 = cc in omega arith))
+    by_test_lem (A.is_number k (A.declaration j.value)) (λ z. let q : Some j.place ≡ None = sym (declared_yes k j is z) ∙ e in absurd (let o : ◌≡◌ {A = ℕ} 0 1 = cc in omega arith))
     (λ n. declared_no k j (is ++ i ∷ []) n ∙ declared_here k is i (sym (declared_no k j is n) ∙ e) y)
 
 declared-other : (k : ℕ) (is : List (Located Span (Item Span))) (i : Located Span (Item Span)) → A.is_number k (A.declaration i.value) ≡ false → A.declared_at k (is ++ i ∷ []) ≡ A.declared_at k is
 unfolding A.declared_at
 declared-other k [] i n = declared_no k i [] n
 declared-other k (j ∷ is) i n =
-    ap (λ (o : Option Span). elim (A.is_number k (A.declaration j.value)) [ true ↦ some j.place | false ↦ o ]) (declared-other k is i n)
+    ap (λ (o : Option Span). elim (A.is_number k (A.declaration j.value)) [ true ↦ Some j.place | false ↦ o ]) (declared-other k is i n)
 
 module _ (X : Entry → Item Span → Type 0) (ts : List Token) (e : Entry) (low : e.at < length ts) (here : e ≡ entry_at ts e.at) (i : Item Span) (p : Span) (m : ItemMeans X e i p) where
   abbrev found : Located Span (Item Span)
@@ -253,39 +245,39 @@ module _ (X : Entry → Item Span → Type 0) (ts : List Token) (e : Entry) (low
   -- the first declarations with one item more
   module _ (first : List ℕ) (before : List (Located Span (Item Span))) (t : TableMeans ts first before) where
     -- a line that declares nothing changes nothing
-    table_same : ((k : ℕ) → k < 11 → A.declared_at k before ≡ none → A.is_number k (A.declaration i) ≡ false) → TableMeans ts first (before ++ found ∷ [])
+    table_same : ((k : ℕ) → k < 11 → A.declared_at k before ≡ None → A.is_number k (A.declaration i) ≡ false) → TableMeans ts first (before ++ found ∷ [])
     table_same other = record {
       size = t.size;
       none_yet = λ k h n. t.none_yet k h (go k h n (A.declared_at k before) refl);
       declared = λ k h q d. t.declared k h q (come k h q d (A.declared_at k before) refl);
     }
       where
-        go : (k : ℕ) → k < 11 → A.declared_at k (before ++ found ∷ []) ≡ none → (o : Option Span) → A.declared_at k before ≡ o → A.declared_at k before ≡ none
-        go k h n (some q) e = absurd (let z : some q ≡ none = sym (declared-before k before found q e) ∙ n in let o : ◌≡◌ {A = ℕ} 0 1 = cc in omega arith)
-        go k h n none e = e
+        go : (k : ℕ) → k < 11 → A.declared_at k (before ++ found ∷ []) ≡ None → (o : Option Span) → A.declared_at k before ≡ o → A.declared_at k before ≡ None
+        go k h n (Some q) e = absurd (let z : Some q ≡ None = sym (declared-before k before found q e) ∙ n in let o : ◌≡◌ {A = ℕ} 0 1 = cc in omega arith)
+        go k h n None e = e
 
-        come : (k : ℕ) → k < 11 → (q : Span) → A.declared_at k (before ++ found ∷ []) ≡ some q → (o : Option Span) → A.declared_at k before ≡ o → A.declared_at k before ≡ some q
-        come k h q d (some r) e = e ∙ sym (declared-before k before found r e) ∙ d
-        come k h q d none e = absurd (let z : none ≡ some q = sym (declared-other k before found (other k h e) ∙ e) ∙ d in let o : ◌≡◌ {A = ℕ} 0 1 = cc in omega arith)
+        come : (k : ℕ) → k < 11 → (q : Span) → A.declared_at k (before ++ found ∷ []) ≡ Some q → (o : Option Span) → A.declared_at k before ≡ o → A.declared_at k before ≡ Some q
+        come k h q d (Some r) e = e ∙ sym (declared-before k before found r e) ∙ d
+        come k h q d None e = absurd (let z : None ≡ Some q = sym (declared-other k before found (other k h e) ∙ e) ∙ d in let o : ◌≡◌ {A = ℕ} 0 1 = cc in omega arith)
 
     module _ (few : number i < 11) where
       k₀ : ℕ
       k₀ = number i
 
       -- the name was declared before
-      table_again : (q : Span) → A.declared_at (number i) before ≡ some q → TableMeans ts first (before ++ found ∷ [])
-      table_again q d = table_same (λ k h n. same_number few k ∙ ne_eqb (number i) k (λ z. let c : some q ≡ none = sym d ∙ ap (λ (k : ℕ). A.declared_at k before) z ∙ n in let o : ◌≡◌ {A = ℕ} 0 1 = cc in omega arith))
+      table_again : (q : Span) → A.declared_at (number i) before ≡ Some q → TableMeans ts first (before ++ found ∷ [])
+      table_again q d = table_same (λ k h n. same_number few k ∙ ne_eqb (number i) k (λ z. let c : Some q ≡ None = sym d ∙ ap (λ (k : ℕ). A.declared_at k before) z ∙ n in let o : ◌≡◌ {A = ℕ} 0 1 = cc in omega arith))
 
-      -- it is declared here
-      table_new : A.declared_at (number i) before ≡ none → TableMeans ts (set first (number i) e.at) (before ++ found ∷ [])
+      -- the name is declared here for the first time
+      table_new : A.declared_at (number i) before ≡ None → TableMeans ts (set first (number i) e.at) (before ++ found ∷ [])
       table_new none_before = record {
         size = length-set first (number i) e.at ∙ t.size;
         none_yet = λ k h n. by_test_lem (eqb (number i) k)
-            (λ y. absurd (let c : some p ≡ none = sym (new_here k y) ∙ n in let o : ◌≡◌ {A = ℕ} 0 1 = cc in omega arith))
+            (λ y. absurd (let c : Some p ≡ None = sym (new_here k y) ∙ n in let o : ◌≡◌ {A = ℕ} 0 1 = cc in omega arith))
             (λ x. ap (λ (n : ℕ). ltb n (length ts)) (old k x) ∙ t.none_yet k h (sym (old_name k x) ∙ n));
         declared = λ k h q d. by_test_lem (eqb (number i) k)
             (λ y.
-            let c : some p ≡ some q = sym (new_here k y) ∙ d in
+            let c : Some p ≡ Some q = sym (new_here k y) ∙ d in
             let pq : p ≡ q = cc in
             let v : get_or (set first (number i) e.at) k 0 ≡ e.at = ap (λ (k : ℕ). get_or (set first (number i) e.at) k 0) (sym (eqb-true (number i) k y)) ∙ get_or-set_same first (number i) e.at 0 (omega (arith, t.size)) in
             (ap (λ (n : ℕ). ltb n (length ts)) v ∙ lt-ltb e.at (length ts) low, ap (λ (n : ℕ). place_of (peek ts n)) v ∙ ap place_of first_is ∙ m.place ∙ pq))
@@ -294,7 +286,7 @@ module _ (X : Entry → Item Span → Type 0) (ts : List Token) (e : Entry) (low
             (ap (λ (n : ℕ). ltb n (length ts)) (old k x) ∙ r.0, ap (λ (n : ℕ). place_of (peek ts n)) (old k x) ∙ r.1));
       }
         where
-          new_here : (k : ℕ) → eqb (number i) k ≡ true → A.declared_at k (before ++ found ∷ []) ≡ some p
+          new_here : (k : ℕ) → eqb (number i) k ≡ true → A.declared_at k (before ++ found ∷ []) ≡ Some p
           new_here k y =
               let z : number i ≡ k = eqb-true (number i) k y in
               declared_here k before found (ap (λ (k : ℕ). A.declared_at k before) (sym z) ∙ none_before) (same_number few k ∙ y)
@@ -315,29 +307,29 @@ module _ (X : Entry → Item Span → Type 0) (ts : List Token) (e : Entry) (low
       error_by b y = rw (declares_it few, name_is few, y)
 
       language_error : (o : Option Span) → A.declared_at (number i) before ≡ o
-          → A.declaration_error before found ≡ elim o [ some q ↦ A.diagnostic 11 p (some q) ∷ [] | none ↦ A.tapes_error (A.parts i).tapes ]
+          → A.declaration_error before found ≡ elim o [ Some q ↦ A.diagnostic 11 p (Some q) ∷ [] | None ↦ A.tapes_error (Columns.parts i).tapes ]
       unfolding A.declaration_error A.earlier
       language_error o d =
-          ap (λ (x : Option ℕ). elim (A.earlier x before) [ some q ↦ A.diagnostic 11 p (some q) ∷ [] | none ↦ A.tapes_error (A.parts i).tapes ]) (declared-number i few)
-          ∙ ap (λ (o : Option Span). elim o [ some q ↦ A.diagnostic 11 p (some q) ∷ [] | none ↦ A.tapes_error (A.parts i).tapes ]) d
+          ap (λ (x : Option ℕ). elim (A.earlier x before) [ Some q ↦ A.diagnostic 11 p (Some q) ∷ [] | None ↦ A.tapes_error (Columns.parts i).tapes ]) (declared-number i few)
+          ∙ ap (λ (o : Option Span). elim o [ Some q ↦ A.diagnostic 11 p (Some q) ∷ [] | None ↦ A.tapes_error (Columns.parts i).tapes ]) d
 
       few_table : TableMeans ts (declare (length ts) first e) (before ++ found ∷ [])
       few_table = go (A.declared_at (number i) before) refl
         where
           go : (o : Option Span) → A.declared_at (number i) before ≡ o → TableMeans ts (declare (length ts) first e) (before ++ found ∷ [])
-          go (some q) d = subst (λ (f : List ℕ). TableMeans ts f (before ++ found ∷ [])) (sym (declare_by true (t.declared (number i) few q d).0)) (table_again q d)
-          go none d = subst (λ (f : List ℕ). TableMeans ts f (before ++ found ∷ [])) (sym (declare_by false (t.none_yet (number i) few d))) (table_new d)
+          go (Some q) d = subst (λ (f : List ℕ). TableMeans ts f (before ++ found ∷ [])) (sym (declare_by true (t.declared (number i) few q d).0)) (table_again q d)
+          go None d = subst (λ (f : List ℕ). TableMeans ts f (before ++ found ∷ [])) (sym (declare_by false (t.none_yet (number i) few d))) (table_new d)
 
       few_error : declaration_error ts first e ≡ records_of (A.declaration_error before found)
       unfolding records_of record_of or_none
       few_error = go (A.declared_at (number i) before) refl
         where
           go : (o : Option Span) → A.declared_at (number i) before ≡ o → declaration_error ts first e ≡ records_of (A.declaration_error before found)
-          go (some q) d =
+          go (Some q) d =
               let r = t.declared (number i) few q d in
               error_by true r.0 ∙ ap (λ (x : Span). with_related (error 11 x) (place_of (peek ts (get_or first (number i) 0))) ∷ []) m.place
-              ∙ ap (λ (x : Span). with_related (error 11 p) x ∷ []) r.1 ∙ ap records_of (sym (language_error (some q) d))
-          go none d = error_by false (t.none_yet (number i) few d) ∙ tapes_mean e i m.kind m.tapes ∙ ap records_of (sym (language_error none d))
+              ∙ ap (λ (x : Span). with_related (error 11 p) x ∷ []) r.1 ∙ ap records_of (sym (language_error (Some q) d))
+          go None d = error_by false (t.none_yet (number i) few d) ∙ tapes_mean e i m.kind m.tapes ∙ ap records_of (sym (language_error None d))
 
     module _ (rule : number i < 11 → ⊥) where
       rule_table : TableMeans ts (declare (length ts) first e) (before ++ found ∷ [])
@@ -348,9 +340,9 @@ module _ (X : Entry → Item Span → Type 0) (ts : List Token) (e : Entry) (low
       unfolding declaration_error A.declaration_error A.earlier A.tapes_error records_of
       rule_error_lem = let r = rule-number i rule in rw (declares-none rule) (sym (ap records_of (language r)))
         where
-          language : (A.declaration i ≡ none) × ((A.parts i).tapes ≡ none) → A.declaration_error before found ≡ []
+          language : (A.declaration i ≡ None) × ((Columns.parts i).tapes ≡ None) → A.declaration_error before found ≡ []
           language r =
-              ap (λ (x : Option ℕ). elim (A.earlier x before) [ some q ↦ A.diagnostic 11 p (some q) ∷ [] | none ↦ A.tapes_error (A.parts i).tapes ]) r.0
+              ap (λ (x : Option ℕ). elim (A.earlier x before) [ Some q ↦ A.diagnostic 11 p (Some q) ∷ [] | None ↦ A.tapes_error (Columns.parts i).tapes ]) r.0
               ∙ ap A.tapes_error r.1
 
     item_table : TableMeans ts (declare (length ts) first e) (before ++ found ∷ [])

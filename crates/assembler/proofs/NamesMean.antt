@@ -2,7 +2,7 @@
 use mathlib.Core.Path.{◌≡◌, refl, sym, ap, subst, ◌∙◌}
 use mathlib.Core.Bool.{Bool, true, false, cond}
 use mathlib.Core.List.{List, [], ◌∷◌, ◌++◌, map}
-use mathlib.Core.Option.{Option, none, some}
+use Rattle.std.specs.Prelude.{Option, None, Some}
 use Prim.Native.Nat.{ℕ, suc, ◌+◌}
 use native.Mathlib.Omega.{arith}
 use borrow.Author.Tests.{ne_eqb, eqb-true}
@@ -28,8 +28,8 @@ use Rattle.assembler.proofs.FinalsMean.{NameIs, AllNames, no_names, one_name}
 -- ---- what is seen of tokens
 seen_on_lem : {A : Type 0} (o : Option A) (p : Place) (x y z : List (Located Place A)) → x ≡ y ++ z → seen_on o p x ≡ seen_on o p y ++ z
 unfolding seen_on
-seen_on_lem none p x y z e = e
-seen_on_lem {A} (some a) p x y z e = ap (λ (l : List (Located Place A)). record { value = a; place = p } ∷ l) e
+seen_on_lem None p x y z e = e
+seen_on_lem {A} (Some a) p x y z e = ap (λ (l : List (Located Place A)). record { value = a; place = p } ∷ l) e
 
 pub seen-append : {A : Type 0} (view : TokenKind → Option A) (a b : List (Lexed Place)) → seen view (a ++ b) ≡ seen view a ++ seen view b
 unfolding seen
@@ -41,12 +41,12 @@ unfolding seen
 seen_by {A} view t m o e = ap (λ (o : Option A). seen_on o t.place (seen view m)) e
 
 -- a token of which nothing is seen
-pub seen_none : {A : Type 0} (view : TokenKind → Option A) (t : Lexed Place) (m : List (Lexed Place)) → view t.kind ≡ none → seen view (t ∷ m) ≡ seen view m
+pub seen_none : {A : Type 0} (view : TokenKind → Option A) (t : Lexed Place) (m : List (Lexed Place)) → view t.kind ≡ None → seen view (t ∷ m) ≡ seen view m
 unfolding seen_on
-seen_none view t m e = seen_by view t m none e
+seen_none view t m e = seen_by view t m None e
 
 -- a token that is no word is no state
-pub no_state : (t : Lexed Place) (k : ℕ) → Sound t → eqb (token_of t).kind k ≡ true → (k ≡ 0 → ⊥) → state_in t.kind ≡ none
+pub no_state : (t : Lexed Place) (k : ℕ) → Sound t → eqb (token_of t).kind k ≡ true → (k ≡ 0 → ⊥) → state_in t.kind ≡ None
 unfolding is_state
 no_state t k s e n =
     let z : (token_of t).kind ≡ k = eqb-true (token_of t).kind k e in
@@ -54,14 +54,14 @@ no_state t k s e n =
     let f : is_state (token_of t) ≡ false = rw o in
     go (state_in t.kind) (sym (sees_state t.kind t.place t.inner s) ∙ f)
   where
-    go : (o : Option (List ℕ)) → is_some o ≡ false → o ≡ none
-    go none e = refl
-    go (some w) e = absurd (let z : ◌≡◌ {A = ℕ} 0 1 = cc in omega arith)
+    go : (o : Option (List ℕ)) → is_some o ≡ false → o ≡ None
+    go None e = refl
+    go (Some w) e = absurd (let z : ◌≡◌ {A = ℕ} 0 1 = cc in omega arith)
 
 -- a state is spelled by a word
-pub state-word : (k : TokenKind) (w : List ℕ) → state_in k ≡ some w → k ≡ word w
+pub state-word : (k : TokenKind) (w : List ℕ) → state_in k ≡ Some w → k ≡ word w
 unfolding state_in
-state-word (word v) w e = by_test_lem (same v (codes "_")) (λ y. let z : none ≡ some w = rw y at e in absurd (let o : ◌≡◌ {A = ℕ} 0 1 = cc in omega arith)) (λ n. let z : some v ≡ some w = rw n at e in let q : v ≡ w = cc in ap word q)
+state-word (word v) w e = by_test_lem (same v (codes "_")) (λ y. let z : None ≡ Some w = rw y at e in absurd (let o : ◌≡◌ {A = ℕ} 0 1 = cc in omega arith)) (λ n. let z : Some v ≡ Some w = rw n at e in let q : v ≡ w = cc in ap word q)
 state-word (number v) w e = absurd (let o : ◌≡◌ {A = ℕ} 0 1 = cc in omega arith)
 state-word (quoted c) w e = absurd (let o : ◌≡◌ {A = ℕ} 0 1 = cc in omega arith)
 state-word (str v) w e = absurd (let o : ◌≡◌ {A = ℕ} 0 1 = cc in omega arith)
@@ -95,14 +95,14 @@ module _ (text : List ℕ) (ts : List Token) where
       js = names_from (suc a) (drop (suc a) ts)
 
       go : (o : Option (List ℕ)) → state_in t.kind ≡ o → AllNames text ts (name_at a (token_of t) ++ names_from (suc a) (drop (suc a) ts)) (seen state_in (t ∷ body))
-      go none e =
+      go None e =
           let n : name_at a (token_of t) ≡ [] = name_by a (token_of t) false (sees_state t.kind t.place t.inner s ∙ ap is_some e) in
-          rw (n, seen_by state_in t body none e) ih
-      go (some w) e =
+          rw (n, seen_by state_in t body None e) ih
+      go (Some w) e =
           let n : name_at a (token_of t) ≡ a ∷ [] = name_by a (token_of t) true (sees_state t.kind t.place t.inner s ∙ ap is_some e) in
           let l : Located Place (List ℕ) = record { value = w; place = t.place } in
           let is : NameIs text (peek ts a) l = record { token = t; placed = p; spelled = state-word t.kind w e; place = refl; words = here } in
-          rw (n, seen_by state_in t body (some w) e) (one_name is ih)
+          rw (n, seen_by state_in t body (Some w) e) (one_name is ih)
 
   -- tokens up to a line feed, from the index a on
   pub walk_mean : (body : List (Lexed Place)) (a : ℕ) (w : Token) (r : List Token) → AllFree body → AllSound body → All (Placed text) body → eqb w.kind 13 ≡ true

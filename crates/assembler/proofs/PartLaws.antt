@@ -8,8 +8,8 @@ use lib.Seq.{take-take, take-append_seam, get_or-append-add, get_or-take, get_or
 use Rattle.tokens.specs.declared.Token.{Token}
 use Rattle.tokens.specs.Row.{tokens_in}
 use Rattle.assembler.specs.Rows.{rows}
-use Rattle.equal_names.specs.Names.{FirstsOf}
-use Rattle.equal_names.proofs.NameLaws.{tokens-take}
+use Rattle.assembler_names.specs.Names.{FirstsOf}
+use Rattle.assembler_names.proofs.NameLaws.{tokens-take}
 use Rattle.assembler.specs.Finals.{Marks, MarkedIn, Interned, Laid, Kept}
 use Rattle.assembler.proofs.Rows.{length-rows}
 

@@ -15,12 +15,13 @@ use Rattle.assembler.specs.Entries.{Entry, entry_at, behind, entries}
 use Rattle.assembler.specs.Feeds.{AllFed, Fed}
 use Rattle.assembler.proofs.Rows.{entries_at, entries-step, entries-end, fed_on}
 
--- of two lists of at most one diagnostic, either
+-- either of two lists of at most one diagnostic has at most one
 pub at_most_one : (b : Bool) (x y : List Diagnostic) → length x ≤ 1 → length y ≤ 1 → length (cond b x y) ≤ 1
 at_most_one true x y h g = h
 at_most_one false x y h g = g
 
--- a pass has come to the line at the index i: what it has appended, and what is left to append, is all; at most one for each token passed
+-- a pass has come to the line at the index i: what it has appended, and what is left to append,
+-- is all; at most one for each token passed
 pub record Passing (ts : List Token) (left : List Entry → List Diagnostic) (all : List Diagnostic) (l₀ l : Log) (i : ℕ) : Type 0 where
   pub done : List Diagnostic
   pub given : Appends l₀ l done

@@ -13,7 +13,7 @@ use Rattle.diag.proofs.Cases.{by_test_lem}
 use Rattle.tokens.specs.declared.Token.{Token}
 use Rattle.parser.specs.Row.{ended, peek}
 use Rattle.parser.specs.Lines.{line_length}
-pub use Rattle.equal_names.proofs.NameLaws.{length-rows, row_read, row_past}
+pub use Rattle.assembler_names.proofs.NameLaws.{length-rows, row_read, row_past}
 use Rattle.assembler.specs.Rows.{rows}
 use Rattle.assembler.specs.Entries.{Entry, entry_at, has_kind, behind, entries_from, entries}
 use Rattle.assembler.specs.Feeds.{AllFed}

@@ -228,7 +228,7 @@ module _ (ts : List Token) (i n : ℕ) (t : Token) (at : t ≡ peek ts i) where
     unfolding verdict
     verdict_arity h = rw (← at, eq-eqb t.kind 27 rule, opens, ← arity, h)
 
-    -- what it reads
+    -- what the rule reads
     module _ (o : Token) (comma : o ≡ peek ts (i + 3)) (to : ℕ) (next : to ≡ o.start) (m : ℕ) (product : m ≡ combinations (take (to - (i + 4)) (drop (i + 4) ts))) where
       product_is : combinations (read_part (entry_at ts i)) ≡ m
       unfolding read_part

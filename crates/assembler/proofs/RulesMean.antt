@@ -2,7 +2,7 @@
 use mathlib.Core.Path.{◌≡◌, refl, sym, ap, ◌∙◌}
 use mathlib.Core.Bool.{Bool, true, false, cond, ◌&&◌}
 use mathlib.Core.List.{List, [], ◌∷◌, ◌++◌}
-use mathlib.Core.Option.{Option, none}
+use Rattle.std.specs.Prelude.{Option, None}
 use Prim.Native.Nat.{ℕ, ◌+◌, ◌≤◌, ◌<◌, min}
 use native.Mathlib.Omega.{arith}
 use native.Mathlib.Nat.{min-eq_left, min-eq_right}
@@ -18,6 +18,7 @@ use Rattle.parser.specs.Row.{peek}
 use Rattle.language.specs.Machine.{Located}
 use Rattle.language.specs.Lines.{RawTransition, Item, machine_item, input_item, kind_item, output_item, tapes_item, states_item, final_item, input_alphabet_item, tape_alphabet_item, blank_item, start_item, transition_item, Line, blank_line, comment_line, item_line, error_line}
 use Rattle.language.specs.Assembly as A
+use Rattle.language.proofs.Columns
 use Rattle.language.specs.Layout.{or_none}
 use Rattle.language.proofs.Counts as L
 use Rattle.assembler.specs.declared.rules.Tally.{Tally}
@@ -116,14 +117,14 @@ module _ (s : Tally) (e : Entry) (es : List Entry) where
 
     language_errors : (v : A.Verdict) → A.verdict s.rules l.raw ≡ v → A.rule_errors s.rules s.cut (l ∷ rs) ≡ elim v [
       | A.expands ↦ A.rule_errors (s.rules + c) s.cut rs
-      | A.wrong_arity ↦ A.diagnostic 10 l.line none ∷ A.rule_errors s.rules s.cut rs
-      | A.too_many ↦ elim s.cut [ true ↦ A.rule_errors s.rules true rs | false ↦ A.diagnostic 9 l.line none ∷ A.rule_errors s.rules true rs ]
+      | A.wrong_arity ↦ A.diagnostic 10 l.line None ∷ A.rule_errors s.rules s.cut rs
+      | A.too_many ↦ elim s.cut [ true ↦ A.rule_errors s.rules true rs | false ↦ A.diagnostic 9 l.line None ∷ A.rule_errors s.rules true rs ]
     ]
     unfolding A.rule_errors
     language_errors v d = ap (λ (v : A.Verdict). elim v [
       | A.expands ↦ A.rule_errors (s.rules + c) s.cut rs
-      | A.wrong_arity ↦ A.diagnostic 10 l.line none ∷ A.rule_errors s.rules s.cut rs
-      | A.too_many ↦ elim s.cut [ true ↦ A.rule_errors s.rules true rs | false ↦ A.diagnostic 9 l.line none ∷ A.rule_errors s.rules true rs ]
+      | A.wrong_arity ↦ A.diagnostic 10 l.line None ∷ A.rule_errors s.rules s.cut rs
+      | A.too_many ↦ elim s.cut [ true ↦ A.rule_errors s.rules true rs | false ↦ A.diagnostic 9 l.line None ∷ A.rule_errors s.rules true rs ]
     ]) d
 
     language_kept : (v : A.Verdict) → A.verdict s.rules l.raw ≡ v → A.kept s.rules (l ∷ rs) ≡ elim v [ A.expands ↦ l ∷ A.kept (s.rules + c) rs | A.wrong_arity ↦ A.kept s.rules rs | A.too_many ↦ A.kept s.rules rs ]
@@ -158,7 +159,7 @@ module _ (s : Tally) (e : Entry) (es : List Entry) where
 
     cut_by : (b : Bool) → s.cut ≡ b
         → rule_error TooMany s.cut (place_of e.first) ++ records_of (A.rule_errors s.rules true rs)
-        ≡ records_of (elim b [ true ↦ A.rule_errors s.rules true rs | false ↦ A.diagnostic 9 l.line none ∷ A.rule_errors s.rules true rs ])
+        ≡ records_of (elim b [ true ↦ A.rule_errors s.rules true rs | false ↦ A.diagnostic 9 l.line None ∷ A.rule_errors s.rules true rs ])
     unfolding rule_error records_of record_of or_none
     cut_by true f = ap (λ (b : Bool). cond b [] (error 9 (place_of e.first) ∷ []) ++ records_of (A.rule_errors s.rules true rs)) f
     cut_by false f =
@@ -176,7 +177,7 @@ module _ (s : Tally) (e : Entry) (es : List Entry) where
         }
       where
         first : (b : Bool) → s.cut ≡ b → rule_error TooMany s.cut (place_of e.first) ++ records_of (A.rule_errors s.rules true rs) ≡ records_of (A.rule_errors s.rules s.cut (l ∷ rs))
-        first b f = cut_by b f ∙ ap records_of (sym (language_errors A.too_many d ∙ ap (λ (b : Bool). elim b [ true ↦ A.rule_errors s.rules true rs | false ↦ A.diagnostic 9 l.line none ∷ A.rule_errors s.rules true rs ]) f))
+        first b f = cut_by b f ∙ ap records_of (sym (language_errors A.too_many d ∙ ap (λ (b : Bool). elim b [ true ↦ A.rule_errors s.rules true rs | false ↦ A.diagnostic 9 l.line None ∷ A.rule_errors s.rules true rs ]) f))
 
     rule-same : Same s (e ∷ es) (l ∷ rs)
     rule-same = go (A.verdict s.rules l.raw) refl
@@ -195,8 +196,8 @@ module _ (X : Entry → Item Span → Type 0) (asks : (e : Entry) (i : Item Span
   Comments = List (Located Span (List ℕ))
 
   item-same : (s : Tally) (e : Entry) (es : List Entry) (i : Item Span) (p : Span) (c : Option (Located Span (List ℕ))) (seen : Bool) (old block : Comments) (b : A.Body Span) → ItemMeans X e i p
-      → ((s : Tally) → Same s es b.rules) → Same s (e ∷ es) (A.attach_item (A.parts i).rule seen old block p c b).rules
-  unfolding A.attach_item A.parts A.add_header A.add_rule number
+      → ((s : Tally) → Same s es b.rules) → Same s (e ∷ es) (A.attach_item (Columns.parts i).rule seen old block p c b).rules
+  unfolding A.attach_item A.add_header A.add_rule number
   item-same s e es (machine_item x) p c seen old block b m r = other-same s e es b.rules (λ z. omega (arith, m.kind)) (r s)
   item-same s e es (kind_item x) p c seen old block b m r = other-same s e es b.rules (λ z. omega (arith, m.kind)) (r s)
   item-same s e es (input_item x) p c seen old block b m r = other-same s e es b.rules (λ z. omega (arith, m.kind)) (r s)

@@ -2,7 +2,7 @@
 use mathlib.Core.Path.{◌≡◌, refl, sym, ap, ◌∙◌}
 use mathlib.Core.Bool.{Bool, true, false, cond}
 use mathlib.Core.List.{List, [], ◌∷◌, map}
-use mathlib.Core.Option.{Option, none, some}
+use Rattle.std.specs.Prelude.{Option, None, Some}
 use Prim.Native.Nat.{ℕ, zero, suc, ◌+◌, ◌*◌, ◌≤◌, min}
 use native.Mathlib.Omega.{arith}
 use native.Mathlib.Nat.{mul-le-mul, mul_assoc, mul-zero, mul-one, min-eq_left, min-eq_right, min-le_right}
@@ -56,11 +56,11 @@ read_by t s =
     (sees_sign 0x7D 7 names_r_brace t.kind t.place t.inner s) (sees_symbol t.kind t.place t.inner s)
   where
     go : (a b : Option Bool) (c : Option RawSymbol) → is_kind 6 (token_of t) ≡ is_some a → is_kind 7 (token_of t) ≡ is_some b → is_symbol (token_of t) ≡ is_some c
-        → Reads (elim a [ some _ ↦ opens | none ↦ elim b [ some _ ↦ closes | none ↦ elim c [ some s ↦ reads s | none ↦ passes ] ] ]) (token_of t)
-    go (some x) b c p q r = p
-    go none (some x) c p q r = (p, q)
-    go none none (some s) p q r = (p, q, r)
-    go none none none p q r = (p, q, r)
+        → Reads (elim a [ Some _ ↦ opens | None ↦ elim b [ Some _ ↦ closes | None ↦ elim c [ Some s ↦ reads s | None ↦ passes ] ] ]) (token_of t)
+    go (Some x) b c p q r = p
+    go None (Some x) c p q r = (p, q)
+    go None None (Some s) p q r = (p, q, r)
+    go None None None p q r = (p, q, r)
 
 -- ---- one token more, of the count, of the braces and of the language's sets
 abbrev sets : ℕ → ℕ → Sets

@@ -1,4 +1,5 @@
--- Laws of the walk that counts: what a log is given is what it counts, and the counts so far with those of the lines from here on are those of all lines.
+-- Laws of the walk that counts: what a log is given is what it counts, and the counts so far with those of the
+-- lines from here on are those of all lines.
 use mathlib.Core.Path.{◌≡◌, refl, sym, ap, subst, ◌∙◌}
 use mathlib.Core.Bool.{false}
 use mathlib.Core.List.{List, [], ◌∷◌, ◌++◌}

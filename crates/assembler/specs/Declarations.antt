@@ -1,25 +1,27 @@
 -- The first declaration of each name, and the diagnostics of declarations.
-use Rattle.std.specs.Prelude.{ℕ, ◌-◌, Bool, false, cond, List, [], ◌∷◌, ◌++◌, Option, None, Some, eqb, leb, ltb, length, get_or, set, replicate}
+use Rattle.std.specs.Prelude.{ℕ, ◌+◌, ◌-◌, Bool, false, cond, List, [], ◌∷◌, ◌++◌, Option, None, Some, eqb, leb, ltb, length, get_or, set, replicate}
 use Rattle.tokens.specs.declared.Token.{Token}
 use Rattle.diag.specs.declared.Diagnostic.{Diagnostic}
 use Rattle.diag.specs.Log.{error, with_related}
 use Rattle.parser.specs.Row.{peek}
 use Rattle.assembler.specs.Rows.{place_of}
 use Rattle.assembler.specs.Entries.{Entry}
+use Rattle.parser.specs.ItemNumbers as items
+use Rattle.assembler.specs.EntryNumbers as entry
 
 -- the items that declare one of the eleven names
 unfoldable pub declares : Token → Bool
-declares t = cond (leb 16 t.kind) (ltb t.kind 27) false
+declares t = cond (leb entry.item t.kind) (ltb t.kind entry.rule) false
 
--- the number of the name
+-- the number of the name that an item declares
 abbrev pub name_of : Token → ℕ
-name_of t = t.kind - 16
+name_of t = t.kind - entry.item
 
 -- no name is declared: an index of no token for each
 abbrev pub undeclared : List ℕ
-undeclared = replicate 11 0xffffffff
+undeclared = replicate items.transition 0xffffffff
 
--- of n tokens, the first declarations with one more line
+-- the first declarations of n tokens with one more line
 unfoldable pub declare : ℕ → List ℕ → Entry → List ℕ
 unfolding declares
 declare n first e =
@@ -40,7 +42,7 @@ declarations n first (e ∷ es) = declarations n (declare n first e) es
 unfoldable pub tapes_error : Entry → List Diagnostic
 tapes_error e =
     let v = peek e.rest 1 in
-    cond (eqb e.first.kind 20) (cond (ltb 255 v.value) (error 9 (place_of v) ∷ []) []) []
+    cond (eqb e.first.kind (entry.item + items.tapes)) (cond (ltb 255 v.value) (error 9 (place_of v) ∷ []) []) []
 
 -- a second declaration: E011, related to the first
 unfoldable pub declaration_error : List Token → List ℕ → Entry → List Diagnostic
@@ -49,6 +51,7 @@ declaration_error ts first e =
     let f = get_or first (name_of e.first) 0 in
     cond (declares e.first) (cond (ltb f (length ts)) (with_related (error 11 (place_of e.first)) (place_of (peek ts f)) ∷ []) (tapes_error e)) []
 
+-- the diagnostics of the declarations of all lines
 unfoldable pub declaration_errors : List Token → List ℕ → List Entry → List Diagnostic
 unfolding declaration_error declare
 declaration_errors ts first [] = []

@@ -9,6 +9,9 @@ use Rattle.parser.specs.declared.Item.{Item}
 use Rattle.parser.specs.Row.{peek}
 use Rattle.parser.specs.Lines.{Answer, Empty, Comment, Read, line, line_end, code_number}
 use Rattle.assembler.specs.Entries.{behind}
+use Rattle.lexer.specs.KindWords as kinds
+use Rattle.parser.specs.ItemNumbers as items
+use Rattle.assembler.specs.EntryNumbers as entry
 
 -- a token's words
 abbrev pub words_of : Token → List ℕ
@@ -21,37 +24,37 @@ flat (t ∷ ts) = words_of t ++ flat ts
 
 -- the items in the source's order
 unfoldable pub item_number : ItemKind → ℕ
-item_number Machine = 0
-item_number Kind = 1
-item_number Input = 2
-item_number Output = 3
-item_number Tapes = 4
-item_number States = 5
-item_number InputAlphabet = 6
-item_number TapeAlphabet = 7
-item_number Blank = 8
-item_number Start = 9
-item_number Final = 10
-item_number Transition = 11
+item_number Machine = items.machine
+item_number Kind = items.kind
+item_number Input = items.input
+item_number Output = items.output
+item_number Tapes = items.tapes
+item_number States = items.states
+item_number InputAlphabet = items.input_alphabet
+item_number TapeAlphabet = items.tape_alphabet
+item_number Blank = items.blank
+item_number Start = items.start
+item_number Final = items.final
+item_number Transition = items.transition
 
 -- the entry of an item in the line that begins at the index i: its kind, its place, and the index of the line feed
 unfoldable pub item_entry : ℕ → Item → Token
 unfolding item_number
-item_entry i x = record { kind = 16 + item_number x.kind; start = x.span.start; end = x.span.end; value = i + x.newline }
+item_entry i x = record { kind = entry.item + item_number x.kind; start = x.span.start; end = x.span.end; value = i + x.newline }
 
 -- the entry of a line that failed
 unfoldable pub failed_entry : ℕ → ℕ → Span → ℕ → Token
-failed_entry i c s n = record { kind = 32 + c; start = s.start; end = s.end; value = i + n }
+failed_entry i c s n = record { kind = entry.failed + c; start = s.start; end = s.end; value = i + n }
 
 -- a rule's `(` holds the numbers of its reads, writes and moves
 abbrev pub counts_of : Parts → Token
-counts_of q = record { kind = 4; start = q.reads; end = q.writes; value = q.dirs }
+counts_of q = record { kind = kinds.l_paren; start = q.reads; end = q.writes; value = q.dirs }
 
--- and the comma behind its state where the next state, the writes and the moves begin
+-- the comma behind a rule's state holds the indices of the next state, the writes and the moves
 abbrev pub parts_of : ℕ → Parts → Token
-parts_of i q = record { kind = 8; start = i + q.to; end = i + q.write; value = i + q.dir }
+parts_of i q = record { kind = kinds.comma; start = i + q.to; end = i + q.write; value = i + q.dir }
 
--- they fit into words
+-- the parts of a rule that begins at the index i fit into words
 pub record PartsFit (i : ℕ) (q : Parts) : Type 0 where
   pub reads : q.reads < 2 ^ 32
   pub writes : q.writes < 2 ^ 32
@@ -73,7 +76,7 @@ with_parts TapeAlphabet i q ts = ts
 with_parts Blank i q ts = ts
 with_parts Start i q ts = ts
 with_parts Final i q ts = ts
-with_parts Transition i q ts = set (set ts 1 (counts_of q)) 3 (parts_of i q)
+with_parts Transition i q ts = set (set ts entry.counts (counts_of q)) entry.parts (parts_of i q)
 
 -- a line entered in the tokens from its first on
 unfoldable pub enter_as : Answer → ℕ → List Token → List Token
@@ -83,6 +86,7 @@ enter_as (Comment k) i ts = ts
 enter_as (Read x) i ts = with_parts x.kind i x.parts (set ts 0 (item_entry i x))
 enter_as (Err bad) i ts = set ts 0 (failed_entry i (code_number bad.code) bad.span (line_end ts 0))
 
+-- the line that begins with a list of tokens, entered in them
 unfoldable pub enter_line : ℕ → List Token → List Token
 unfolding enter_as
 enter_line i ts = enter_as (line ts 0) i ts

@@ -1,8 +1,11 @@
--- The lines of a row whose first tokens are entries: what a line holds stands in its first token, and the line feed's index with it.
+-- The lines of a row whose first tokens are entries: what a line holds stands in its first
+-- token, and the line feed's index with it.
 -- An item's kind is 16 and its number, a failure's 32 and its code; a comment alone (12) and a line feed (13) are what they were.
 use Rattle.std.specs.Prelude.{ℕ, zero, suc, ◌-◌, Bool, true, false, cond, List, [], ◌∷◌, eqb, leb, drop}
 use Rattle.tokens.specs.declared.Token.{Token}
 use Rattle.parser.specs.Row.{peek}
+use Rattle.lexer.specs.KindWords as kinds
+use Rattle.assembler.specs.EntryNumbers as entry
 
 -- a line: the index of its first token, that token, and all tokens behind it
 pub record Entry : Type 0 where
@@ -21,7 +24,7 @@ has_kind k (t ∷ ts) = elim (eqb t.kind k) [ true ↦ true | false ↦ has_kind
 
 -- how many tokens of its line follow the first, t, at the index i
 unfoldable pub behind : ℕ → Token → ℕ
-behind i t = cond (leb 16 t.kind) (t.value - i) (cond (eqb t.kind 12) 1 0)
+behind i t = cond (leb entry.item t.kind) (t.value - i) (cond (eqb t.kind kinds.comment) 1 0)
 
 -- the lines from the index i on, the first k tokens of the list passed over
 unfoldable pub entries_from : ℕ → ℕ → List Token → List Entry

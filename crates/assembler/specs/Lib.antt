@@ -1,3 +1,4 @@
+pub mod EntryNumbers
 pub mod Rows
 pub mod Entries
 pub mod Feeds

@@ -1,3 +1,3 @@
--- Equal names (crates/equal_names).
-unfoldable pub use Rattle.equal_names.specs.Names.{same_name, same_word, first_equal}
-pub use Rattle.equal_names.specs.Names.{is_word}
+-- Equal names (crates/assembler_names).
+unfoldable pub use Rattle.assembler_names.specs.Names.{same_name, same_word, first_equal}
+pub use Rattle.assembler_names.specs.Names.{is_word}

@@ -12,13 +12,19 @@ use Rattle.assembler.specs.declared.sets.Sets.{Sets}
 use Rattle.assembler.specs.declared.rules.Tally.{Tally}
 use Rattle.assembler.specs.declared.rules.Verdict.{Verdict}
 use Rattle.assembler.specs.declared.rules.Verdict.TheVariants.{Other, WrongArity, TooMany, Expands}
+use Rattle.lexer.specs.KindWords as kinds
+use Rattle.assembler.specs.EntryNumbers as entry
+
+-- more rules than this are too many
+abbrev pub max_transitions : ℕ
+max_transitions = 262144
 
 -- one token more of the read sets: `{` begins a set, `}` multiplies by its size, a symbol counts, another token is passed over
 unfoldable pub counted : Sets → Token → Sets
 unfolding is_symbol
 counted s t =
-    cond (eqb t.kind 6) (record { product = s.product; size = 0 })
-    (cond (eqb t.kind 7) (record { product = min (s.product * s.size) 262145; size = s.size })
+    cond (eqb t.kind kinds.l_brace) (record { product = s.product; size = 0 })
+    (cond (eqb t.kind kinds.r_brace) (record { product = min (s.product * s.size) (max_transitions + 1); size = s.size })
     (cond (is_symbol t) (record { product = s.product; size = s.size + 1 }) s))
 
 -- the product of the sizes of the sets, cut off above the limit
@@ -27,6 +33,7 @@ unfolding counted
 combinations_from s [] = s.product
 combinations_from s (t ∷ ts) = combinations_from (counted s t) ts
 
+-- the product of the sizes of the sets among tokens, cut off above the limit
 unfoldable pub combinations : List Token → ℕ
 unfolding combinations_from
 combinations ts = combinations_from (record { product = 1; size = 0 }) ts
@@ -37,14 +44,14 @@ same_arity p = cond (eqb p.end p.start) (eqb p.value p.start) false
 
 -- what a rule reads: the tokens from the fourth behind δ up to the next state, whose index stands in the comma behind the state
 unfoldable pub read_part : Entry → List Token
-read_part e = take ((peek e.rest 2).start - (e.at + 4)) (drop 3 e.rest)
+read_part e = take ((peek e.rest 2).start - (e.at + entry.read)) (drop 3 e.rest)
 
 -- what becomes of a line when n rules came before it
 unfoldable pub verdict : ℕ → Entry → Verdict
 unfolding same_arity read_part combinations
 verdict n e =
     let total = n + combinations (read_part e) in
-    cond (eqb e.first.kind 27) (cond (same_arity (peek e.rest 0)) (cond (leb total 262144) (Expands total) TooMany) WrongArity) Other
+    cond (eqb e.first.kind entry.rule) (cond (same_arity (peek e.rest 0)) (cond (leb total max_transitions) (Expands total) TooMany) WrongArity) Other
 
 -- the rules so far, and whether one was dropped for the limit
 unfoldable pub after : Tally → Verdict → Tally
@@ -60,6 +67,7 @@ rule_error WrongArity cut p = error 10 p ∷ []
 rule_error TooMany cut p = cond cut [] (error 9 p ∷ [])
 rule_error (Expands n) cut p = []
 
+-- the diagnostics of rules, s being the rules so far
 unfoldable pub rule_errors : Tally → List Entry → List Diagnostic
 unfolding verdict after rule_error
 rule_errors s [] = []
@@ -71,5 +79,6 @@ unfolding verdict after
 rule_count s [] = s.rules
 rule_count s (e ∷ es) = rule_count (after s (verdict s.rules e)) es
 
+-- no rules so far
 abbrev pub no_rules : Tally
 no_rules = record { rules = 0; cut = false }

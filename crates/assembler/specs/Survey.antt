@@ -7,6 +7,7 @@ use Rattle.assembler.specs.Failures.{line_errors}
 use Rattle.assembler.specs.Declarations.{declarations, declaration_errors}
 use Rattle.assembler.specs.Rules.{no_rules, rule_errors, rule_count}
 
+-- what a walk over all lines found
 pub record Surveyed (count : ℕ) (w first₀ first : List ℕ) (r : Counts) : Type 0 where
   pub declared : first ≡ declarations count first₀ (entries (rows count w))
   pub rules : r.rules ≡ rule_count no_rules (entries (rows count w))

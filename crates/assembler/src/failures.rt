@@ -1,6 +1,6 @@
 // The diagnostics of the lines that failed.
 ghost use Rattle.std.specs.Prelude.{◌+◌, ◌<◌, ◌^◌};
-ghost use Rattle.diag.specs.Appends.{Appends};
+ghost use Rattle.diag.specs.Appends.{Appends, CanCount};
 ghost use Rattle.tokens.specs.Listed.{tokens_of};
 ghost use Rattle.assembler.specs.Entries.{entries};
 ghost use Rattle.assembler.specs.Feeds.{Fed};
@@ -10,9 +10,9 @@ use crate::{entry, seek};
 use diag::{Diagnostic, Log};
 use tokens::{Token, Tokens, span_of};
 
-// One line's.
+// The diagnostic of the line that begins with the token t, if it failed.
 pub fn line_error(t: Token, log: &mut Log)
-    requires { log.old.count + 1 < 2 ^ 64 }
+    requires { CanCount log.old 1 }
     ensures { Appends log.old log.new (line_error t) }
 {
     if entry::FAILED <= t.kind {
@@ -20,9 +20,9 @@ pub fn line_error(t: Token, log: &mut Log)
     }
 }
 
-// Of all lines. Where a line ends is found while it is read, so that no `for` counts the steps.
+// The diagnostics of all lines that failed. Where a line ends is found while it is read, so that no `for` counts the steps.
 pub(crate) fn line_errors(tokens: &Tokens, log: &mut Log)
-    requires room { log.old.count + tokens.now.count < 2 ^ 64 }
+    requires room { CanCount log.old tokens.now.count }
     requires fed { Fed (tokens_of tokens.now) }
     ensures { Appends log.old log.new (line_errors (entries (tokens_of tokens.now))) }
 {

@@ -1,6 +1,6 @@
-// Parses the lines, once, and enters the result of each in its first token. The tokens are written here, so that they are no Tokens, which lends them to be
-// read alone: the row, their number and an index go to each function that writes. Of a struct that is lent to be written each contract would also say that
-// it holds the same row and number.
+// Parses the lines, once, and enters the result of each in its first token. The tokens are written here, so that they are no
+// Tokens, which lends them to be read alone: the row, their number and an index go to each function that writes. Of a struct that
+// is lent to be written each contract would also say that it holds the same row and number.
 ghost use Rattle.std.specs.Prelude.{◌≡◌, ◌+◌, ◌*◌, ◌<◌, ◌≤◌, ◌^◌, length, drop, set, Err};
 ghost use Rattle.std.proofs.lemmas.List.Edits.{sets};
 ghost use Rattle.lexer.specs.Words.{onto};
@@ -12,11 +12,12 @@ ghost use Rattle.assembler.specs.Entered.{words_of, flat, item_number, item_entr
 ghost use Rattle.assembler.specs.Entered.{enter_at, entered};
 
 use crate::entry;
-use lexer::kind;
+use lexer::{TOKEN_WORDS, kind};
 use parser::{Failure, Item, ItemKind, Line, Parts, items};
 use tokens::{Token, Tokens};
 
-// The number of an item, in the source's order. ItemKind is declared in parser, so that no From can stand here, and machine's numbers another table.
+// The number of an item, in the source's order. ItemKind is declared in parser, so that no From can stand
+// here, and machine's numbers another table.
 #[tactic(auto, unfolding(crate::specs::Entered::item_number))]
 pub(crate) fn item_number(k: ItemKind) -> u32
     ensures { result ≡ item_number k }
@@ -24,13 +25,13 @@ pub(crate) fn item_number(k: ItemKind) -> u32
     k as u32
 }
 
-// A token at an index. Lexer's `push` stores four numbers in this way; it is private to lexer, where no Token is known, and a call of it would take the token
-// apart to name its four parts in order.
+// A token at an index. Lexer's `push` stores four numbers in this way; it is private to lexer, where no Token is known, and a
+// call of it would take the token apart to name its four parts in order.
 fn put(work: &mut [u32], at: usize, t: Token)
     requires { 4 * at + 4 ≤ length work.old }
     ensures { work.new ≡ sets work.old (4 * at) (words_of t) }
 {
-    let o = 4 * at;
+    let o = TOKEN_WORDS * at;
     work[o] = t.kind;
     work[o + 1] = t.start;
     work[o + 2] = t.end;
@@ -42,7 +43,7 @@ fn rest<'a>(tokens: &Tokens<'a>, at: usize) -> &'a [u32]
     requires { at < tokens.now.count }
     ensures { tokens_in result.now ≡ drop at (tokens_of tokens.now) }
 {
-    &tokens.words[4 * at..4 * tokens.count]
+    &tokens.words[TOKEN_WORDS * at..TOKEN_WORDS * tokens.count]
 }
 
 // The line at an index, or why it is refused.
@@ -64,7 +65,9 @@ fn size_of(tokens: &Tokens, at: usize) -> usize
 // The parts of a rule, in its `(` and in the comma behind its state.
 #[tactic(auto, using(crate::proofs::LineLaws::parts_put))]
 fn put_parts(work: &mut [u32], count: usize, at: usize, q: Parts)
-    requires { (4 * count ≤ length work.old) × (at + 3 < count) × PartsFit at q }
+    requires { (4 * count ≤ length work.old)
+        × (at + 3 < count)
+        × PartsFit at q }
     ensures { work.new
         ≡ onto (flat (set (set (rows count work.old) (at + 1) (counts_of q)) (at + 3) (parts_of at q))) work.old }
 {
@@ -74,20 +77,21 @@ fn put_parts(work: &mut [u32], count: usize, at: usize, q: Parts)
         end: q.writes as u32,
         value: q.dirs as u32,
     };
-    put(work, at + 1, counts);
+    put(work, at + entry::COUNTS, counts);
     let parts = Token {
         kind: kind::COMMA,
         start: (at + q.to) as u32,
         end: (at + q.write) as u32,
         value: (at + q.dir) as u32,
     };
-    put(work, at + 3, parts);
+    put(work, at + entry::PARTS, parts);
 }
 
 // The entry of an item of the line at an index.
 #[tactic(auto, using(crate::proofs::LineLaws::items))]
 fn put_item(work: &mut [u32], at: usize, x: Item)
-    requires { (4 * at + 4 ≤ length work.old) × (at + x.newline < 2 ^ 32) }
+    requires { (4 * at + 4 ≤ length work.old)
+        × (at + x.newline < 2 ^ 32) }
     ensures { work.new ≡ sets work.old (4 * at) (words_of (item_entry at x)) }
 {
     let span = x.span;
@@ -104,7 +108,8 @@ fn put_item(work: &mut [u32], at: usize, x: Item)
 // An item of the line at an index, entered.
 fn enter_item(work: &mut [u32], count: usize, at: usize, x: Item)
     requires room { 4 * count ≤ length work.old }
-    requires inside { (at < count) × (count < 2 ^ 31) }
+    requires inside { (at < count)
+        × (count < 2 ^ 31) }
     requires read { line (drop at (rows count work.old)) 0 ≡ Read x }
     ensures { work.new ≡ onto (flat (enter_at at (rows count work.old))) work.old }
 {
@@ -118,7 +123,8 @@ fn enter_item(work: &mut [u32], count: usize, at: usize, x: Item)
 #[tactic(auto, using(crate::proofs::LineLaws::failures))]
 fn enter_failed(work: &mut [u32], count: usize, at: usize, failure: Failure)
     requires room { 4 * count ≤ length work.old }
-    requires inside { (at < count) × (count < 2 ^ 31) }
+    requires inside { (at < count)
+        × (count < 2 ^ 31) }
     requires failed { line (drop at (rows count work.old)) 0 ≡ Err failure }
     ensures { work.new ≡ onto (flat (enter_at at (rows count work.old))) work.old }
 {
@@ -136,7 +142,9 @@ fn enter_failed(work: &mut [u32], count: usize, at: usize, failure: Failure)
 // The line at an index, entered.
 #[tactic(auto, using(crate::proofs::LineLaws::nothing))]
 fn enter(work: &mut [u32], count: usize, at: usize)
-    requires { (4 * count ≤ length work.old) × (at < count) × (count < 2 ^ 31) }
+    requires { (4 * count ≤ length work.old)
+        × (at < count)
+        × (count < 2 ^ 31) }
     ensures { work.new ≡ onto (flat (enter_at at (rows count work.old))) work.old }
 {
     match line_at(&Tokens { words: work, count }, at) {
@@ -149,7 +157,8 @@ fn enter(work: &mut [u32], count: usize, at: usize)
 
 // All lines, entered. Where a line ends stands in its entry, so that no `for` counts the steps.
 pub(crate) fn lines(work: &mut [u32], count: usize)
-    requires { (4 * count ≤ length work.old) × (count < 2 ^ 31) }
+    requires { (4 * count ≤ length work.old)
+        × (count < 2 ^ 31) }
     ensures { work.new ≡ onto (flat (entered (rows count work.old))) work.old }
 {
     let mut at = 0;

@@ -1,7 +1,8 @@
-// The passes that append diagnostics, each left out where it has none to append: k is their number, which a survey found. They are three functions, since
-// one that takes the pass as a closure would have to say in its contract what a call of it appends, and asks of the tokens.
+// The passes that append diagnostics, each left out where it has none to append: k is their number, which a survey
+// found. They are three functions, since one that takes the pass as a closure would have to say in its contract what a
+// call of it appends, and asks of the tokens.
 ghost use Rattle.std.specs.Prelude.{◌≡◌, ◌+◌, ◌<◌, ◌^◌, length};
-ghost use Rattle.diag.specs.Appends.{Appends};
+ghost use Rattle.diag.specs.Appends.{Appends, CanCount};
 ghost use Rattle.tokens.specs.Listed.{tokens_of};
 ghost use Rattle.assembler.specs.Entries.{entries};
 ghost use Rattle.assembler.specs.Feeds.{Fed};
@@ -13,9 +14,9 @@ use crate::{declarations, failures, rules};
 use diag::Log;
 use tokens::Tokens;
 
-// Of the lines that failed.
+// The diagnostics of the lines that failed.
 pub(crate) fn failed(tokens: &Tokens, k: usize, log: &mut Log)
-    requires room { log.old.count + tokens.now.count < 2 ^ 64 }
+    requires room { CanCount log.old tokens.now.count }
     requires fed { Fed (tokens_of tokens.now) }
     requires number { k ≡ length (line_errors (entries (tokens_of tokens.now))) }
     ensures { Appends log.old log.new (line_errors (entries (tokens_of tokens.now))) }
@@ -25,10 +26,10 @@ pub(crate) fn failed(tokens: &Tokens, k: usize, log: &mut Log)
     }
 }
 
-// Of the declarations.
+// The diagnostics of declarations.
 pub(crate) fn declared(tokens: &Tokens, k: usize, log: &mut Log)
     requires few { tokens.now.count < 2 ^ 32 }
-    requires room { log.old.count + tokens.now.count < 2 ^ 64 }
+    requires room { CanCount log.old tokens.now.count }
     requires fed { Fed (tokens_of tokens.now) }
     requires number { k ≡ length (declaration_errors (tokens_of tokens.now) undeclared (entries (tokens_of tokens.now))) }
     ensures { Appends log.old log.new (declaration_errors (tokens_of tokens.now) undeclared (entries (tokens_of tokens.now))) }
@@ -39,10 +40,10 @@ pub(crate) fn declared(tokens: &Tokens, k: usize, log: &mut Log)
     }
 }
 
-// Of the rules.
+// The diagnostics of rules.
 pub(crate) fn ruled(tokens: &Tokens, k: usize, log: &mut Log)
     requires few { tokens.now.count < 2 ^ 32 }
-    requires room { log.old.count + tokens.now.count < 2 ^ 64 }
+    requires room { CanCount log.old tokens.now.count }
     requires fed { Fed (tokens_of tokens.now) }
     requires number { k ≡ length (rule_errors no_rules (entries (tokens_of tokens.now))) }
     ensures { Appends log.old log.new (rule_errors no_rules (entries (tokens_of tokens.now))) }

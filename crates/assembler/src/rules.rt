@@ -1,11 +1,11 @@
 // The diagnostics of rules.
 ghost use Rattle.std.specs.Prelude.{◌≡◌, ◌+◌, ◌<◌, ◌≤◌, ◌^◌};
-ghost use Rattle.diag.specs.Appends.{Appends};
+ghost use Rattle.diag.specs.Appends.{Appends, CanCount};
 ghost use Rattle.diag.specs.declared.Span.{Span};
 ghost use Rattle.tokens.specs.Listed.{tokens_of};
 ghost use Rattle.assembler.specs.Entries.{entry_at, entries};
 ghost use Rattle.assembler.specs.Feeds.{Fed};
-ghost use Rattle.assembler.specs.Rules.{same_arity, verdict, after, rule_error, rule_errors, no_rules};
+ghost use Rattle.assembler.specs.Rules.{max_transitions, same_arity, verdict, after, rule_error, rule_errors, no_rules};
 
 use crate::{entry, seek, sets};
 use diag::{Code, Diagnostic, Log, Span};
@@ -14,7 +14,8 @@ use tokens::{Token, Tokens, span_of};
 // More rules than this are too many.
 pub const MAX_TRANSITIONS: usize = 262_144;
 
-// The rules so far, and whether one was dropped for the limit. Both go on: a later rule may still be within it, so that no Option or enum holds them.
+// The rules so far, and whether one was dropped for the limit. Both go on: a later rule may still be within
+// it, so that no Option or enum holds them.
 #[derive(Clone, Copy, Debug, PartialEq, Eq)]
 pub struct Tally {
     pub rules: usize,
@@ -24,13 +25,13 @@ pub struct Tally {
 // What becomes of a line. As an Option of a Result it would be read twice: no rule, a rule that is refused, a rule that expands.
 #[derive(Clone, Copy, Debug, PartialEq, Eq)]
 pub enum Verdict {
-    // It is no rule.
+    // The line is no rule.
     Other,
-    // Its reads, writes and moves differ in number.
+    // The reads, writes and moves of the rule differ in number.
     WrongArity,
-    // It would pass the limit.
+    // The rule would pass the limit.
     TooMany,
-    // It expands, and so many rules there are then.
+    // The rule expands, and so many rules there are then.
     Expands(usize),
 }
 
@@ -56,27 +57,28 @@ fn same_arity(p: Token) -> bool
 
 // What becomes of the line at an index when n rules came before it.
 pub fn verdict_at(tokens: &Tokens, at: usize, n: usize) -> Verdict
-    requires inside { (at < tokens.now.count) × (tokens.now.count < 2 ^ 32) }
-    requires tally { n ≤ 262144 }
+    requires inside { (at < tokens.now.count)
+        × (tokens.now.count < 2 ^ 32) }
+    requires tally { n ≤ max_transitions }
     ensures { result ≡ verdict n (entry_at (tokens_of tokens.now) at) }
 {
     if tokens.known(at).kind != entry::RULE {
         return Verdict::Other;
     }
-    if !same_arity(tokens.at(at + 1)) {
+    if !same_arity(tokens.at(at + entry::COUNTS)) {
         return Verdict::WrongArity;
     }
-    let to = tokens.at(at + 3).start as usize;
-    let total = n + sets::combinations(tokens, at + 4, to);
+    let to = tokens.at(at + entry::PARTS).start as usize;
+    let total = n + sets::combinations(tokens, at + entry::READ, to);
     if total <= MAX_TRANSITIONS {
         return Verdict::Expands(total);
     }
     Verdict::TooMany
 }
 
-// One line's diagnostic, if what becomes of it has one.
+// The diagnostic of a line, if what becomes of the line has one.
 pub fn rule_error(v: Verdict, cut: bool, place: Span, log: &mut Log)
-    requires { log.old.count + 1 < 2 ^ 64 }
+    requires { CanCount log.old 1 }
     ensures { Appends log.old log.new (rule_error v cut place) }
 {
     match v {
@@ -91,10 +93,10 @@ pub fn rule_error(v: Verdict, cut: bool, place: Span, log: &mut Log)
     }
 }
 
-// Of all lines. Where a line ends is found while it is read, so that no `for` counts the steps.
+// The diagnostics of rules. Where a line ends is found while it is read, so that no `for` counts the steps.
 pub(crate) fn rules(tokens: &Tokens, log: &mut Log)
     requires few { tokens.now.count < 2 ^ 32 }
-    requires room { log.old.count + tokens.now.count < 2 ^ 64 }
+    requires room { CanCount log.old tokens.now.count }
     requires fed { Fed (tokens_of tokens.now) }
     ensures { Appends log.old log.new (rule_errors no_rules (entries (tokens_of tokens.now))) }
 {

@@ -1,8 +1,9 @@
 // How many rules a line stands for: the product of the sizes of the sets that it reads.
 ghost use Rattle.std.specs.Prelude.{◌≡◌, true, false, ◌+◌, ◌*◌, ◌-◌, ◌<◌, ◌≤◌, ◌^◌, take, drop};
+ghost use Rattle.lexer.specs.KindWords.{r_brace};
 ghost use Rattle.tokens.specs.Listed.{tokens_of};
 ghost use Rattle.assembler.specs.Entries.{has_kind};
-ghost use Rattle.assembler.specs.Rules.{counted, combinations};
+ghost use Rattle.assembler.specs.Rules.{max_transitions, counted, combinations};
 
 use crate::rules::MAX_TRANSITIONS;
 use crate::seek;
@@ -20,7 +21,8 @@ pub struct Sets {
 impl Sets {
     // One token more.
     fn counted(self, t: Token) -> Self
-        requires { (self.product ≤ 262145) × (self.size < 2 ^ 32) }
+        requires { (self.product ≤ max_transitions + 1)
+            × (self.size < 2 ^ 32) }
         ensures { result ≡ counted self t }
     {
         if t.kind == kind::COMMA {
@@ -66,7 +68,7 @@ fn product(tokens: &Tokens, from: usize, to: usize) -> usize
 // Whether no set ends at the four tokens from an index on.
 fn lacks_end(tokens: &Tokens, from: usize) -> bool
     requires { from + 3 < 2 ^ 64 }
-    ensures { result ≡ true → has_kind 7 (take 4 (drop from (tokens_of tokens.now))) ≡ false }
+    ensures { result ≡ true → has_kind r_brace (take 4 (drop from (tokens_of tokens.now))) ≡ false }
 {
     tokens.at(from).kind != kind::R_BRACE
         && tokens.at(from + 1).kind != kind::R_BRACE
@@ -74,15 +76,15 @@ fn lacks_end(tokens: &Tokens, from: usize) -> bool
         && tokens.at(from + 3).kind != kind::R_BRACE
 }
 
-// Whether four tokens stand from an index to before another, and no set ends there: most rules read one symbol, and have it, `)`, `=` and `(` between
-// their states. False says nothing.
+// Whether four tokens stand from an index to before another, and no set ends there: most rules read one symbol, and have it, `)`,
+// `=` and `(` between their states. False says nothing.
 fn is_plain(tokens: &Tokens, from: usize, to: usize) -> bool
-    ensures { result ≡ true → has_kind 7 (take (to - from) (drop from (tokens_of tokens.now))) ≡ false }
+    ensures { result ≡ true → has_kind r_brace (take (to - from) (drop from (tokens_of tokens.now))) ≡ false }
 {
     4 <= to && to - 4 == from && to <= tokens.count && lacks_end(tokens, from)
 }
 
-// The same product, told at once for most rules.
+// The product of the sizes of the sets from an index to before another, told at once for most rules.
 pub fn combinations(tokens: &Tokens, from: usize, to: usize) -> usize
     requires { tokens.now.count < 2 ^ 32 }
     ensures { result ≡ combinations (take (to - from) (drop from (tokens_of tokens.now))) }

@@ -1,4 +1,5 @@
-// What the lines hold, found in one walk that stores nothing: the first declarations, the number of rules, and how many diagnostics there are.
+// What the lines hold, found in one walk that stores nothing: the first declarations, the number of
+// rules, and how many diagnostics there are.
 ghost use Rattle.std.specs.Prelude.{◌<◌, ◌^◌};
 ghost use Rattle.tokens.specs.Listed.{tokens_of};
 ghost use Rattle.assembler.specs.Feeds.{Fed};
@@ -7,6 +8,7 @@ ghost use Rattle.assembler.specs.Survey.{Surveyed};
 use crate::rules::Tally;
 use crate::{declarations, entry, failures, rules, seek};
 use diag::Log;
+use parser::DECLARATIONS;
 use tokens::{Tokens, span_of};
 
 // The number of rules, and of the diagnostics of failed lines, of declarations and of rules.
@@ -18,9 +20,9 @@ pub struct Counts {
     pub wrong: usize,
 }
 
-// Of all lines; those that hold nothing, or a comment alone, change no count. The logs have no words, so that they only count. Where a line ends is found
-// while it is read, so that no `for` counts the steps.
-pub(crate) fn survey(tokens: &Tokens, first: &mut [u32; 11]) -> Counts
+// The counts of all lines; those that hold nothing, or a comment alone, change none. The logs have no words, so that they only
+// count. Where a line ends is found while it is read, so that no `for` counts the steps.
+pub(crate) fn survey(tokens: &Tokens, first: &mut [u32; DECLARATIONS]) -> Counts
     requires few { tokens.now.count < 2 ^ 32 }
     requires fed { Fed (tokens_of tokens.now) }
     ensures { Surveyed tokens.now.count tokens.now.words.now first.old first.new result }

@@ -16,10 +16,12 @@ use mathlib.Core.List.{List, [], ◌∷◌}
 use lib.Bits.{bit_or}
 use lib.ListN.{length, get_or, take, drop, length-take}
 use Rattle.std.specs.Prelude.{Option, Some, None, unwrap_or, position}
-use Rattle.chars.specs.Utf8.{size, sizes, front, decode, valid_up_to, decoded_at}
+use Rattle.chars.specs.Utf8.{size, sizes, front, decode, valid_up_to}
+use Rattle.chars.specs.Decoded.{decoded_at}
 use Rattle.chars.specs.Ranges.{within}
 use Rattle.chars.specs.Blocks.{ors}
-use Rattle.chars.specs.Class.{admitted, outside_from, first_outside, plain_up_to, Passes}
+use Rattle.chars.specs.Class.{admitted, outside_from, first_outside}
+use Rattle.chars.specs.Decoded.{plain_up_to, Passes}
 use Rattle.chars.proofs.Front.{char_at_ascii, rest_bytes}
 use Rattle.chars.proofs.Laws.{char_decode, char_lt, char_le, decode-end}
 use Rattle.chars.proofs.Scans.{valid_start, outside-start, valid_on, valid_none, outside-on, outside_here, outside_none}
@@ -63,7 +65,7 @@ many t P Q step (suc k) i h f p =
     let e : i + k + 1 ≡ i + suc k = omega arith in
     subst P e (step (i + k) (omega arith) (f k (omega arith)) (many t P Q step k i (omega arith) (λ (j : ℕ) (g : j < k). f j (omega arith)) p))
 
--- as many ASCII bytes as one likes
+-- k ASCII bytes are passed over, however many they are
 pub passes-many : (t : List ℕ) (k i : ℕ) → i + k ≤ length t → ((j : ℕ) → j < k → get_or t (i + j) 0 < 0x80) → Passes t i (i + k)
 passes-many t k i h f =
     many t (Passes t i) (λ (c : ℕ). c < 0x80) (λ j g l p. passes-more t i j (j + 1) p (passes-ascii t j g l)) k i h f (passes-none t i (omega arith))

@@ -8,7 +8,8 @@ use mathlib.Core.List.{List}
 use lib.ListN.{length, get_or, take, drop, length-take, length-drop, drop_of_length-le, get_or-eq_default}
 use lib.Seq.{take-length, drop-cons, get_or-drop}
 use borrow.Author.Tests.{lt-ltb, le-ltb, lt-leb, le-leb, eqb-true, ltb-false}
-use Rattle.chars.specs.Utf8.{scalar, size, one, bad, tail_of, form, lead, front, decoded_at}
+use Rattle.chars.specs.Utf8.{scalar, size, one, bad, tail_of, form, lead, front}
+use Rattle.chars.specs.Decoded.{decoded_at}
 use Rattle.std.specs.Prelude.{Option, Some, None}
 use Rattle.std.specs.Bool.{then_some}
 use Rattle.chars.proofs.Tests.{split, and_both}

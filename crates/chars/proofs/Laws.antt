@@ -8,7 +8,8 @@ use lib.Dec.{ltb, leb, eqb}
 use mathlib.Core.List.{List, [], ◌∷◌, ◌++◌}
 use lib.ListN.{length, get_or, drop, length-drop, drop_of_length-le}
 use lib.Seq.{drop-drop}
-use Rattle.chars.specs.Utf8.{scalar, size, sizes, Front, one, bad, none, tail_of, form, lead, front, points_on, points_from, decode, decoded_at}
+use Rattle.chars.specs.Utf8.{scalar, size, sizes, Front, one, bad, none, tail_of, form, lead, front, points_on, points_from, decode}
+use Rattle.chars.specs.Decoded.{decoded_at}
 use Rattle.std.specs.Prelude.{Option, Some, None}
 use Rattle.chars.proofs.Tests.{split}
 use Rattle.chars.proofs.Encoding.{size-range, front-scalar, front_in}

@@ -5,7 +5,8 @@ use native.Mathlib.Omega.{arith}
 use mathlib.Core.Bool.{Bool, true, false}
 use mathlib.Core.List.{List}
 use lib.ListN.{drop}
-use Rattle.chars.specs.Utf8.{sizes, front, decode, valid_up_to, decoded_at}
+use Rattle.chars.specs.Utf8.{sizes, front, decode, valid_up_to}
+use Rattle.chars.specs.Decoded.{decoded_at}
 use Rattle.chars.specs.Ranges.{within}
 use Rattle.chars.specs.Class.{admitted, outside_from, first_outside}
 use Rattle.std.specs.Prelude.{Option, Some, None}

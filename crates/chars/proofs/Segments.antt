@@ -19,7 +19,8 @@ abbrev pub has : List ℕ → ℕ → Bool
 has [] c = false
 has (k ∷ ks) c = eqb k c || has ks c
 
--- a is at most each number from lo on that is none of ks, and b at least each below hi: lo, or what is next to b, may be one of ks
+-- a is at most each number from lo on that is none of ks, and b at least each below hi:
+-- lo, or what is next to b, may be one of ks
 abbrev pub starts : List ℕ → ℕ → ℕ → Bool
 starts ks a lo = leb a lo || (has ks lo && leb a (suc lo))
 

@@ -17,9 +17,11 @@ use Rattle.std.specs.Ordering.{is_le, is_lt, nat_cmp}
 use Rattle.std.proofs.lemmas.Map.Keys.{le_from_is_le}
 use Rattle.std.proofs.lemmas.Cmp.{ranked, by_ranked}
 use Rattle.std.specs.Bool.{then_some}
-use Rattle.chars.specs.Utf8.{scalar, size, sizes, encode_one, tail_of, Front, one, bad, none, form, front, decode, decoded_at}
+use Rattle.chars.specs.Utf8.{scalar, size, sizes, encode_one, tail_of, Front, one, bad, none, form, front, decode}
+use Rattle.chars.specs.Decoded.{decoded_at}
 use Rattle.chars.specs.Ranges.{rows, within}
-use Rattle.chars.specs.Class.{admitted, Passes, plain_up_to}
+use Rattle.chars.specs.Class.{admitted}
+use Rattle.chars.specs.Decoded.{Passes, plain_up_to}
 use Rattle.chars.specs.Short.{is_tail, is_two, two_code, is_short, plain_two, plain_next, Short, of_two, of_three}
 use Rattle.chars.proofs.Tests.{and_both, or_cases, or_true, lt-or-ge}
 use Rattle.chars.proofs.Front.{rest_bytes, rest_long, long_two, long_three, tail_bits, form-char}
@@ -200,7 +202,7 @@ module _ (t : List ℕ) (at : ℕ) (T : ℕ → ℕ → Bool → Type 0) (lo hi 
       go (of_two e a b w p) = let k = two_range a b (f a b w) in short_low c (omega arith) (omega arith)
       go (of_three e g h) = short_high c (omega arith) (omega arith)
 
-  -- it is of the set
+  -- a character of two bytes that are plain, or of three in a part of the set, is of the set
   pub short_in : ((a b : ℕ) → T a b true → plain_two a b ≡ true) → leb 0x2190 lo ≡ true → leb hi 0x2440 ≡ true → within admitted c ≡ true
   short_in f l m = go s
     where
@@ -271,7 +273,7 @@ module _ (at : ℕ) where
   next_none bad s = refl
   next_none none s = refl
 
--- what it says of the text
+-- what a character of the set at a place says of the text
 module _ (t : List ℕ) (at : ℕ) where
   pub passes-next : (n : ℕ) → Some n ≡ plain_next at (front (drop at t)) → Passes t at n × (at < n)
   unfolding plain_next decoded_at

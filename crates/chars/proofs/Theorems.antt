@@ -7,7 +7,8 @@ use mathlib.Core.List.{List, [], ◌∷◌, ◌++◌, append_assoc, append-nil}
 use lib.ListN.{length, take, drop, length-append, length-take, take-append-drop}
 use lib.Seq.{take-add, take-length, take-take, take_at, drop_at}
 use borrow.Author.Tests.{le-ltb, lt-ltb, lt-leb, eq-eqb}
-use Rattle.chars.specs.Utf8.{scalar, scalars, size, sizes, encode_one, encode, Front, one, bad, none, tail_of, form, front, points_on, points_from, decode, valid_up_to}
+use Rattle.chars.specs.Utf8.{scalar, size, sizes, encode_one, encode, Front, one, bad, none, tail_of, form, front, points_on, points_from, decode, valid_up_to}
+use Rattle.chars.specs.Decoded.{scalars}
 use Rattle.chars.proofs.Tests.{and_both}
 use Rattle.chars.proofs.Encoding.{Sized, size_1, size_2, size_3, size_4, sized, size-range, length-encode_one, front-scalar, front_bytes}
 use Rattle.chars.proofs.Laws.{decode-nil, decode-one, drop_past}

@@ -1,4 +1,4 @@
--- Eight bytes at once.
+-- Describes the code, and no rule of a text: eight bytes at once.
 use Rattle.std.specs.Prelude.{ℕ, ◌+◌, List, get_or}
 use Rattle.std.specs.Int.Bits.{bit_or}
 

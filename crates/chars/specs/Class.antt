@@ -1,7 +1,7 @@
 -- Paper 01, "Characters": the admitted set, and the classes of code points.
-use Rattle.std.specs.Prelude.{ℕ, ◌+◌, ◌≡◌, ◌≤◌, List, [], ◌∷◌, true, false, Option, Some, None, unwrap_or, length, drop}
+use Rattle.std.specs.Prelude.{ℕ, ◌+◌, List, [], ◌∷◌, true, false, Option, Some, None}
 use Rattle.chars.specs.Ranges.{Range, to, Entry, rows, lookup, within}
-use Rattle.chars.specs.Utf8.{size, sizes, decode, valid_up_to}
+use Rattle.chars.specs.Utf8.{size, decode}
 use Rattle.chars.specs.declared.Class.{Class}
 use Rattle.chars.specs.declared.Class.TheVariants.{Letter, Digit, Space, Sign, Other}
 
@@ -47,15 +47,3 @@ outside_from o (c ∷ cs) = elim (within admitted c) [ true ↦ outside_from (o 
 unfoldable pub first_outside : List ℕ → Option ℕ
 unfolding outside_from decode
 first_outside t = outside_from 0 (decode t)
-
--- how far a text is UTF-8 and within the set
-unfoldable pub plain_up_to : List ℕ → ℕ
-unfolding first_outside valid_up_to
-plain_up_to t = unwrap_or (first_outside t) (valid_up_to t)
-
--- from the place i of the text t to the place j stand only characters of the set: what the definitions say of the text from j on is what they say from i on
-pub record Passes (t : List ℕ) (i j : ℕ) : Type 0 where
-  pub from : i ≤ j
-  pub inside : j ≤ length t
-  pub valid : j + sizes (decode (drop j t)) ≡ i + sizes (decode (drop i t))
-  pub outside : outside_from j (decode (drop j t)) ≡ outside_from i (decode (drop i t))

@@ -1,5 +1,6 @@
 pub mod Utf8
 pub mod Ranges
 pub mod Class
+pub mod Decoded
 pub mod Blocks
 pub mod Short

@@ -1,8 +1,9 @@
--- Characters of two and three bytes, told by their bytes: what the code goes by to be fast, and no rule of a text.
+-- Describes the code, and no rule of a text: characters of two and three bytes, told by their bytes.
 use Rattle.std.specs.Prelude.{ℕ, ◌+◌, ◌-◌, ◌*◌, ◌≤◌, ◌<◌, ◌≡◌, Bool, true, ◌&&◌, ◌||◌, Option, Some, None, cond, List, ltb, leb, drop}
-use Rattle.chars.specs.Utf8.{size, Front, one, bad, none, front, decoded_at}
+use Rattle.chars.specs.Utf8.{size, Front, one, bad, none, front}
 use Rattle.chars.specs.Ranges.{within}
 use Rattle.chars.specs.Class.{admitted}
+use Rattle.chars.specs.Decoded.{decoded_at}
 
 -- a continuation byte
 unfoldable pub is_tail : ℕ → Bool
@@ -33,7 +34,8 @@ plain_next at (one c) = cond (within admitted c) (Some (at + size c)) None
 plain_next at bad = None
 plain_next at none = None
 
--- the character c stands at the place at of the text t, and next behind it: it has two bytes that T takes, or three and lies from lo to below hi
+-- the character c stands at the place at of the text t, and next behind it: it has two bytes that T takes, or three and lies from
+-- lo to below hi
 pub data Short (t : List ℕ) (at : ℕ) (T : ℕ → ℕ → Bool → Type 0) (lo hi c next : ℕ) : Type 0 where
   of_two : Some (c, next) ≡ decoded_at at (front (drop at t)) → (a b : ℕ) → T a b true → c ≡ two_code a b → Short t at T lo hi c next
   of_three : Some (c, next) ≡ decoded_at at (front (drop at t)) → lo ≤ c → c < hi → Short t at T lo hi c next

@@ -1,15 +1,9 @@
 -- UTF-8 (RFC 3629), over lists of bytes and lists of code points.
-use Rattle.std.specs.Prelude.{ℕ, zero, suc, ◌+◌, ◌-◌, ◌*◌, ◌/◌, ◌%◌, List, [], ◌∷◌, ◌++◌, Bool, true, cond, ◌&&◌, ◌||◌, Option, Some, None, get_or, ltb, leb, eqb}
+use Rattle.std.specs.Prelude.{ℕ, zero, suc, ◌+◌, ◌-◌, ◌*◌, ◌/◌, ◌%◌, List, [], ◌∷◌, ◌++◌, Bool, cond, ◌&&◌, ◌||◌, get_or, ltb, leb, eqb}
 
 -- a Unicode scalar value: a code point, at most 10FFFF, that is no surrogate
 unfoldable pub scalar : ℕ → Bool
 scalar c = ltb c 0xD800 || (leb 0xE000 c && ltb c 0x110000)
-
--- every member is a scalar value
-unfoldable pub scalars : List ℕ → Bool
-unfolding scalar
-scalars [] = true
-scalars (c ∷ cs) = scalar c && scalars cs
 
 -- how many bytes a code point takes
 unfoldable pub size : ℕ → ℕ
@@ -45,7 +39,8 @@ pub data Front : Type 0 where
 unfoldable pub tail_of : ℕ → ℕ
 tail_of b = cond (ltb b 0x80) 64 (cond (ltb b 0xC0) (b - 0x80) 64)
 
--- a form of n bytes with the value c is a character where c is a scalar value of that size: an overlong form, a surrogate, a value above 10FFFF is none
+-- a form of n bytes with the value c is a character where c is a scalar value of that size: an overlong form, a surrogate, a
+-- value above 10FFFF is none
 unfoldable pub form : ℕ → ℕ → Front
 unfolding scalar size
 form n c = cond (scalar c && eqb (size c) n) (one c) bad
@@ -72,8 +67,7 @@ front (a ∷ r) = lead a (tail_of (get_or r 0 0)) (tail_of (get_or r 1 0)) (tail
 unfoldable pub points_on : Front → (ℕ → List ℕ) → List ℕ
 unfolding size
 points_on (one c) next = c ∷ next (size c - 1)
-points_on bad next = []
-points_on none next = []
+points_on _ next = []
 
 -- the code points of the longest UTF-8 beginning, the first k bytes passed over
 unfoldable pub points_from : ℕ → List ℕ → List ℕ
@@ -91,10 +85,3 @@ decode t = points_from 0 t
 unfoldable pub valid_up_to : List ℕ → ℕ
 unfolding decode sizes
 valid_up_to t = sizes (decode t)
-
--- what stands at a place, as the code answers it: the character and the place after it; nothing where no character stands there, as at the end
-unfoldable pub decoded_at : ℕ → Front → Option (ℕ × ℕ)
-unfolding size
-decoded_at at (one c) = Some (c, at + size c)
-decoded_at at bad = None
-decoded_at at none = None

@@ -1,14 +1,16 @@
 // Characters of a text: UTF-8 (RFC 3629), the set that a description may use, and the classes of code points.
-// A text and a place in it are two parameters: what a function answers is a place of the whole text, which a slice from the place on would have to be counted
-// back to, and a cursor would make each contract say that it keeps the text.
+// A text and a place in it are two parameters: what a function answers is a place of the whole text, which a slice from the place
+// on would have to be counted back to, and a cursor would make each contract say that it keeps the text.
 #![tactic(auto)]
 
 ghost use Rattle.std.specs.Prelude.{◌≡◌, ℕ, true, ◌+◌, ◌*◌, ◌^◌, ◌<◌, ◌≤◌, length, get_or, drop, IfSome, IfNone, Some, false, nat_le, position, unwrap_or, take_while};
-ghost use Rattle.chars.specs.Utf8.{scalar, size, sizes, tail_of, one, form, front, decode, decoded_at, valid_up_to};
+ghost use Rattle.chars.specs.Utf8.{scalar, size, sizes, tail_of, one, form, front, decode, valid_up_to};
+ghost use Rattle.chars.specs.Decoded.{decoded_at};
 ghost use Rattle.chars.specs.Ranges.{within};
 ghost use Rattle.chars.specs.Blocks.{ors};
 ghost use Rattle.chars.specs.Short.{is_tail, is_two, two_code, plain_two, plain_next, Short, is_short};
-ghost use Rattle.chars.specs.Class.{admitted, first_outside, plain_up_to, Passes, class_of};
+ghost use Rattle.chars.specs.Class.{admitted, first_outside, class_of};
+ghost use Rattle.chars.specs.Decoded.{plain_up_to, Passes};
 
 use std::ops::Range;
 
@@ -49,7 +51,7 @@ fn is_scalar(c: u32) -> bool
 }
 
 // The character of a form of n bytes at a place, by the form's value.
-#[tactic(auto, using(crate::proofs::Tests::tests), unfolding(crate::specs::Utf8::form, crate::specs::Utf8::decoded_at))]
+#[tactic(auto, using(crate::proofs::Tests::tests), unfolding(crate::specs::Utf8::form, crate::specs::Decoded::decoded_at))]
 fn formed(at: usize, n: usize, code: u32) -> Option<(u32, usize)>
     requires { at + n < 2 ^ 64 }
     ensures { result ≡ decoded_at at (form n code) }
@@ -64,7 +66,9 @@ fn formed(at: usize, n: usize, code: u32) -> Option<(u32, usize)>
 // The six bits of the continuation byte at a place, if one stands there.
 fn tail_at(text: &[u8], at: usize) -> Option<u32>
     ensures none { IfNone result (64 ≤ tail_of (get_or text.now at 0)) }
-    ensures some { IfSome result (λ b. (b ≡ tail_of (get_or text.now at 0)) × (b < 64) × (at < length text.now)) }
+    ensures some { IfSome result (λ b. (b ≡ tail_of (get_or text.now at 0))
+        × (b < 64)
+        × (at < length text.now)) }
 {
     match *text.get(at)? {
         b @ 0x80..0xC0 => Some(u32::from(b - 0x80)),
@@ -118,8 +122,8 @@ fn plain_two(a: u8, b: u8) -> bool
     matches!(a, 0xC2..0xCB | 0xCE..0xD2) && is_tail(b)
 }
 
-// The character at a place, if its bytes alone tell it: of two bytes that `two` takes, or of three that begin with E2 and lie in `three`. Three bytes are
-// looked at, so that one test of the length is enough.
+// The character at a place, if its bytes alone tell it: of two bytes that `two` takes, or of three that begin with E2 and lie in
+// `three`. Three bytes are looked at, so that one test of the length is enough.
 fn short_at<F: Fn(u8, u8) -> bool>(
     text: &[u8],
     at: usize,
@@ -149,7 +153,8 @@ fn short_at<F: Fn(u8, u8) -> bool>(
     three.contains(&code).then_some((code, at + 3))
 }
 
-// The character at a place of a text; None where no character stands there, as at the end. Small, so that it is compiled into its callers: ASCII is decided here.
+// The character at a place of a text; None where no character stands there, as at the end. Small, so that it is compiled into its
+// callers: ASCII is decided here.
 pub fn char_at(text: &[u8], at: usize) -> Option<(u32, usize)>
     ensures { result ≡ decoded_at at (front (drop at text.now)) }
 {
@@ -162,7 +167,8 @@ pub fn char_at(text: &[u8], at: usize) -> Option<(u32, usize)>
     Some((c, next))
 }
 
-// The same where characters above ASCII are as likely: those of two bytes and those that begin with E2 are decided here too.
+// The character at a place of a text where characters above ASCII are as likely: those of two bytes and those that begin with E2
+// are decided here too.
 pub fn glyph_at(text: &[u8], at: usize) -> Option<(u32, usize)>
     ensures { result ≡ decoded_at at (front (drop at text.now)) }
 {
@@ -176,8 +182,8 @@ pub fn glyph_at(text: &[u8], at: usize) -> Option<(u32, usize)>
     long_at(text, at)
 }
 
-// The place behind the characters at a place that their first bytes tell, one behind the other: those of two bytes and those that begin with E2. None is
-// decoded.
+// The place behind the characters at a place that their first bytes tell, one behind the other: those of two bytes and those that
+// begin with E2. None is decoded.
 pub fn above_end(text: &[u8], at: usize) -> usize
     ensures { result ≡ at + sizes (take_while is_short (decode (drop at text.now))) }
 {
@@ -250,7 +256,8 @@ fn ascii_two(text: &[u8], at: usize) -> usize
     }
 }
 
-// A place before which all bytes are ASCII, from one on: blocks of eight are passed over; where the third byte says that there is none, two bytes.
+// A place before which all bytes are ASCII, from one on: blocks of eight are passed over; where the third byte says that there is
+// none, two bytes.
 fn ascii_blocks(text: &[u8], at: usize) -> usize
     requires { at ≤ length text.now }
     ensures { Passes text.now at result }
@@ -274,7 +281,7 @@ fn ascii_len(text: &[u8]) -> usize
     text.iter().position(|b| 0x80 <= *b).unwrap_or(text.len())
 }
 
-// The same, byte by byte to the first byte above ASCII or the end.
+// The place of the first byte above ASCII from a place on, or the text's end: blocks first, then byte by byte.
 fn ascii_end(text: &[u8], at: usize) -> usize
     requires { at ≤ length text.now }
     ensures { Passes text.now at result }
@@ -283,7 +290,8 @@ fn ascii_end(text: &[u8], at: usize) -> usize
     i + ascii_len(&text[i..])
 }
 
-// The place behind the ASCII bytes at a place: three where a character above ASCII follows, as between two quoted symbols; else as far as they go.
+// The place behind the ASCII bytes at a place: three where a character above ASCII follows, as between two quoted symbols; else
+// as far as they go.
 fn ascii_gap(text: &[u8], at: usize) -> usize
     requires inside { at < length text.now }
     requires ascii { get_or text.now at 0 < 0x80 }
@@ -305,7 +313,8 @@ fn plain_short(text: &[u8], at: usize) -> Option<usize>
     Some(next)
 }
 
-// The place behind the character of the set at a place whose first byte is above ASCII, if one stands there: the first bytes tell it for nearly all.
+// The place behind the character of the set at a place whose first byte is above ASCII, if one stands there: the first bytes tell
+// it for nearly all.
 #[tactic(auto, using(crate::proofs::Short::next_char, crate::proofs::Short::next_none))]
 fn plain_next(text: &[u8], at: usize) -> Option<usize>
     requires inside { at < length text.now }
@@ -319,8 +328,8 @@ fn plain_next(text: &[u8], at: usize) -> Option<usize>
     is_admitted(c).then_some(next)
 }
 
-// The place behind the characters of the set at a place, as far as their first bytes tell them, one behind the other: in a text of glyphs most stand in such
-// runs.
+// The place behind the characters of the set at a place, as far as their first bytes tell them, one behind the other: in a text
+// of glyphs most stand in such runs.
 fn plain_run(text: &[u8], at: usize) -> usize
     requires { at ≤ length text.now }
     ensures { Passes text.now at result }

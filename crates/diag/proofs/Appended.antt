@@ -1,5 +1,5 @@
--- Laws of appending: diagnostics appended one after another to a log that has a record for each stand at its front in their order, and the words behind them
--- are as they were.
+-- Laws of appending: diagnostics appended one after another to a log that has a record for each stand at its front in their
+-- order, and the words behind them are as they were.
 use mathlib.Core.Path.{◌≡◌, refl, sym, ap, ◌∙◌}
 use mathlib.Core.Bool.{Bool, true, false, cond}
 use mathlib.Core.List.{List, [], ◌∷◌, ◌++◌, append-nil, append_assoc}
@@ -37,7 +37,7 @@ append_all-length l (d ∷ ds) = append_all-length (appended l d) ds ∙ appende
 abbrev pub over : List ℕ → List Diagnostic → Log
 over w ds = logged (flat ds ++ drop (5 * length ds) w) (length ds)
 
--- one more
+-- one diagnostic more is appended behind those of a list
 over_more : (w : List ℕ) (ds : List Diagnostic) (d : Diagnostic) → 5 * length ds + 5 ≤ length w → appended (over w ds) d ≡ over w (ds ++ d ∷ [])
 unfolding appended flat
 over_more w ds d h =

@@ -1,5 +1,5 @@
--- For callers: a log that was given ds, then cleared behind them and sorted if it has a record for each and else cleared, holds the definition's `logAfter` of
--- their sort.
+-- For callers: a log that was given ds, then cleared behind them and sorted if it has a record for each and else cleared, holds
+-- the definition's `log_after` of their sort.
 use mathlib.Core.Path.{◌≡◌, refl, sym, ap, ◌∙◌}
 use mathlib.Core.List.{List, [], ◌∷◌, ◌++◌}
 use Prim.Native.Nat.{ℕ, ◌+◌, ◌-◌, ◌*◌, ◌≤◌, ◌<◌}
@@ -21,7 +21,7 @@ module _ (w₀ w : List ℕ) (n r : ℕ) (ds : List Diagnostic) (is : logged w r
   pub appends_length : length w ≡ length w₀
   appends_length = ap (λ (l : Log). length l.row) is ∙ append_all-length (logged w₀ n) ds
 
-  -- one more
+  -- one diagnostic more is appended to a log
   pub appends_more : (w' : List ℕ) (r' : ℕ) (d : Diagnostic) → logged w' r' ≡ appended (logged w r) d → logged w' r' ≡ append_all (logged w₀ n) (ds ++ d ∷ [])
   unfolding append_all
   appends_more w' r' d e = e ∙ ap (λ (l : Log). appended l d) is ∙ sym (append_all-append (logged w₀ n) ds (d ∷ []))
@@ -39,7 +39,7 @@ module _ (w₀ w : List ℕ) (r : ℕ) (ds : List Diagnostic) (is : logged w r �
   sorted_count : 5 * length (sort ds) ≡ 5 * r
   sorted_count = ap (λ (k : ℕ). 5 * k) (sort-length start_of ds ∙ sym count)
 
-  -- there is a record for each: what `clear_from` and `sort` leave
+  -- the log has a record for each diagnostic: what `clear_from` and `sort` leave
   module _ (h : 5 * r ≤ length w) (w₁ : List ℕ) (cleared : w₁ ≡ take (5 * r) w ++ replicate (length w - 5 * r) 0) where
     abbrev zeros : List ℕ
     zeros = replicate (length w - 5 * r) 0
@@ -59,7 +59,7 @@ module _ (w₀ w : List ℕ) (r : ℕ) (ds : List Diagnostic) (is : logged w r �
         let behind : drop (5 * r) w₁ ≡ zeros = ap (drop (5 * r)) row ∙ drop_at (flat ds) zeros (5 * r) front in
         rw (sorted_count, le-leb (5 * r) (length w) h, e, here, behind)
 
-  -- there is not: what `clear` leaves
+  -- the log has fewer records than diagnostics: what `clear` leaves
   pub log_cleared : length w < 5 * r → replicate (length w) 0 ≡ log_after (length w) (sort ds)
   unfolding log_after
   log_cleared h = rw (sorted_count, lt-leb (5 * r) (length w) h)

@@ -21,12 +21,12 @@ cleared_from o at h p e =
 
 -- ---- appending a diagnostic
 module _ (w w' v : List ℕ) (n : ℕ) (d : Diagnostic) (same : w' ≡ v) where
-  -- there is a whole record left
+  -- a diagnostic is stored where a whole record is left
   pub append_stored : n < length w / 5 → v ≡ sets w (5 * n) (words d) → logged w' (n + 1) ≡ appended (logged w n) d
   unfolding appended
   append_stored h e = rw (le-leb (5 * n + 5) (length w) (omega arith)) (ap (λ (w : List ℕ). logged w (n + 1)) (same ∙ e))
 
--- there is not
+-- a diagnostic is only counted where no whole record is left
 pub append_full : (w w' : List ℕ) (n : ℕ) (d : Diagnostic) → w' ≡ w → length w / 5 ≤ n → logged w' (n + 1) ≡ appended (logged w n) d
 unfolding appended
 append_full w w' n d e h = rw (lt-leb (5 * n + 5) (length w) (omega arith)) (ap (λ (w : List ℕ). logged w (n + 1)) e)

@@ -1,9 +1,10 @@
--- Paper 01, "The records": the log as plain words, five to a record.
-use Rattle.std.specs.Prelude.{ℕ, zero, suc, ◌+◌, ◌-◌, ◌*◌, ◌/◌, cond, List, [], ◌∷◌, ◌++◌, leb, length, get_or, take, drop, replicate}
+-- How the code keeps a log: no promise to callers cites this file. The words of a record are in Records.
+use Rattle.std.specs.Prelude.{ℕ, ◌+◌, ◌-◌, ◌*◌, ◌/◌, cond, List, [], ◌∷◌, ◌++◌, leb, length, take, drop, replicate}
 use Rattle.std.proofs.lemmas.List.Edits.{sets}
 use Rattle.diag.specs.Sort.{sort_by}
 use Rattle.diag.specs.declared.Span.{Span}
 use Rattle.diag.specs.declared.Diagnostic.{Diagnostic}
+unfoldable pub use Rattle.diag.specs.Records.{words, flat, record_from, records}
 
 -- the place that stands for none
 abbrev pub none : Span
@@ -13,35 +14,13 @@ none = record { start = 4294967295; end = 4294967295 }
 abbrev pub error : ℕ → Span → Diagnostic
 error c p = record { code = c; span = p; related = none }
 
--- the same diagnostic with a related place
+-- a diagnostic as it is, but for its related place
 abbrev pub with_related : Diagnostic → Span → Diagnostic
 with_related d p = record { code = d.code; span = d.span; related = p }
 
 -- the record that is all zero
 abbrev pub unused : Diagnostic
 unused = record { code = 0; span = record { start = 0; end = 0 }; related = record { start = 0; end = 0 } }
-
--- a record: code, place, related place
-abbrev pub words : Diagnostic → List ℕ
-words d = d.code ∷ d.span.start ∷ d.span.end ∷ d.related.start ∷ d.related.end ∷ []
-
--- the records of a list of diagnostics
-unfoldable pub flat : List Diagnostic → List ℕ
-flat [] = []
-flat (d ∷ ds) = words d ++ flat ds
-
--- the diagnostic whose record begins at a word; a word past the end counts as 0
-abbrev pub record_from : List ℕ → ℕ → Diagnostic
-record_from w o = record {
-  code = get_or w o 0;
-  span = record { start = get_or w (o + 1) 0; end = get_or w (o + 2) 0 };
-  related = record { start = get_or w (o + 3) 0; end = get_or w (o + 4) 0 };
-}
-
--- the first n diagnostics that words hold
-unfoldable pub records : ℕ → List ℕ → List Diagnostic
-records zero w = []
-records (suc n) w = record_from w 0 ∷ records n (drop 5 w)
 
 -- the diagnostics that all whole records of a row of words hold, and the words behind these records
 abbrev pub whole : List ℕ → List Diagnostic
@@ -54,7 +33,7 @@ behind w = drop (5 * (length w / 5)) w
 abbrev pub start_of : Diagnostic → ℕ
 start_of d = d.span.start
 
--- by where they start, equal starts in the order of the list
+-- diagnostics by where they start, equal starts in the order of the list
 abbrev pub sort : List Diagnostic → List Diagnostic
 sort ds = sort_by start_of ds
 
@@ -88,7 +67,7 @@ appended l d = record {
   count = l.count + 1;
 }
 
--- one after another
+-- diagnostics appended one after another
 unfoldable pub append_all : Log → List Diagnostic → Log
 unfolding appended
 append_all l [] = l

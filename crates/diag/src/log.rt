@@ -1,12 +1,12 @@
 // A log that is being written.
 ghost use Rattle.std.specs.Prelude.{◌≡◌, ◌+◌, ◌<◌, ◌^◌, [], ◌∷◌};
 ghost use Rattle.diag.specs.Log.{logged};
-ghost use Rattle.diag.specs.Appends.{Appends};
+ghost use Rattle.diag.specs.Appends.{Appends, CanCount};
 
 use crate::Diagnostic;
 
-// The words of a log, and how many diagnostics it was given. Each is stored where there is room for its record and counted in any case, so that a log of
-// no words only counts.
+// The words of a log, and how many diagnostics it was given. Each is stored where there is room for its record and counted in any
+// case, so that a log of no words only counts.
 #[derive(Drop)]
 pub struct Log<'a> {
     row: &'a mut [u32],
@@ -22,7 +22,7 @@ impl<'a> Log<'a> {
         Log { row, count: 0 }
     }
 
-    // How many it was given.
+    // How many diagnostics a log was given.
     pub fn count(&self) -> usize
         ensures { result ≡ self.now.count }
     {
@@ -31,7 +31,7 @@ impl<'a> Log<'a> {
 
     // Appends a diagnostic to those before it.
     pub fn append(&mut self, d: Diagnostic)
-        requires { self.old.count + 1 < 2 ^ 64 }
+        requires { CanCount self.old 1 }
         ensures { Appends self.old self.new (d ∷ []) }
     {
         self.count = crate::append(self.row, self.count, d);

@@ -1,3 +1,4 @@
 pub mod Output
 pub mod Decimal
 pub mod Appends
+pub mod Puts

@@ -6,8 +6,10 @@ ghost use Rattle.chars.specs.Utf8.{encode_one};
 ghost use Rattle.emit.specs.Output.{output};
 ghost use Rattle.emit.specs.Decimal.{decimal};
 
-// Where bytes are appended: the row lent for them, and how many were appended so far. With an empty row, `&mut row[..0]`, they are only counted.
-// Crate sheet's Sheet is this of words: one struct for both would share the fields and a test for room, and what is stored would stay defined twice.
+// Where bytes are appended: the row lent for them, and how many were appended so far. With an empty row, `&mut row[..0]`, they
+// are only counted.
+// Crate sheet's Sheet is this of words: one struct for both would share the fields and a test for room, and what is stored would
+// stay defined twice.
 #[derive(Drop)]
 pub struct Output<'a> {
     row: &'a mut [u8],
@@ -72,7 +74,8 @@ impl<'a> Output<'a> {
         }
     }
 
-    // A number in decimal. Its Display would write it to an impl of fmt::Write, whose answer has to be dropped here: that is no plainer.
+    // A number in decimal. Its Display would write it to an impl of fmt::Write, whose answer has to be dropped here: that is no
+    // plainer.
     // How many digits it has is known only at the last one: no range counts them.
     pub fn decimal(&mut self, n: u64)
         ensures { Appends (decimal n) self.old self.new }

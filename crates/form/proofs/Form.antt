@@ -1,20 +1,51 @@
 -- The whole form: its sections stand one after the other, each from its words of the sheet.
-use mathlib.Core.Path.{◌≡◌, refl, sym, ap, subst, ◌∙◌}
+use mathlib.Core.Path.{◌≡◌, refl, sym, ap, ap₂, subst, ◌∙◌}
 use Prim.Native.Nat.{ℕ, ◌<◌}
 use mathlib.Core.Bool.{Bool, true, false}
 use mathlib.Core.List.{List, [], map, map-map}
 use Rattle.chars.specs.Utf8.{scalar, encode}
-use Rattle.language.specs.Layout.{Counts, Head}
+use Rattle.machine.specs.declared.Counts.{Counts}
+use Rattle.machine.specs.declared.Head.{Head}
 use Rattle.language.specs.Plain.{Piece, ◌⨾◌, say, end, only, each, name_set, comment_line, rule_lines, pieces, plain}
 use Rattle.language.specs.Agreement.{Answer, groups, records, state_in, text_in, rule_in, content_of_answer}
 use Rattle.emit.specs.Output.{appended}
 use Rattle.emit.specs.declared.Output.{Output}
 use Rattle.emit.specs.Appends.{held}
 use Rattle.emit.proofs.Appends.{appended-nil}
-use Rattle.pieces.specs.Writes.{Writes}
+use Rattle.form_strings.specs.Writes.{Writes}
+use Rattle.sheet_view.specs.Sections.{sigma_from, gamma_from, header_from, trailing_from, rules_from}
+use Rattle.sheet_view.specs.declared.sections.Sections.{Sections}
+use Rattle.form.specs.declared.Machine.{Machine}
+use Rattle.form.specs.Machines.{answer_of}
 use Rattle.form.specs.Sections.{head_lines, states_line, symbols_line, blank_line, start_line, finals_line, declared_lines}
-use Rattle.form.specs.WellFormed.{sigma_from, gamma_from, header_from, trailing_from, rules_from}
-use Rattle.pieces.proofs.Chain.{same, ◌▹◌}
+use Rattle.emit.proofs.Chain.{alike, ◌▹◌}
+
+-- the sections of the machine's sheet are those that its form is made of
+module _ (m : Machine) (s : Sections) (e : (s.counts ≡ m.head.counts) × (s.states.now ≡ m.sheet.now)) where
+  abbrev counts : Counts
+  counts = (answer_of m).head.counts
+
+  abbrev sheet : List ℕ
+  sheet = m.sheet.now
+
+  -- a section as it is cut from the one and from the other
+  cut : (from : Counts → List ℕ → List ℕ) → from s.counts s.states.now ≡ from counts sheet
+  cut from = ap₂ from e.0 e.1
+
+  pub sigma_same : sigma_from s.counts s.states.now ≡ sigma_from counts sheet
+  sigma_same = cut sigma_from
+
+  pub gamma_same : gamma_from s.counts s.states.now ≡ gamma_from counts sheet
+  gamma_same = cut gamma_from
+
+  pub header_same : header_from s.counts s.states.now ≡ header_from counts sheet
+  header_same = cut header_from
+
+  pub trailing_same : trailing_from s.counts s.states.now ≡ trailing_from counts sheet
+  trailing_same = cut trailing_from
+
+  pub rules_same : rules_from s.counts s.states.now ≡ rules_from counts sheet
+  rules_same = cut rules_from
 
 -- the letters Σ and Γ
 pub sigma-scalar : scalar 0x3A3 ≡ true
@@ -50,22 +81,23 @@ module _ (a : Answer) where
 
   abbrev sections : Piece
   sections =
-      each comment_line (map (text_in a.text) (groups 2 n.header (header_from a)))
+      each comment_line (map (text_in a.text) (groups 2 n.header (header_from n a.sheet)))
       ⨾ head_lines a.text a.head
-      ⨾ declared_lines a.text a.head a.sheet (sigma_from a) (gamma_from a)
-      ⨾ each rule_lines (map (rule_in a.text) (records n.rules (rules_from a)))
-      ⨾ each comment_line (map (text_in a.text) (groups 2 n.trailing (trailing_from a)))
+      ⨾ declared_lines a.text a.head a.sheet (sigma_from n a.sheet) (gamma_from n a.sheet)
+      ⨾ each rule_lines (map (rule_in a.text) (records n.rules (rules_from n a.sheet)))
+      ⨾ each comment_line (map (text_in a.text) (groups 2 n.trailing (trailing_from n a.sheet)))
 
   pieces-same : (rest : List ℕ) → pieces (content_of_answer a) rest ≡ sections rest
   unfolding pieces content_of_answer head_lines declared_lines
   pieces-same rest =
-      ap (λ r. each comment_line (map (text_in a.text) (groups 2 n.header (header_from a))) (head_lines a.text a.head r))
+      ap (λ r. each comment_line (map (text_in a.text) (groups 2 n.header (header_from n a.sheet))) (head_lines a.text a.head r))
       (states-same a.head.declared.states a.text (groups 3 n.states a.sheet) _)
 
-  pub form-written : (header trailing rows : List ℕ) (o b c d x r : Output) → header ≡ header_from a → trailing ≡ trailing_from a → rows ≡ rules_from a
+  pub form-written : (header trailing rows : List ℕ) (o b c d x r : Output) → header ≡ header_from n a.sheet → trailing ≡ trailing_from n a.sheet
+      → rows ≡ rules_from n a.sheet
       → Writes (each comment_line (map (text_in a.text) (groups 2 n.header header))) o b
       → Writes (head_lines a.text a.head) b c
-      → Writes (declared_lines a.text a.head a.sheet (sigma_from a) (gamma_from a)) c d
+      → Writes (declared_lines a.text a.head a.sheet (sigma_from n a.sheet) (gamma_from n a.sheet)) c d
       → Writes (each rule_lines (map (rule_in a.text) (records n.rules rows))) d x
       → Writes (each comment_line (map (text_in a.text) (groups 2 n.trailing trailing))) x r
       → Writes (pieces (content_of_answer a)) o r
@@ -73,9 +105,9 @@ module _ (a : Answer) where
       let v₁ = subst (λ l. Writes (each comment_line (map (text_in a.text) (groups 2 n.header l))) o b) e₁ w₁ in
       let v₄ = subst (λ l. Writes (each rule_lines (map (rule_in a.text) (records n.rules l))) d x) e₃ w₄ in
       let v₅ = subst (λ l. Writes (each comment_line (map (text_in a.text) (groups 2 n.trailing l))) x r) e₂ w₅ in
-      same pieces-same (v₁ ▹ w₂ ▹ w₃ ▹ v₄ ▹ v₅)
+      alike pieces-same (v₁ ▹ w₂ ▹ w₃ ▹ v₄ ▹ v₅)
 
 -- what is lent is the form at the end, and what was counted its length
 pub form-held : (a : Answer) (o r : Output) → r.at < 18446744073709551616 → Writes (pieces (content_of_answer a)) o r → held r ≡ appended (held o) (encode (plain (content_of_answer a)))
 unfolding plain encode
-form-held a o r h w = sym (appended-nil (held r) h) ∙ w.written []
+form-held a o r h w = sym (appended-nil (held r) h) ∙ w.put []

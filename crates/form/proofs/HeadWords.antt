@@ -8,7 +8,7 @@ use mathlib.Core.List.{List, [], ◌∷◌, ◌++◌}
 use borrow.Author.Tests.{lt-ltb, le-ltb}
 use Rattle.chars.specs.Utf8.{encode}
 use Rattle.chars.proofs.Tests.{lt-or-ge}
-use Rattle.language.specs.Layout.{Head}
+use Rattle.machine.specs.declared.Head.{Head}
 use Rattle.language.specs.Plain.{say, symbol, string, decimal_from, decimal, kind_name, decoder}
 use Rattle.language.specs.Agreement.{string_at}
 use Rattle.machine.specs.declared.Kind.{Kind}
@@ -17,10 +17,10 @@ use Rattle.emit.specs.declared.Output.{Output}
 use Rattle.emit.specs.Decimal as E
 use Rattle.emit.proofs.Digits.{digits-rest, digits-any}
 use Rattle.emit.specs.Appends.{Appends}
-use Rattle.pieces.specs.Writes.{Writes}
-use Rattle.machine.specs.Head.{kind_in}
+use Rattle.form_strings.specs.Writes.{Writes}
 use Rattle.form.specs.Sections.{head_lines, blank_line}
-use Rattle.pieces.proofs.Chain.{ascii, known, spoken, none, ◌▹◌}
+use Rattle.emit.proofs.Chain.{none, ◌▹◌}
+use Rattle.form_strings.proofs.Chain.{ascii, known, spoken}
 
 -- ---- the number of tapes
 
@@ -41,19 +41,19 @@ number-written n m o r b e a =
 -- ---- kind
 
 module _ (k : Kind) (o r : Output) where
-  pub kind_acceptor : k ≡ Acceptor → Appends (say "acceptor" []) o r → Writes (say (kind_name (kind_in k))) o r
+  pub kind_acceptor : k ≡ Acceptor → Appends (say "acceptor" []) o r → Writes (say (kind_name k)) o r
   unfolding encode
   kind_acceptor e a = rw e (spoken "acceptor" (λ rest. refl) a)
 
-  pub kind_transducer : k ≡ Transducer → Appends (say "transducer" []) o r → Writes (say (kind_name (kind_in k))) o r
+  pub kind_transducer : k ≡ Transducer → Appends (say "transducer" []) o r → Writes (say (kind_name k)) o r
   unfolding encode
   kind_transducer e a = rw e (spoken "transducer" (λ rest. refl) a)
 
-  pub kind_enumerator : k ≡ Enumerator → Appends (say "enumerator" []) o r → Writes (say (kind_name (kind_in k))) o r
+  pub kind_enumerator : k ≡ Enumerator → Appends (say "enumerator" []) o r → Writes (say (kind_name k)) o r
   unfolding encode
   kind_enumerator e a = rw e (spoken "enumerator" (λ rest. refl) a)
 
-  pub kind_beaver : k ≡ Beaver → Appends (say "beaver" []) o r → Writes (say (kind_name (kind_in k))) o r
+  pub kind_beaver : k ≡ Beaver → Appends (say "beaver" []) o r → Writes (say (kind_name k)) o r
   unfolding encode
   kind_beaver e a = rw e (spoken "beaver" (λ rest. refl) a)
 
@@ -62,7 +62,7 @@ module _ (k : Kind) (o r : Output) where
 module _ (d : Bool) (o : Output) where
   pub blank_none : (c : ℕ) → d ≡ false → Writes (blank_line d c) o o
   unfolding blank_line
-  blank_none c e = rw e (none o)
+  blank_none c e = rw e none
 
   pub blank_written : (c : ℕ) (a b r : Output) → d ≡ true → Appends (say "blank = " []) o a → Writes (symbol c) a b → Appends (say "\n" []) b r → Writes (blank_line d c) o r
   unfolding blank_line encode

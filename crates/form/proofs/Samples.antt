@@ -1,4 +1,5 @@
--- Plain forms of texts, computed: what crates/language's own samples of the form leave out. Kinds, binary outputs, a name that Q repeats, a blank and a Γ as they are declared, comments of expanded rules.
+-- Plain forms of texts, computed: what crates/language's own samples of the form leave out. Kinds, binary outputs, a name that Q
+-- repeats, a blank and a Γ as they are declared, comments of expanded rules.
 use Prim.Native.Nat.{ℕ}
 use Prim.Native.String.{String}
 use mathlib.Core.List.{List, [], ◌∷◌, map}

@@ -2,8 +2,7 @@
 use Rattle.std.specs.Prelude.{ℕ, List}
 use Rattle.language.specs.Agreement.{Answer}
 use Rattle.machine.specs.declared.Head.{Head}
-use Rattle.machine.specs.Head.{head_in}
 
 -- an answer, from what a caller has
 abbrev pub answer : Head → List ℕ → List ℕ → Answer
-answer h sheet text = record { head = head_in h; sheet = sheet; text = text }
+answer h sheet text = record { head = h; sheet = sheet; text = text }

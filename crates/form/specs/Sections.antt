@@ -1,10 +1,10 @@
 -- The plain form in sections, from the head, the words of each section on, and the text.
 use Rattle.std.specs.Prelude.{ℕ, Bool, List, ◌∷◌, map}
 use Rattle.lexer.specs.Tokens.{Span}
-use Rattle.language.specs.Layout.{Head}
+use Rattle.machine.specs.declared.Head.{Head}
 use Rattle.language.specs.Plain.{Piece, ◌⨾◌, say, end, only, verbatim, symbol, string, decimal, kind_name, decoder, name_set, symbol_set, final_names}
 use Rattle.language.specs.Agreement.{groups, characters_at, string_at, state_in, text_in}
-use Rattle.form_parts.specs.Places.{column}
+use Rattle.form_lists.specs.Places.{column}
 
 -- machine, kind, input, output and tapes
 unfoldable pub head_lines : List ℕ → Head → Piece

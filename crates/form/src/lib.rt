@@ -1,31 +1,33 @@
 // The plain form of a machine (paper 01), from the head, the sheet and the text that a reading call answered with.
-// Each function appends one piece of the form to a lent output, as crate `emit` does: stored where there is room, counted in any case.
+// Each function appends one piece of the form to a lent output, as crate `emit` does: stored where there is room, counted in any
+// case.
 #![tactic(auto)]
 
 ghost use Rattle.std.specs.Prelude.{true, ◌≡◌};
-ghost use Rattle.chars.specs.Utf8.{scalar, scalars, encode};
+ghost use Rattle.chars.specs.Utf8.{scalar, encode};
+ghost use Rattle.chars.specs.Decoded.{scalars};
 ghost use Rattle.language.specs.Plain.{say, decimal, kind_name, decoder, pieces, plain};
 ghost use Rattle.language.specs.Agreement.{groups, content_of_answer};
-ghost use Rattle.machine.specs.Head.{kind_in, decoder_in, head_in};
 ghost use Rattle.emit.specs.Output.{output, appended};
-ghost use Rattle.pieces.specs.Writes.{Writes};
-ghost use Rattle.form_parts.specs.Places.{Every, Utf8At, NameIn, column};
+ghost use Rattle.sheet_view.specs.Sections.{sigma_from, gamma_from};
+ghost use Rattle.form_strings.specs.Writes.{Writes};
+ghost use Rattle.form_lists.specs.Places.{Every, Utf8At, NameIn, column};
 ghost use Rattle.form.specs.Answers.{answer};
 ghost use Rattle.form.specs.Sections.{head_lines, states_line, symbols_line, blank_line, start_line, finals_line, declared_lines};
 ghost use Rattle.form.specs.WellFormed.{DecoderFormed, WellFormed, formed_one};
-ghost use Rattle.form.specs.WellFormed.{sigma_from, gamma_from, header_from, trailing_from, rules_from};
 
 use emit::Output;
-use form_parts::{comment_lines, final_names, names, string, symbols, verbatim};
+use form_lists::{comment_lines, final_names, names, string, symbols, verbatim};
+use form_rules::rules;
+use form_strings::{character, symbol};
 use machine::{BitOrder, Decoder, Head, Kind, Span};
-use pieces::{character, symbol};
-use rule_form::rules;
-use sheet_words::after;
+use sheet_layout::{CODE, SYMBOL_WORDS};
+use sheet_view::sections::Sections;
 
 // ---- the lines before the rules
 
-// These take what a line says, and no machine: a contract of a line then speaks of its own words alone. `declared` is what the line tests;
-// no Option holds it and the value together, since the head has a blank and a start also where none is declared.
+// These take what a line says, and no machine: a contract of a line then speaks of its own words alone. `declared` is what the
+// line tests; no Option holds it and the value together, since the head has a blank and a start also where none is declared.
 
 // The number of tapes.
 fn number(out: &mut Output, n: u8)
@@ -36,7 +38,7 @@ fn number(out: &mut Output, n: u8)
 
 // The name of a kind.
 fn kind(out: &mut Output, k: Kind)
-    ensures { Writes (say (kind_name (kind_in k))) out.old out.new }
+    ensures { Writes (say (kind_name k)) out.old out.new }
 {
     match k {
         Kind::Acceptor => out.bytes(b"acceptor"),
@@ -47,10 +49,10 @@ fn kind(out: &mut Output, k: Kind)
 }
 
 // How the output is read.
-#[tactic(auto, using(pieces::proofs::Chain::chain))]
+#[tactic(auto, using(form_strings::proofs::Chain::chain))]
 fn decoder(out: &mut Output, d: Decoder)
-    requires { DecoderFormed (decoder_in d) }
-    ensures { Writes (decoder (decoder_in d)) out.old out.new }
+    requires { DecoderFormed d }
+    ensures { Writes (decoder d) out.old out.new }
 {
     match d {
         Decoder::Word => out.bytes(b"word"),
@@ -64,7 +66,7 @@ fn decoder(out: &mut Output, d: Decoder)
 }
 
 // `Q`, if declared.
-#[tactic(auto, using(pieces::proofs::Chain::chain), unfolding(crate::specs::Sections::states_line, language::specs::Plain::name_set))]
+#[tactic(auto, using(form_strings::proofs::Chain::chain), unfolding(crate::specs::Sections::states_line, language::specs::Plain::name_set))]
 fn states_line(out: &mut Output, text: &[u8], declared: bool, n: u32, words: &[u32])
     requires { Every (NameIn text.now) (groups 3 n words.now) }
     ensures { Writes (states_line text.now declared n words.now) out.old out.new }
@@ -77,15 +79,16 @@ fn states_line(out: &mut Output, text: &[u8], declared: bool, n: u32, words: &[u
 }
 
 // `Σ` or `Γ`, by its letter, if declared.
-#[tactic(auto, using(pieces::proofs::Chain::chain), unfolding(crate::specs::Sections::symbols_line, language::specs::Plain::symbol_set))]
+#[tactic(auto, using(form_strings::proofs::Chain::chain), unfolding(crate::specs::Sections::symbols_line, language::specs::Plain::symbol_set))]
 fn symbols_line(out: &mut Output, letter: u32, declared: bool, n: u32, words: &[u32])
-    requires { (scalar letter ≡ true) × (declared ≡ true → scalars (column 3 0 n words.now) ≡ true) }
+    requires { (scalar letter ≡ true)
+        × (declared ≡ true → scalars (column 3 0 n words.now) ≡ true) }
     ensures { Writes (symbols_line letter declared n words.now) out.old out.new }
 {
     if declared {
         character(out, letter);
         out.bytes(b" = {");
-        symbols(out, words, 3, 0, n);
+        symbols(out, words, SYMBOL_WORDS, CODE, n);
         out.bytes(b"}\n");
     }
 }
@@ -103,7 +106,7 @@ fn blank_line(out: &mut Output, declared: bool, c: u32)
 }
 
 // `start`, if declared.
-#[tactic(auto, using(pieces::proofs::Chain::chain), unfolding(crate::specs::Sections::start_line))]
+#[tactic(auto, using(form_strings::proofs::Chain::chain), unfolding(crate::specs::Sections::start_line))]
 fn start_line(out: &mut Output, text: &[u8], declared: bool, p: Span)
     requires { Utf8At text.now p }
     ensures { Writes (start_line text.now declared p) out.old out.new }
@@ -116,7 +119,7 @@ fn start_line(out: &mut Output, text: &[u8], declared: bool, p: Span)
 }
 
 // `F`, which is always there.
-#[tactic(auto, using(pieces::proofs::Chain::chain), unfolding(crate::specs::Sections::finals_line, language::specs::Plain::name_set))]
+#[tactic(auto, using(form_strings::proofs::Chain::chain), unfolding(crate::specs::Sections::finals_line, language::specs::Plain::name_set))]
 fn finals_line(out: &mut Output, text: &[u8], n: u32, words: &[u32])
     requires { Every (NameIn text.now) (groups 3 n words.now) }
     ensures { Writes (finals_line text.now n words.now) out.old out.new }
@@ -140,45 +143,20 @@ struct Machine<'a> {
 impl Machine<'_> {
     ghost use Rattle.form.specs.Machines.{answer_of};
 
-    // The words of Σ, and all that follow.
-    fn sigma(&self) -> &[u32]
-        ensures { result.now ≡ sigma_from (answer_of self.now) }
+    // The sections of its sheet.
+    fn sections(&self) -> Sections<'_>
+        ensures { (result.counts ≡ self.now.head.counts)
+            × (result.states.now ≡ self.now.sheet.now) }
     {
-        after(self.sheet, 3 * self.head.counts.states as usize)
-    }
-
-    // Those of Γ.
-    fn gamma(&self) -> &[u32]
-        ensures { result.now ≡ gamma_from (answer_of self.now) }
-    {
-        after(self.sigma(), 3 * self.head.counts.sigma as usize)
-    }
-
-    // Those of the header's comments.
-    fn header(&self) -> &[u32]
-        ensures { result.now ≡ header_from (answer_of self.now) }
-    {
-        let n = self.head.counts;
-        after(self.gamma(), 3 * n.gamma as usize + 2 * n.finals as usize)
-    }
-
-    // Those of the trailing comments.
-    fn trailing(&self) -> &[u32]
-        ensures { result.now ≡ trailing_from (answer_of self.now) }
-    {
-        after(self.header(), 2 * self.head.counts.header as usize)
-    }
-
-    // Those of the rules.
-    fn rules(&self) -> &[u32]
-        ensures { result.now ≡ rules_from (answer_of self.now) }
-    {
-        after(self.trailing(), 2 * self.head.counts.trailing as usize)
+        Sections {
+            counts: self.head.counts,
+            states: self.sheet,
+        }
     }
 
     // `machine`, `kind`, `input`, `output` and `tapes`.
     fn head_lines(&self, out: &mut Output)
-        ensures { Writes (head_lines self.now.text.now (head_in self.now.head)) out.old out.new }
+        ensures { Writes (head_lines self.now.text.now self.now.head) out.old out.new }
     {
         out.bytes(b"machine ");
         string(out, self.text, self.head.name);
@@ -195,14 +173,16 @@ impl Machine<'_> {
 
     // All that is said only if declared, and the final states.
     fn declared_lines(&self, out: &mut Output)
-        ensures { Writes (declared_lines self.now.text.now (head_in self.now.head)
-            self.now.sheet.now (sigma_from (answer_of self.now)) (gamma_from (answer_of self.now))) out.old out.new }
+        ensures { Writes (declared_lines self.now.text.now self.now.head self.now.sheet.now
+            (sigma_from (answer_of self.now).head.counts self.now.sheet.now)
+            (gamma_from (answer_of self.now).head.counts self.now.sheet.now)) out.old out.new }
     {
         let said = self.head.declared;
         let n = self.head.counts;
+        let sheet = self.sections();
         states_line(out, self.text, said.states, n.states, self.sheet);
-        symbols_line(out, 0x3A3, said.input_alphabet, n.sigma, self.sigma());
-        symbols_line(out, 0x393, said.tape_alphabet, n.gamma, self.gamma());
+        symbols_line(out, 0x3A3, said.input_alphabet, n.sigma, sheet.sigma());
+        symbols_line(out, 0x393, said.tape_alphabet, n.gamma, sheet.gamma());
         blank_line(out, said.blank, self.head.blank);
         start_line(out, self.text, said.start, self.head.start);
         finals_line(out, self.text, n.states, self.sheet);
@@ -213,11 +193,12 @@ impl Machine<'_> {
         ensures { Writes (pieces (content_of_answer (answer_of self.now))) out.old out.new }
     {
         let n = self.head.counts;
-        comment_lines(out, self.text, self.header(), n.header);
+        let sheet = self.sections();
+        comment_lines(out, self.text, sheet.header(), n.header);
         self.head_lines(out);
         self.declared_lines(out);
-        rules(out, self.text, self.rules(), n.rules);
-        comment_lines(out, self.text, self.trailing(), n.trailing);
+        rules(out, self.text, sheet.rules(), n.rules);
+        comment_lines(out, self.text, sheet.trailing(), n.trailing);
     }
 }
 

@@ -60,7 +60,7 @@ module _ {n : Names} {repeats : Bool} where
         marked = b.marked ∙ ap (λ (l : List ℕ). names_mark firsts ts l ys) a.marked ∙ sym (marks_append firsts ts repeats m xs ys);
       }
 
-  -- the same names
+  -- names that equal those that were stored were stored
   pub named_as : {xs ys m p : List ℕ} {s t : Sheet} → xs ≡ ys → Named n repeats ys m p s t → Named n repeats xs m p s t
   named_as {xs} {ys} {m} {p} {s} {t} e u = subst (λ (l : List ℕ). Named n repeats l m p s t) (sym e) u
 

@@ -7,12 +7,11 @@ use native.Mathlib.Omega.{arith}
 use borrow.Author.Tests.{lt-ltb, le-ltb}
 use lib.ListN.{length, get_or, take, drop, replicate, length-take}
 use Rattle.diag.specs.declared.Span.{Span}
-use Rattle.language.specs.Layout.{flat}
+use Rattle.language.specs.Layout.{flat, place_words}
 use Rattle.tokens.specs.declared.Token.{Token}
 use Rattle.parser.specs.Row.{peek}
 use Rattle.parser.specs.Views.{is_state}
 use Rattle.assembler.specs.Rows.{place_of}
-use Rattle.sheet.specs.Comments.{span_words}
 use Rattle.sheet.specs.declared.put.Sheet.{Sheet}
 use Rattle.sheet.specs.Puts.{Puts}
 use Rattle.sheet.proofs.Puts.{puts_none, puts_as, ◌▹◌}
@@ -41,7 +40,7 @@ module _ (ts : List Token) (f x : ℕ) (out out₀ : Sheet) (p : Placing ts f x 
     state_is : is_state (peek ts x) ≡ b
     state_is = ap is_state (sym at) ∙ sym test
 
-    pub placing_state : (p : Span) (out' then : Sheet) → then ≡ out' → b ≡ true → p ≡ place_of t → Puts (span_words p) out out' → Placing ts f (x + 1) then out₀
+    pub placing_state : (p : Span) (out' then : Sheet) → then ≡ out' → b ≡ true → p ≡ place_of t → Puts (place_words p) out out' → Placing ts f (x + 1) then out₀
     unfolding place_at
     placing_state p out' then o e g u = rw o (next out' (puts_as (rw (state_is, e, g, at)) u))
 

@@ -1,4 +1,5 @@
--- How many words the sections of states and finals may have, from the number of tokens: what a caller needs to know that its index stays small.
+-- How many words the sections of states and finals may have, from the number of tokens: what a caller
+-- needs to know that its index stays small.
 use mathlib.Core.Bool.{Bool, true, false, cond}
 use mathlib.Core.List.{List, [], ◌∷◌, ◌++◌}
 use Prim.Native.Nat.{ℕ, suc, ◌+◌, ◌*◌, ◌≤◌}
@@ -8,10 +9,9 @@ use lib.ListN.{length, get_or, drop, length-append, length-drop}
 use Rattle.tokens.specs.declared.Token.{Token}
 use Rattle.parser.specs.Row.{peek}
 use Rattle.parser.specs.Views.{is_state}
-use Rattle.language.specs.Layout.{flat}
+use Rattle.language.specs.Layout.{flat, place_words}
 use Rattle.assembler.specs.Rows.{place_of}
 use Rattle.assembler.specs.Entries.{entries}
-use Rattle.sheet.specs.Comments.{span_words}
 use Rattle.infer.specs.Page.{indices_from, indices_in}
 use Rattle.infer.specs.States.{mark_of, name_words, mentions, start_name, name_adds, name_marks, names_add, finals, inferred, states_add, section, firsts_in, marks_in, state_section, place_at, final_section}
 use Rattle.infer.proofs.WalkLaws.{mentions-all}
@@ -85,7 +85,7 @@ unfolding flat place_at
 places_width ts [] = omega arith
 places_width ts (x ∷ xs) = omega (arith, length-append (place_at ts x) (flat (place_at ts) xs), go (is_state (peek ts x)), places_width ts xs)
   where
-    go : (b : Bool) → length (cond b (span_words (place_of (peek ts x))) []) ≤ 2
+    go : (b : Bool) → length (cond b (place_words (place_of (peek ts x))) []) ≤ 2
     go true = omega arith
     go false = omega arith
 

@@ -1,4 +1,5 @@
-// The names of a row of tokens, and their marks: 1 if F lists the name, and 2 more once it was met. The marks are words of the lent work, and so numbers.
+// The names of a row of tokens, and their marks: 1 if F lists the name, and 2 more once it was met. The marks
+// are words of the lent work, and so numbers.
 ghost use Rattle.std.specs.Prelude.{◌≡◌, false, [], ◌∷◌, ◌<◌, ◌≤◌, length};
 ghost use Rattle.parser.specs.Row.{peek};
 ghost use Rattle.tokens.specs.Listed.{tokens_of};
@@ -11,12 +12,20 @@ ghost use Rattle.infer.specs.States.{states_add, states_mark, section};
 
 use assembler::{declarations, entry, seek};
 use lexer::kind;
-use parser::{ItemKind, view};
+use parser::{DECLARATIONS, ItemKind, view};
 use sheet::put::Sheet;
 use tokens::{Token, Tokens};
 
-// The tokens of a row with entries, and at a name's index that of the first token with the same characters: the index of its mark.
-// The marks are no field: each method would have to say then that it keeps the tokens and the firsts. Nor is the sheet, which three methods do without.
+// The mark of a name that F lists.
+const FINAL: u32 = 1;
+
+// What the mark of a name is raised by once it was met.
+const MET: u32 = 2;
+
+// The tokens of a row with entries, and at a name's index that of the first token with
+// the same characters: the index of its mark.
+// The marks are no field: each method would have to say then that it keeps the tokens and the firsts. Nor is
+// the sheet, which three methods do without.
 #[derive(Clone, Copy)]
 pub struct Names<'a> {
     pub tokens: Tokens<'a>,
@@ -27,21 +36,22 @@ pub struct Names<'a> {
 }
 
 impl<'a> Names<'a> {
-    ghost use Rattle.infer.specs.Names.{row_of, Named};
+    ghost use Rattle.infer.specs.Names.{row_of, MarksFit, Named};
 
-    // The name at an index is listed in F, if a state stands there. Crate assembler's mark_state does this over Names of its own, which promise more.
+    // The name at an index is listed in F, if a state stands there. Crate assembler's mark_state does this
+    // over Names of its own, which promise more.
     fn list_final(&self, x: usize, marks: &mut [u32])
-        requires marks { length self.now.firsts.now ≤ length marks.old }
+        requires marks { MarksFit self.now marks.old }
         ensures { marks.new ≡ list_final self.now.firsts.now (row_of self.now) marks.old x }
     {
         if view::is_state(self.tokens.at(x)) {
-            marks[self.firsts[x] as usize] = 1;
+            marks[self.firsts[x] as usize] = FINAL;
         }
     }
 
     // The names of the line at an index are listed in F.
     fn list_finals(&self, line: u32, marks: &mut [u32])
-        requires marks { length self.now.firsts.now ≤ length marks.old }
+        requires marks { MarksFit self.now marks.old }
         ensures { marks.new ≡ list_finals self.now.firsts.now (row_of self.now) marks.old (indices_in (row_of self.now) line) }
     {
         for x in line as usize + 1..self.tokens.len() {
@@ -54,7 +64,7 @@ impl<'a> Names<'a> {
 
     // The name at an index, if a state stands there: stored where it is met for the first time or Q repeats it.
     fn name(&self, x: usize, repeats: bool, marks: &mut [u32], out: &mut Sheet)
-        requires marks { length self.now.firsts.now ≤ length marks.old }
+        requires marks { MarksFit self.now marks.old }
         ensures { Named self.now repeats (x ∷ []) marks.old marks.new out.old out.new }
     {
         let t = self.tokens.at(x);
@@ -63,8 +73,8 @@ impl<'a> Names<'a> {
         }
         let k = self.firsts[x] as usize;
         let m = marks[k];
-        if m < 2 {
-            marks[k] = m + 2;
+        if m < MET {
+            marks[k] = m + MET;
             out.words(&[t.start, t.end, m]);
         } else if repeats {
             out.words(&[t.start, t.end, 0]);
@@ -72,9 +82,10 @@ impl<'a> Names<'a> {
     }
 
     // The names of the line at an index.
-    // The loops here, of list_finals and of finals::places are three: one with a closure would have to say in its contract what all calls of it do.
+    // The loops here, of list_finals and of finals::places are three: one with a closure would have to say
+    // in its contract what all calls of it do.
     fn names_in(&self, line: u32, repeats: bool, marks: &mut [u32], out: &mut Sheet)
-        requires marks { length self.now.firsts.now ≤ length marks.old }
+        requires marks { MarksFit self.now marks.old }
         ensures { Named self.now repeats (indices_in (row_of self.now) line) marks.old marks.new out.old out.new }
     {
         for x in line as usize + 1..self.tokens.len() {
@@ -85,9 +96,10 @@ impl<'a> Names<'a> {
         }
     }
 
-    // The names that the line at an index, which begins with the token t, mentions, if it is a rule: from, and to, whose index its comma holds.
+    // The names that the line at an index, which begins with the token t, mentions, if it is a rule:
+    // from, and to, whose index its comma holds.
     fn mention(&self, e: usize, t: Token, marks: &mut [u32], out: &mut Sheet)
-        requires marks { length self.now.firsts.now ≤ length marks.old }
+        requires marks { MarksFit self.now marks.old }
         requires inside { e < self.now.tokens.count }
         requires first { t ≡ peek (row_of self.now) e }
         ensures { Named self.now false (mention_at (row_of self.now) e) marks.old marks.new out.old out.new }
@@ -95,14 +107,14 @@ impl<'a> Names<'a> {
         if t.kind != entry::RULE {
             return;
         }
-        let comma = self.tokens.at(e + 3);
-        self.name(e + 2, false, marks, out);
+        let comma = self.tokens.at(e + entry::PARTS);
+        self.name(e + entry::FROM, false, marks, out);
         self.name(comma.start as usize, false, marks, out);
     }
 
     // The names that all rules mention. Where a line ends is found while it is read, so that no `for` counts the steps.
     fn mentions(&self, marks: &mut [u32], out: &mut Sheet)
-        requires marks { length self.now.firsts.now ≤ length marks.old }
+        requires marks { MarksFit self.now marks.old }
         ensures { Named self.now false (all_mentions (row_of self.now)) marks.old marks.new out.old out.new }
     {
         let mut e = 0;
@@ -116,17 +128,17 @@ impl<'a> Names<'a> {
 
     // The name of a declared start.
     fn start_name(&self, start: u32, marks: &mut [u32], out: &mut Sheet)
-        requires marks { length self.now.firsts.now ≤ length marks.old }
+        requires marks { MarksFit self.now marks.old }
         ensures { Named self.now false (start_name (row_of self.now) start) marks.old marks.new out.old out.new }
     {
         if let Some(s) = declarations::line(start, self.tokens.len()) {
-            self.name(s + 2, false, marks, out);
+            self.name(s + entry::VALUE, false, marks, out);
         }
     }
 
     // The states where Q is not declared: the start, from and to of each rule, then F.
     fn inferred(&self, start: u32, finals: u32, marks: &mut [u32], out: &mut Sheet)
-        requires marks { length self.now.firsts.now ≤ length marks.old }
+        requires marks { MarksFit self.now marks.old }
         ensures { Named self.now false (inferred (row_of self.now) start finals) marks.old marks.new out.old out.new }
     {
         self.start_name(start, marks, out);
@@ -134,9 +146,10 @@ impl<'a> Names<'a> {
         self.names_in(finals, false, marks, out);
     }
 
-    // Marks the names that F lists, and no other: a mark's index is that of a token, so no more than there are tokens are cleared.
-    pub(crate) fn finals(&self, first: &[u32; 11], marks: &mut [u32])
-        requires marks { length self.now.firsts.now ≤ length marks.old }
+    // Marks the names that F lists, and no other: a mark's index is that of a token, so
+    // no more than there are tokens are cleared.
+    pub(crate) fn finals(&self, first: &[u32; DECLARATIONS], marks: &mut [u32])
+        requires marks { MarksFit self.now marks.old }
         ensures { marks.new ≡ finals self.now.firsts.now (row_of self.now) first.now marks.old }
     {
         marks[..self.tokens.len()].fill(0);
@@ -144,8 +157,8 @@ impl<'a> Names<'a> {
     }
 
     // The states, once the finals are marked.
-    pub(crate) fn states(&self, first: &[u32; 11], marks: &mut [u32], out: &mut Sheet)
-        requires marks { length self.now.firsts.now ≤ length marks.old }
+    pub(crate) fn states(&self, first: &[u32; DECLARATIONS], marks: &mut [u32], out: &mut Sheet)
+        requires marks { MarksFit self.now marks.old }
         ensures puts { Puts (states_add self.now.firsts.now (row_of self.now) first.now marks.old) out.old out.new }
         ensures marked { marks.new ≡ states_mark self.now.firsts.now (row_of self.now) first.now marks.old }
     {
@@ -158,8 +171,8 @@ impl<'a> Names<'a> {
     }
 
     // The section of states, from the first declarations.
-    pub fn section(&self, first: &[u32; 11], marks: &mut [u32], out: &mut Sheet)
-        requires marks { length self.now.firsts.now ≤ length marks.old }
+    pub fn section(&self, first: &[u32; DECLARATIONS], marks: &mut [u32], out: &mut Sheet)
+        requires marks { MarksFit self.now marks.old }
         ensures { Puts (section self.now.firsts.now (row_of self.now) first.now marks.old) out.old out.new }
     {
         self.finals(first, marks);

@@ -3,13 +3,14 @@ use Prim.Native.Nat.{ℕ, ◌+◌, ◌*◌, ◌<◌}
 use native.Mathlib.Omega.{arith}
 use mathlib.Core.Bool.{Bool, true, false, not}
 use mathlib.Core.List.{List, [], ◌∷◌, ◌++◌, map, map-map, append_assoc, append-nil}
-use mathlib.Core.Option.{Option, none, some}
+use Rattle.std.specs.Prelude.{Option, None, Some}
 use mathlib.Core.Path.{◌≡◌, refl, ap, ap₂, ◌∙◌, sym}
 use borrow.Author.Tests.{ne_eqb}
 use lib.Dec.{eqb}
 use lib.ListN.{length, get_or, take, drop, length-append}
 use lib.Seq.{take_at, drop_at, drop-append-add}
-use Rattle.chars.specs.Utf8.{scalars, sizes, encode, decode, valid_up_to}
+use Rattle.chars.specs.Utf8.{sizes, encode, decode, valid_up_to}
+use Rattle.chars.specs.Decoded.{scalars}
 use Rattle.lexer.specs.Text.{codes, same}
 use Rattle.chars.proofs.Theorems.{sizes-append, length-encode, decode-scalars, valid_whole}
 use Rattle.lexer.specs.Tokens.{TokenKind, Token, Span, unescape, tokens, word, number, quoted, str, sign, comment, newline, unterminated_string, unterminated_quote}
@@ -131,24 +132,24 @@ module _ (cs : List ℕ) (valid : scalars cs ≡ true) (short : sizes cs < 42949
 
   string_back : (o : Option (Located Span (List ℕ))) → Maybe (placed_in cs).text o → string_at (encode cs) (place_or_none o) ≡ value_or o
   unfolding string_at place_or_none value_or characters_at decode unescape
-  string_back none h = refl
-  string_back (some l) h = ap unescape (stands_at cs l.place h.0 valid h.2) ∙ encloses_value h.0 l.value h.1
+  string_back None h = refl
+  string_back (Some l) h = ap unescape (stands_at cs l.place h.0 valid h.2) ∙ encloses_value h.0 l.value h.1
 
   start_back : (o : Option (Located Span (List ℕ))) → Maybe (placed_in cs).name o → characters_at (encode cs) (place_or_none o) ≡ value_or o
   unfolding place_or_none value_or characters_at decode
-  start_back none h = refl
-  start_back (some l) h = name_back l h
+  start_back None h = refl
+  start_back (Some l) h = name_back l h
 
   starts_below : (p : Span) (w : List ℕ) → Stands cs p w → p.start < 4294967295
   starts_below p w h = omega (arith, short, h.start_is, ap sizes h.parts, sizes-append h.before (w ++ h.behind))
 
   comment_back : (o : Option (Located Span (List ℕ))) → Maybe (placed_in cs).note o → comment_at (encode cs) (place_or_none o) ≡ optional o
   unfolding comment_at place_or_none optional
-  comment_back none h = refl
-  comment_back (some l) h =
+  comment_back None h = refl
+  comment_back (Some l) h =
       let below : l.place.start < 4294967295 = starts_below l.place l.value h in
       let off : eqb l.place.start 4294967295 ≡ false = ne_eqb l.place.start 4294967295 (λ q. omega (arith, below, q)) in
-      rw (off, comment_at) (ap some (name_back l h))
+      rw (off, comment_at) (ap Some (name_back l h))
 
   rule_back : (r : Rule Span) → GoodRuleOf (placed_in cs) r → rule_in (encode cs) (rule_words r) ≡ rule_content r
   unfolding rule_in rule_words rule_content values

@@ -2,11 +2,12 @@
 use Prim.Native.Nat.{ℕ}
 use mathlib.Core.Bool.{Bool, true, false, ◌||◌}
 use mathlib.Core.List.{List, [], ◌∷◌, ◌++◌}
-use mathlib.Core.Option.{Option, none, some}
+use Rattle.std.specs.Prelude.{Option, None, Some, unwrap_or, option_to_list}
 use mathlib.Core.Path.{◌≡◌, refl, sym, subst}
 use Rattle.language.specs.Machine.{Located, Rule, Machine}
 use Rattle.language.specs.Lines.{RawSymbol, RawTransition, Text, Item, machine_item, input_item, kind_item, output_item, tapes_item, states_item, final_item, input_alphabet_item, tape_alphabet_item, blank_item, start_item, transition_item, Line, blank_line, comment_line, item_line, error_line}
-use Rattle.language.specs.Assembly.{Parts, parts, items, first, found, or_else, blank_of, states_in, finals_in, RuleLine, Body, of_option, add_header, add_rule, at_end, leads, unled, attach_item, attach, body_of, kept, choices, rule_of, dressed, expand, expand_all}
+use Rattle.language.specs.Assembly.{items, first, found, blank_of, states_in, finals_in, RuleLine, Body, add_header, add_rule, at_end, leads, unled, attach_item, attach, body_of, kept, choices, rule_of, dressed, expand, expand_all}
+use Rattle.language.proofs.Columns.{Parts, parts, select}
 use Rattle.language.specs.Infer.{same_name, member, fresh, nothing, mentions, infer_states, marked, head, between, machine_of}
 use Rattle.language.proofs.Every.{by_test, Every, Maybe, every_append, every_any, every_map}
 use Rattle.language.proofs.ParseHolds.{Goods, GoodRaw, GoodDecoder, GoodItem, GoodLine}
@@ -45,7 +46,6 @@ module _ {P : Type 0} (S : Goods P) where
   }
 
   parts_good : (i : Item P) → GoodItem S i → GoodParts (parts i)
-  unfolding parts
   parts_good (machine_item x) h = good_parts h tt tt tt tt tt tt tt tt tt
   parts_good (input_item x) h = good_parts tt h tt tt tt tt tt tt tt tt
   parts_good (kind_item x) h = good_parts tt tt tt tt tt tt tt tt tt tt
@@ -69,14 +69,14 @@ module _ {P : Type 0} (S : Goods P) where
 
   -- what is found first is good if every item's part is
   pub found_good : {A : Type 0} (good : A → Type 0) (part : Parts P → Option A) → ((p : Parts P) → GoodParts p → Maybe good (part p)) → (is : List (Located P (Item P)))
-      → Every (λ i. GoodItem S i.value) is → Maybe good (found (first part is))
+      → Every (λ i. GoodItem S i.value) is → Maybe good (found (first (select part) is))
   unfolding first found
   found_good good part e [] g = tt
   found_good good part e (i ∷ is) g = by_part (part (parts i.value)) refl (e (parts i.value) (parts_good i.value g.0)) (found_good good part e is g.1)
     where
-      by_part : (o : Option _) → part (parts i.value) ≡ o → Maybe good (part (parts i.value)) → Maybe good (found (first part is)) → Maybe good (found (first part (i ∷ is)))
-      by_part none q h k = rw (q, first) k
-      by_part (some a) q h k = rw (q, first) (subst (Maybe good) q h)
+      by_part : (o : Option _) → part (parts i.value) ≡ o → Maybe good (part (parts i.value)) → Maybe good (found (first (select part) is)) → Maybe good (found (first (select part) (i ∷ is)))
+      by_part None q h k = rw (q, first) k
+      by_part (Some a) q h k = rw (q, first) (subst (Maybe good) q h)
 
   -- ---- rules and comments
 
@@ -93,10 +93,9 @@ module _ {P : Type 0} (S : Goods P) where
     pub rules_good : Every GoodRuleLine b.rules
     pub trailing_good : Notes b.trailing
 
-  option_notes : (c : Option (Located P (List ℕ))) → Maybe S.note c → Notes (of_option c)
-  unfolding of_option
-  option_notes none h = tt
-  option_notes (some c) h = (h, tt)
+  option_notes : (c : Option (Located P (List ℕ))) → Maybe S.note c → Notes (option_to_list c)
+  option_notes None h = tt
+  option_notes (Some c) h = (h, tt)
 
   leads_notes : (seen : Bool) (old block : List (Located P (List ℕ))) → Notes old → Notes block → Notes (leads seen old block)
   unfolding leads
@@ -120,9 +119,9 @@ module _ {P : Type 0} (S : Goods P) where
   item_good : (o : Option (RawTransition P)) (seen : Bool) (old block : List (Located P (List ℕ))) (p : P) (c : Option (Located P (List ℕ))) (b : Body P)
       → Maybe (GoodRaw S) o → Notes old → Notes block → Maybe S.note c → GoodBody b → GoodBody (attach_item o seen old block p c b)
   unfolding attach_item add_rule
-  item_good none seen old block p c b r h k n g =
-      header_added (old ++ block ++ of_option c) b (every_append S.note (old ++ block) (of_option c) (every_append S.note old block h k) (option_notes c n)) g
-  item_good (some raw) seen old block p c b r h k n g =
+  item_good None seen old block p c b r h k n g =
+      header_added (old ++ block ++ option_to_list c) b (every_append S.note (old ++ block) (option_to_list c) (every_append S.note old block h k) (option_notes c n)) g
+  item_good (Some raw) seen old block p c b r h k n g =
       header_added (unled seen old) (add_rule (record { raw = raw; line = p; comment = c; leading = leads seen old block }) b) (unled_notes seen old h) (record {
         header_good = g.header_good;
         rules_good = (record { raw_good = r; comment_good = n; leading_good = leads_notes seen old block h k }, g.rules_good);
@@ -167,7 +166,7 @@ module _ {P : Type 0} (S : Goods P) where
   dressed_good b l [] g = tt
   dressed_good b l (c ∷ cs) g = (
     record { from_good = g.raw_good.from_good; to_good = g.raw_good.to_good; comment_good = g.comment_good; leading_good = g.leading_good },
-    every_map (λ c. Unit {0}) GoodRuleOf (rule_of b l none []) (λ c _. record { from_good = g.raw_good.from_good; to_good = g.raw_good.to_good; comment_good = tt; leading_good = tt }) cs (every_any (λ c. Unit {0}) (λ c. tt) cs),
+    every_map (λ c. Unit {0}) GoodRuleOf (rule_of b l None []) (λ c _. record { from_good = g.raw_good.from_good; to_good = g.raw_good.to_good; comment_good = tt; leading_good = tt }) cs (every_any (λ c. Unit {0}) (λ c. tt) cs),
   )
 
   expand_good : (b : ℕ) (ls : List (RuleLine P)) → Every GoodRuleLine ls → Every GoodRuleOf (expand_all b ls)
@@ -180,15 +179,13 @@ module _ {P : Type 0} (S : Goods P) where
   mentions_good [] g = tt
   mentions_good (r ∷ rs) g = (g.0.from_good, (g.0.to_good, mentions_good rs g.1))
 
-  option_names : (o : Option (Located P (List ℕ))) → Maybe S.name o → Every S.name (of_option o)
-  unfolding of_option
-  option_names none h = tt
-  option_names (some q) h = (h, tt)
+  option_names : (o : Option (Located P (List ℕ))) → Maybe S.name o → Every S.name (option_to_list o)
+  option_names None h = tt
+  option_names (Some q) h = (h, tt)
 
-  else_good : {A : Type 0} (good : A → Type 0) (o : Option A) (a : A) → Maybe good o → good a → good (or_else o a)
-  unfolding or_else
-  else_good good none a h k = k
-  else_good good (some b) a h k = h
+  else_good : {A : Type 0} (good : A → Type 0) (o : Option A) (a : A) → Maybe good o → good a → good (unwrap_or o a)
+  else_good good None a h k = k
+  else_good good (Some b) a h k = h
 
   head_good : (l : List (Located P (List ℕ))) → Every S.name l → Maybe S.name (head l)
   unfolding head
@@ -197,8 +194,8 @@ module _ {P : Type 0} (S : Goods P) where
 
   between_good : (o : Option (Text P)) → Maybe (λ x. S.text x.value) o → Maybe S.text (between o)
   unfolding between
-  between_good none h = tt
-  between_good (some x) h = h
+  between_good None h = tt
+  between_good (Some x) h = h
 
   -- a machine's strings, names and comments
   pub record GoodMachine (m : Machine P) : Type 0 where
@@ -221,18 +218,18 @@ module _ {P : Type 0} (S : Goods P) where
       let gi : Every (λ i. GoodItem S i.value) is = items_good ls g in
       let rules : List (Rule P) = expand_all (blank_of is) (kept 0 (body_of ls).rules) in
       let gr : Every GoodRuleOf rules = expand_good (blank_of is) (kept 0 (body_of ls).rules) (kept_good ls g) in
-      let start : Option (Located P (List ℕ)) = found (first (λ p. p.start) is) in
+      let start : Option (Located P (List ℕ)) = found (first (select λ p. p.start) is) in
       let gs : Maybe S.name start = found_good S.name (λ p. p.start) (λ p k. k.start-part) is gi in
       let finals : List (Located P (List ℕ)) = fresh same_name nothing (finals_in is) in
-      let gf : Every S.name finals = fresh_good nothing (finals_in is) (else_good (Every S.name) (found (first (λ p. p.finals) is)) [] (found_good (Every S.name) (λ p. p.finals) (λ p k. k.finals-part) is gi) tt) in
-      let mentioned : List (Located P (List ℕ)) = of_option start ++ mentions rules ++ finals in
-      let gm : Every S.name mentioned = every_append S.name (of_option start ++ mentions rules) finals (every_append S.name (of_option start) (mentions rules) (option_names start gs) (mentions_good rules gr)) gf in
-      let names : List (Located P (List ℕ)) = or_else (states_in is) (infer_states start rules finals) in
+      let gf : Every S.name finals = fresh_good nothing (finals_in is) (else_good (Every S.name) (found (first (select λ p. p.finals) is)) [] (found_good (Every S.name) (λ p. p.finals) (λ p k. k.finals-part) is gi) tt) in
+      let mentioned : List (Located P (List ℕ)) = option_to_list start ++ mentions rules ++ finals in
+      let gm : Every S.name mentioned = every_append S.name (option_to_list start ++ mentions rules) finals (every_append S.name (option_to_list start) (mentions rules) (option_names start gs) (mentions_good rules gr)) gf in
+      let names : List (Located P (List ℕ)) = unwrap_or (states_in is) (infer_states start rules finals) in
       let gn : Every S.name names = else_good (Every S.name) (states_in is) (infer_states start rules finals) (found_good (Every S.name) (λ p. p.states) (λ p k. k.states-part) is gi) (fresh_good nothing mentioned gm) in
       record {
-        name_good = between_good (found (first (λ p. p.machine) is)) (found_good (λ x. S.text x.value) (λ p. p.machine) (λ p k. k.machine-part) is gi);
-        input_good = between_good (found (first (λ p. p.input) is)) (found_good (λ x. S.text x.value) (λ p. p.input) (λ p k. k.input_part) is gi);
-        start_good = head_good (of_option start ++ names) (every_append S.name (of_option start) names (option_names start gs) gn);
+        name_good = between_good (found (first (select λ p. p.machine) is)) (found_good (λ x. S.text x.value) (λ p. p.machine) (λ p k. k.machine-part) is gi);
+        input_good = between_good (found (first (select λ p. p.input) is)) (found_good (λ x. S.text x.value) (λ p. p.input) (λ p k. k.input_part) is gi);
+        start_good = head_good (option_to_list start ++ names) (every_append S.name (option_to_list start) names (option_names start gs) gn);
         states_good = marked_good (member same_name finals) nothing names gn;
         header_good = (body_good ls g).header_good;
         trailing_good = (body_good ls g).trailing_good;

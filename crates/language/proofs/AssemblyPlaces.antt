@@ -2,7 +2,7 @@
 use Prim.Native.Nat.{ℕ, ◌+◌, ◌*◌}
 use mathlib.Core.Bool.{Bool, true, false, ◌&&◌}
 use mathlib.Core.List.{List, [], ◌∷◌, ◌++◌, map, map-map}
-use mathlib.Core.Option.{Option, none, some}
+use Rattle.std.specs.Prelude.{Option, None, Some, unwrap_or, option_to_list}
 use mathlib.Core.Path.{◌≡◌, refl, ap, ap₂, ◌∙◌, sym}
 use lib.Dec.{eqb, leb}
 use lib.ListN.{length-map}
@@ -10,16 +10,17 @@ use Rattle.lexer.specs.Text.{same}
 use Rattle.language.specs.Machine.{Located, Dir, Action}
 use Rattle.language.specs.Content.{ActionContent, optional, values, rule_content}
 use Rattle.language.specs.Lines.{RawSymbol, raw_blank, RawTransition, Item, machine_item, input_item, kind_item, output_item, tapes_item, states_item, final_item, input_alphabet_item, tape_alphabet_item, blank_item, start_item, transition_item, Line, blank_line, comment_line, item_line, error_line}
-use Rattle.language.specs.Assembly.{Parts, parts, items, first, found, or_else, resolve, blank_of, states_in, finals_in, RuleLine, Body, of_option, add_header, add_rule, at_end, leads, unled, attach_item, attach, body_of, combinations, Verdict, expands, wrong_arity, too_many, verdict, kept, each_front, choices, written, actions, rule_of, dressed, expand, expand_all, Diagnostic, diagnostic, line_errors, declaration, is_number, declared_at, earlier, tapes_error, declaration_error, declaration_errors, listed_at, unknown_error, final_error, final_errors, rule_errors, diagnostics_of}
+use Rattle.language.specs.Assembly.{items, first, found, resolve, blank_of, states_in, finals_in, RuleLine, Body, add_header, add_rule, at_end, leads, unled, attach_item, attach, body_of, combinations, Verdict, expands, wrong_arity, too_many, verdict, kept, each_front, choices, written, actions, rule_of, dressed, expand, expand_all, Diagnostic, diagnostic, line_errors, declaration, is_number, declared_at, earlier, tapes_error, declaration_error, declaration_errors, listed_at, unknown_error, final_error, final_errors, rule_errors, diagnostics_of}
+use Rattle.language.proofs.Columns.{Parts, parts, select}
 use Rattle.language.proofs.Every.{by_test}
 use Rattle.language.proofs.Facts.{map_option, facts_from, facts_of, map-append}
 use Rattle.language.proofs.ParsePlaces.{on_loc, on_text, on_raw, on_item, on_line}
 
-pub found_none : {P A : Type 0} (part : Parts P → Option A) (i : Located P (Item P)) (is : List (Located P (Item P))) → part (parts i.value) ≡ none → found (first part (i ∷ is)) ≡ found (first part is)
+pub found_none : {P A : Type 0} (part : Parts P → Option A) (i : Located P (Item P)) (is : List (Located P (Item P))) → part (parts i.value) ≡ None → found (first (select part) (i ∷ is)) ≡ found (first (select part) is)
 unfolding first
 found_none part i is e = rw (e, first)
 
-pub found_some : {P A : Type 0} (part : Parts P → Option A) (i : Located P (Item P)) (is : List (Located P (Item P))) {a : A} → part (parts i.value) ≡ some a → found (first part (i ∷ is)) ≡ some a
+pub found_some : {P A : Type 0} (part : Parts P → Option A) (i : Located P (Item P)) (is : List (Located P (Item P))) {a : A} → part (parts i.value) ≡ Some a → found (first (select part) (i ∷ is)) ≡ Some a
 unfolding first found
 found_some part i is e = rw (e, first)
 
@@ -48,7 +49,7 @@ unfolding choices
 choices_natural g [] = refl
 choices_natural g (s ∷ ss) = ap (each_front (map g s)) (choices_natural g ss) ∙ each_natural g s (choices ss)
 
-declared_yes : {P : Type 0} (n : ℕ) (i : Located P (Item P)) (is : List (Located P (Item P))) → is_number n (declaration i.value) ≡ true → declared_at n (i ∷ is) ≡ some i.place
+declared_yes : {P : Type 0} (n : ℕ) (i : Located P (Item P)) (is : List (Located P (Item P))) → is_number n (declaration i.value) ≡ true → declared_at n (i ∷ is) ≡ Some i.place
 unfolding declared_at
 declared_yes n i is e = rw (e, declared_at)
 
@@ -57,15 +58,15 @@ unfolding declared_at
 declared_no n i is e = rw (e, declared_at)
 
 module _ {P : Type 0} where
-  twice_none : (before : List (Located P (Item P))) (i : Located P (Item P)) → earlier (declaration i.value) before ≡ none → declaration_error before i ≡ tapes_error (parts i.value).tapes
+  twice_none : (before : List (Located P (Item P))) (i : Located P (Item P)) → earlier (declaration i.value) before ≡ None → declaration_error before i ≡ tapes_error (parts i.value).tapes
   unfolding declaration_error
   twice_none before i e = rw (e, declaration_error)
 
-  twice_some : (before : List (Located P (Item P))) (i : Located P (Item P)) (p : P) → earlier (declaration i.value) before ≡ some p → declaration_error before i ≡ diagnostic 11 i.place (some p) ∷ []
+  twice_some : (before : List (Located P (Item P))) (i : Located P (Item P)) (p : P) → earlier (declaration i.value) before ≡ Some p → declaration_error before i ≡ diagnostic 11 i.place (Some p) ∷ []
   unfolding declaration_error
   twice_some before i p e = rw (e, declaration_error)
 
-  listed_yes : (w : List ℕ) (x : Located P (List ℕ)) (l : List (Located P (List ℕ))) → same x.value w ≡ true → listed_at w (x ∷ l) ≡ some x.place
+  listed_yes : (w : List ℕ) (x : Located P (List ℕ)) (l : List (Located P (List ℕ))) → same x.value w ≡ true → listed_at w (x ∷ l) ≡ Some x.place
   unfolding listed_at
   listed_yes w x l e = rw (e, listed_at)
 
@@ -73,19 +74,19 @@ module _ {P : Type 0} where
   unfolding listed_at
   listed_no w x l e = rw (e, listed_at)
 
-  unknown_absent : (q : List (Located P (List ℕ))) (x : Located P (List ℕ)) → listed_at x.value q ≡ none → unknown_error (some q) x ≡ diagnostic 3 x.place none ∷ []
+  unknown_absent : (q : List (Located P (List ℕ))) (x : Located P (List ℕ)) → listed_at x.value q ≡ None → unknown_error (Some q) x ≡ diagnostic 3 x.place None ∷ []
   unfolding unknown_error
   unknown_absent q x e = rw (e, unknown_error)
 
-  unknown_there : (q : List (Located P (List ℕ))) (x : Located P (List ℕ)) (p : P) → listed_at x.value q ≡ some p → unknown_error (some q) x ≡ []
+  unknown_there : (q : List (Located P (List ℕ))) (x : Located P (List ℕ)) (p : P) → listed_at x.value q ≡ Some p → unknown_error (Some q) x ≡ []
   unfolding unknown_error
   unknown_there q x p e = rw (e, unknown_error)
 
-  final_new : (q : Option (List (Located P (List ℕ)))) (before : List (Located P (List ℕ))) (x : Located P (List ℕ)) → listed_at x.value before ≡ none → final_error q before x ≡ unknown_error q x
+  final_new : (q : Option (List (Located P (List ℕ)))) (before : List (Located P (List ℕ))) (x : Located P (List ℕ)) → listed_at x.value before ≡ None → final_error q before x ≡ unknown_error q x
   unfolding final_error
   final_new q before x e = rw (e, final_error)
 
-  final_repeat : (q : Option (List (Located P (List ℕ)))) (before : List (Located P (List ℕ))) (x : Located P (List ℕ)) (p : P) → listed_at x.value before ≡ some p → final_error q before x ≡ diagnostic 11 x.place (some p) ∷ []
+  final_repeat : (q : Option (List (Located P (List ℕ)))) (before : List (Located P (List ℕ))) (x : Located P (List ℕ)) (p : P) → listed_at x.value before ≡ Some p → final_error q before x ≡ diagnostic 11 x.place (Some p) ∷ []
   unfolding final_error
   final_repeat q before x p e = rw (e, final_error)
 
@@ -94,11 +95,11 @@ module _ {P : Type 0} (n : ℕ) (r : RuleLine P) (rs : List (RuleLine P)) where
   unfolding rule_errors
   error_expands cut e = rw (e, rule_errors)
 
-  pub error_arity : (cut : Bool) → verdict n r.raw ≡ wrong_arity → rule_errors n cut (r ∷ rs) ≡ diagnostic 10 r.line none ∷ rule_errors n cut rs
+  pub error_arity : (cut : Bool) → verdict n r.raw ≡ wrong_arity → rule_errors n cut (r ∷ rs) ≡ diagnostic 10 r.line None ∷ rule_errors n cut rs
   unfolding rule_errors
   error_arity cut e = rw (e, rule_errors)
 
-  pub error_many : verdict n r.raw ≡ too_many → rule_errors n false (r ∷ rs) ≡ diagnostic 9 r.line none ∷ rule_errors n true rs
+  pub error_many : verdict n r.raw ≡ too_many → rule_errors n false (r ∷ rs) ≡ diagnostic 9 r.line None ∷ rule_errors n true rs
   unfolding rule_errors
   error_many e = rw (e, rule_errors)
 
@@ -136,7 +137,6 @@ module _ {P Q : Type 0} (f : P → Q) where
   }
 
   parts_natural : (i : Item P) → parts (on_item f i) ≡ on_parts (parts i)
-  unfolding parts
   parts_natural (machine_item x) = refl
   parts_natural (kind_item x) = refl
   parts_natural (input_item x) = refl
@@ -160,7 +160,7 @@ module _ {P Q : Type 0} (f : P → Q) where
 
   -- what is found is the same, seen through g
   found_natural : {A B : Type 0} (part : Parts P → Option A) (part' : Parts Q → Option B) (g : A → B) → ((p : Parts P) → part' (on_parts p) ≡ map_option g (part p))
-      → (is : List (Located P (Item P))) → found (first part' (map on_items is)) ≡ map_option g (found (first part is))
+      → (is : List (Located P (Item P))) → found (first (select part') (map on_items is)) ≡ map_option g (found (first (select part) is))
   unfolding first found
   found_natural part part' g e [] = refl
   found_natural part part' g e (i ∷ is) = go (part (parts i.value)) refl (found_natural part part' g e is)
@@ -168,9 +168,9 @@ module _ {P Q : Type 0} (f : P → Q) where
       seen : (o : Option _) → part (parts i.value) ≡ o → part' (parts (on_item f i.value)) ≡ map_option g o
       seen o h = ap part' (parts_natural i.value) ∙ (e (parts i.value) ∙ ap (map_option g) h)
 
-      go : (o : Option _) → part (parts i.value) ≡ o → found (first part' (map on_items is)) ≡ map_option g (found (first part is)) → found (first part' (map on_items (i ∷ is))) ≡ map_option g (found (first part (i ∷ is)))
-      go none h r = found_none part' (on_items i) (map on_items is) (seen none h) ∙ (r ∙ sym (ap (map_option g) (found_none part i is h)))
-      go (some a) h r = found_some part' (on_items i) (map on_items is) (seen (some a) h) ∙ sym (ap (map_option g) (found_some part i is h))
+      go : (o : Option _) → part (parts i.value) ≡ o → found (first (select part') (map on_items is)) ≡ map_option g (found (first (select part) is)) → found (first (select part') (map on_items (i ∷ is))) ≡ map_option g (found (first (select part) (i ∷ is)))
+      go None h r = found_none part' (on_items i) (map on_items is) (seen None h) ∙ (r ∙ sym (ap (map_option g) (found_none part i is h)))
+      go (Some a) h r = found_some part' (on_items i) (map on_items is) (seen (Some a) h) ∙ sym (ap (map_option g) (found_some part i is h))
 
   -- ---- comments and rules
 
@@ -198,10 +198,9 @@ module _ {P Q : Type 0} (f : P → Q) where
   unled_natural true old = refl
   unled_natural false old = refl
 
-  own_natural : (c : Option (Located P (List ℕ))) → of_option (map_option (on_loc f) c) ≡ map (on_loc f) (of_option c)
-  unfolding of_option
-  own_natural none = refl
-  own_natural (some c) = refl
+  own_natural : (c : Option (Located P (List ℕ))) → option_to_list (map_option (on_loc f) c) ≡ map (on_loc f) (option_to_list c)
+  own_natural None = refl
+  own_natural (Some c) = refl
 
   header_natural : (h : Comments) (b : Body P) → add_header (map (on_loc f) h) (on_body b) ≡ on_body (add_header h b)
   unfolding add_header
@@ -210,10 +209,10 @@ module _ {P Q : Type 0} (f : P → Q) where
   attach_item_lem : (o : Option (RawTransition P)) (seen : Bool) (old block : Comments) (p : P) (c : Option (Located P (List ℕ))) (b : Body P)
       → attach_item (map_option (on_raw f) o) seen (map (on_loc f) old) (map (on_loc f) block) (f p) (map_option (on_loc f) c) (on_body b) ≡ on_body (attach_item o seen old block p c b)
   unfolding attach_item
-  attach_item_lem none seen old block p c b =
-      ap (λ h. add_header h (on_body b)) (ap₂ (λ x y. x ++ y) (sym (map-append (on_loc f) old block)) (own_natural c) ∙ sym (map-append (on_loc f) (old ++ block) (of_option c)))
-      ∙ header_natural (old ++ block ++ of_option c) b
-  attach_item_lem (some r) seen old block p c b =
+  attach_item_lem None seen old block p c b =
+      ap (λ h. add_header h (on_body b)) (ap₂ (λ x y. x ++ y) (sym (map-append (on_loc f) old block)) (own_natural c) ∙ sym (map-append (on_loc f) (old ++ block) (option_to_list c)))
+      ∙ header_natural (old ++ block ++ option_to_list c) b
+  attach_item_lem (Some r) seen old block p c b =
       ap₂ (λ h l. add_header h (add_rule (record { raw = on_raw f r; line = f p; comment = map_option (on_loc f) c; leading = l }) (on_body b))) (unled_natural seen old) (leads_natural seen old block)
       ∙ header_natural (unled seen old) (add_rule (record { raw = r; line = p; comment = c; leading = leads seen old block }) b)
 
@@ -269,8 +268,8 @@ module _ {P Q : Type 0} (f : P → Q) where
 
   optional_natural : (c : Option (Located P (List ℕ))) → optional (map_option (on_loc f) c) ≡ optional c
   unfolding optional
-  optional_natural none = refl
-  optional_natural (some c) = refl
+  optional_natural None = refl
+  optional_natural (Some c) = refl
 
   values_natural : {A : Type 0} (l : List (Located P A)) → values (map (on_loc f) l) ≡ values l
   unfolding values
@@ -288,9 +287,9 @@ module _ {P Q : Type 0} (f : P → Q) where
   }
 
   more_natural : (b : ℕ) (l : RuleLine P) (css : List (List (Located P RawSymbol)))
-      → map rule_content (map (rule_of b (on_rule_line l) none []) (map (map (on_loc f)) css)) ≡ map rule_content (map (rule_of b l none []) css)
+      → map rule_content (map (rule_of b (on_rule_line l) None []) (map (map (on_loc f)) css)) ≡ map rule_content (map (rule_of b l None []) css)
   more_natural b l [] = refl
-  more_natural b l (rs ∷ css) = ap₂ (λ x y. x ∷ y) (rule_natural b l none [] rs) (more_natural b l css)
+  more_natural b l (rs ∷ css) = ap₂ (λ x y. x ∷ y) (rule_natural b l None [] rs) (more_natural b l css)
 
   dressed_natural : (b : ℕ) (l : RuleLine P) (css : List (List (Located P RawSymbol))) → map rule_content (dressed b (on_rule_line l) (map (map (on_loc f)) css)) ≡ map rule_content (dressed b l css)
   unfolding dressed
@@ -311,37 +310,36 @@ module _ {P Q : Type 0} (f : P → Q) where
   -- ---- facts
 
   twice : {A B C : Type 0} (h : B → C) (g : A → B) (k : A → C) → ((a : A) → h (g a) ≡ k a) → (o : Option A) → map_option h (map_option g o) ≡ map_option k o
-  twice h g k e none = refl
-  twice h g k e (some a) = ap some (e a)
+  twice h g k e None = refl
+  twice h g k e (Some a) = ap Some (e a)
 
   id_option : {A : Type 0} (o : Option A) → map_option (λ a. a) o ≡ o
-  id_option none = refl
-  id_option (some a) = refl
+  id_option None = refl
+  id_option (Some a) = refl
 
-  or_natural : {A : Type 0} (o : Option (List (Located P A))) → values (or_else (map_option (map (on_loc f)) o) []) ≡ values (or_else o [])
-  unfolding or_else
-  or_natural none = values_natural []
-  or_natural (some l) = values_natural l
+  or_natural : {A : Type 0} (o : Option (List (Located P A))) → values (unwrap_or (map_option (map (on_loc f)) o) []) ≡ values (unwrap_or o [])
+  or_natural None = values_natural []
+  or_natural (Some l) = values_natural l
 
   from_natural : (is : List (Located P (Item P))) (body : Body P) → facts_from (map on_items is) (on_body body) ≡ facts_from is body
   unfolding facts_from states_in finals_in blank_of
   from_natural is body =
-      let blank = found_natural (λ p. p.blank) (λ p. p.blank) (λ s. s) (λ p. sym (id_option p.blank)) is ∙ id_option (found (first (λ p. p.blank) is)) in
+      let blank = found_natural (λ p. p.blank) (λ p. p.blank) (λ s. s) (λ p. sym (id_option p.blank)) is ∙ id_option (found (first (select λ p. p.blank) is)) in
       λ i. record {
-        name = (ap (map_option (λ t. t.value.value)) (found_natural (λ p. p.machine) (λ p. p.machine) (on_text f) (λ p. refl) is) ∙ twice (λ t. t.value.value) (on_text f) (λ t. t.value.value) (λ t. refl) (found (first (λ p. p.machine) is))) i;
-        input = (ap (map_option (λ t. t.value.value)) (found_natural (λ p. p.input) (λ p. p.input) (on_text f) (λ p. refl) is) ∙ twice (λ t. t.value.value) (on_text f) (λ t. t.value.value) (λ t. refl) (found (first (λ p. p.input) is))) i;
-        kind = (found_natural (λ p. p.kind) (λ p. p.kind) (λ k. k) (λ p. sym (id_option p.kind)) is ∙ id_option (found (first (λ p. p.kind) is))) i;
-        output = (found_natural (λ p. p.output) (λ p. p.output) (λ k. k) (λ p. sym (id_option p.output)) is ∙ id_option (found (first (λ p. p.output) is))) i;
-        tapes = (ap (map_option (λ t. t.value)) (found_natural (λ p. p.tapes) (λ p. p.tapes) (on_loc f) (λ p. refl) is) ∙ twice (λ t. t.value) (on_loc f) (λ t. t.value) (λ t. refl) (found (first (λ p. p.tapes) is))) i;
-        states = (ap (map_option values) (found_natural (λ p. p.states) (λ p. p.states) (map (on_loc f)) (λ p. refl) is) ∙ twice values (map (on_loc f)) values values_natural (found (first (λ p. p.states) is))) i;
-        finals = (ap (λ o. values (or_else o [])) (found_natural (λ p. p.finals) (λ p. p.finals) (map (on_loc f)) (λ p. refl) is) ∙ or_natural (found (first (λ p. p.finals) is))) i;
-        sigma = (ap (map_option values) (found_natural (λ p. p.sigma) (λ p. p.sigma) (map (on_loc f)) (λ p. refl) is) ∙ twice values (map (on_loc f)) values values_natural (found (first (λ p. p.sigma) is))) i;
-        gamma = (ap (map_option values) (found_natural (λ p. p.gamma) (λ p. p.gamma) (map (on_loc f)) (λ p. refl) is) ∙ twice values (map (on_loc f)) values values_natural (found (first (λ p. p.gamma) is))) i;
+        name = (ap (map_option (λ t. t.value.value)) (found_natural (λ p. p.machine) (λ p. p.machine) (on_text f) (λ p. refl) is) ∙ twice (λ t. t.value.value) (on_text f) (λ t. t.value.value) (λ t. refl) (found (first (select λ p. p.machine) is))) i;
+        input = (ap (map_option (λ t. t.value.value)) (found_natural (λ p. p.input) (λ p. p.input) (on_text f) (λ p. refl) is) ∙ twice (λ t. t.value.value) (on_text f) (λ t. t.value.value) (λ t. refl) (found (first (select λ p. p.input) is))) i;
+        kind = (found_natural (λ p. p.kind) (λ p. p.kind) (λ k. k) (λ p. sym (id_option p.kind)) is ∙ id_option (found (first (select λ p. p.kind) is))) i;
+        output = (found_natural (λ p. p.output) (λ p. p.output) (λ k. k) (λ p. sym (id_option p.output)) is ∙ id_option (found (first (select λ p. p.output) is))) i;
+        tapes = (ap (map_option (λ t. t.value)) (found_natural (λ p. p.tapes) (λ p. p.tapes) (on_loc f) (λ p. refl) is) ∙ twice (λ t. t.value) (on_loc f) (λ t. t.value) (λ t. refl) (found (first (select λ p. p.tapes) is))) i;
+        states = (ap (map_option values) (found_natural (λ p. p.states) (λ p. p.states) (map (on_loc f)) (λ p. refl) is) ∙ twice values (map (on_loc f)) values values_natural (found (first (select λ p. p.states) is))) i;
+        finals = (ap (λ o. values (unwrap_or o [])) (found_natural (λ p. p.finals) (λ p. p.finals) (map (on_loc f)) (λ p. refl) is) ∙ or_natural (found (first (select λ p. p.finals) is))) i;
+        sigma = (ap (map_option values) (found_natural (λ p. p.sigma) (λ p. p.sigma) (map (on_loc f)) (λ p. refl) is) ∙ twice values (map (on_loc f)) values values_natural (found (first (select λ p. p.sigma) is))) i;
+        gamma = (ap (map_option values) (found_natural (λ p. p.gamma) (λ p. p.gamma) (map (on_loc f)) (λ p. refl) is) ∙ twice values (map (on_loc f)) values values_natural (found (first (select λ p. p.gamma) is))) i;
         blank = blank i;
-        start = (ap (map_option (λ t. t.value)) (found_natural (λ p. p.start) (λ p. p.start) (on_loc f) (λ p. refl) is) ∙ twice (λ t. t.value) (on_loc f) (λ t. t.value) (λ t. refl) (found (first (λ p. p.start) is))) i;
+        start = (ap (map_option (λ t. t.value)) (found_natural (λ p. p.start) (λ p. p.start) (on_loc f) (λ p. refl) is) ∙ twice (λ t. t.value) (on_loc f) (λ t. t.value) (λ t. refl) (found (first (select λ p. p.start) is))) i;
         header = values_natural body.header i;
         trailing = values_natural body.trailing i;
-        rules = (ap₂ (λ o l. map rule_content (expand_all (resolve 0x2423 (or_else o raw_blank)) l)) blank (kept_natural 0 body.rules) ∙ expand_all_natural (blank_of is) (kept 0 body.rules)) i;
+        rules = (ap₂ (λ o l. map rule_content (expand_all (resolve 0x2423 (unwrap_or o raw_blank)) l)) blank (kept_natural 0 body.rules) ∙ expand_all_natural (blank_of is) (kept 0 body.rules)) i;
       }
 
   pub facts_natural : (ls : List (Line P)) → facts_of (map (on_line f) ls) ≡ facts_of ls
@@ -359,7 +357,7 @@ module _ {P Q : Type 0} (f : P → Q) where
   errors_natural (blank_line ∷ ls) = errors_natural ls
   errors_natural (comment_line c ∷ ls) = errors_natural ls
   errors_natural (item_line i p c ∷ ls) = errors_natural ls
-  errors_natural (error_line n p ∷ ls) = ap (λ t. diagnostic n (f p) none ∷ t) (errors_natural ls)
+  errors_natural (error_line n p ∷ ls) = ap (λ t. diagnostic n (f p) None ∷ t) (errors_natural ls)
 
   number_natural : (i : Item P) → declaration (on_item f i) ≡ declaration i
   unfolding declaration
@@ -385,13 +383,13 @@ module _ {P Q : Type 0} (f : P → Q) where
 
   earlier_natural : (o : Option ℕ) (is : List (Located P (Item P))) → earlier o (map on_items is) ≡ map_option f (earlier o is)
   unfolding earlier
-  earlier_natural none is = refl
-  earlier_natural (some n) is = declared_natural n is
+  earlier_natural None is = refl
+  earlier_natural (Some n) is = declared_natural n is
 
   tapes_natural : (o : Option (Located P ℕ)) → tapes_error (map_option (on_loc f) o) ≡ map on_diagnostic (tapes_error o)
   unfolding tapes_error
-  tapes_natural none = refl
-  tapes_natural (some n) = by_test (leb n.value 255) (λ e. rw (e, tapes_error)) (λ e. rw (e, tapes_error))
+  tapes_natural None = refl
+  tapes_natural (Some n) = by_test (leb n.value 255) (λ e. rw (e, tapes_error)) (λ e. rw (e, tapes_error))
 
   declaration_natural : (before : List (Located P (Item P))) (i : Located P (Item P)) → declaration_error (map on_items before) (on_items i) ≡ map on_diagnostic (declaration_error before i)
   declaration_natural before i = go (earlier (declaration i.value) before) refl
@@ -400,8 +398,8 @@ module _ {P Q : Type 0} (f : P → Q) where
       seen o e = ap (λ n. earlier n (map on_items before)) (number_natural i.value) ∙ (earlier_natural (declaration i.value) before ∙ ap (map_option f) e)
 
       go : (o : Option P) → earlier (declaration i.value) before ≡ o → declaration_error (map on_items before) (on_items i) ≡ map on_diagnostic (declaration_error before i)
-      go none e = twice_none (map on_items before) (on_items i) (seen none e) ∙ (ap tapes_error (ap (λ q. q.tapes) (parts_natural i.value)) ∙ (tapes_natural (parts i.value).tapes ∙ sym (ap (map on_diagnostic) (twice_none before i e))))
-      go (some p) e = twice_some (map on_items before) (on_items i) (f p) (seen (some p) e) ∙ sym (ap (map on_diagnostic) (twice_some before i p e))
+      go None e = twice_none (map on_items before) (on_items i) (seen None e) ∙ (ap tapes_error (ap (λ q. q.tapes) (parts_natural i.value)) ∙ (tapes_natural (parts i.value).tapes ∙ sym (ap (map on_diagnostic) (twice_none before i e))))
+      go (Some p) e = twice_some (map on_items before) (on_items i) (f p) (seen (Some p) e) ∙ sym (ap (map on_diagnostic) (twice_some before i p e))
 
   declarations_natural : (before is : List (Located P (Item P))) → declaration_errors (map on_items before) (map on_items is) ≡ map on_diagnostic (declaration_errors before is)
   unfolding declaration_errors
@@ -419,20 +417,20 @@ module _ {P Q : Type 0} (f : P → Q) where
 
   unknown_natural : (q : Option (List (Located P (List ℕ)))) (x : Located P (List ℕ)) → unknown_error (map_option (map (on_loc f)) q) (on_loc f x) ≡ map on_diagnostic (unknown_error q x)
   unfolding unknown_error
-  unknown_natural none x = refl
-  unknown_natural (some q) x = go (listed_at x.value q) refl
+  unknown_natural None x = refl
+  unknown_natural (Some q) x = go (listed_at x.value q) refl
     where
-      go : (o : Option P) → listed_at x.value q ≡ o → unknown_error (some (map (on_loc f) q)) (on_loc f x) ≡ map on_diagnostic (unknown_error (some q) x)
-      go none e = unknown_absent (map (on_loc f) q) (on_loc f x) (listed_natural x.value q ∙ ap (map_option f) e) ∙ sym (ap (map on_diagnostic) (unknown_absent q x e))
-      go (some p) e = unknown_there (map (on_loc f) q) (on_loc f x) (f p) (listed_natural x.value q ∙ ap (map_option f) e) ∙ sym (ap (map on_diagnostic) (unknown_there q x p e))
+      go : (o : Option P) → listed_at x.value q ≡ o → unknown_error (Some (map (on_loc f) q)) (on_loc f x) ≡ map on_diagnostic (unknown_error (Some q) x)
+      go None e = unknown_absent (map (on_loc f) q) (on_loc f x) (listed_natural x.value q ∙ ap (map_option f) e) ∙ sym (ap (map on_diagnostic) (unknown_absent q x e))
+      go (Some p) e = unknown_there (map (on_loc f) q) (on_loc f x) (f p) (listed_natural x.value q ∙ ap (map_option f) e) ∙ sym (ap (map on_diagnostic) (unknown_there q x p e))
 
   final_natural : (q : Option (List (Located P (List ℕ)))) (before : List (Located P (List ℕ))) (x : Located P (List ℕ))
       → final_error (map_option (map (on_loc f)) q) (map (on_loc f) before) (on_loc f x) ≡ map on_diagnostic (final_error q before x)
   final_natural q before x = go (listed_at x.value before) refl
     where
       go : (o : Option P) → listed_at x.value before ≡ o → final_error (map_option (map (on_loc f)) q) (map (on_loc f) before) (on_loc f x) ≡ map on_diagnostic (final_error q before x)
-      go none e = final_new (map_option (map (on_loc f)) q) (map (on_loc f) before) (on_loc f x) (listed_natural x.value before ∙ ap (map_option f) e) ∙ (unknown_natural q x ∙ sym (ap (map on_diagnostic) (final_new q before x e)))
-      go (some p) e = final_repeat (map_option (map (on_loc f)) q) (map (on_loc f) before) (on_loc f x) (f p) (listed_natural x.value before ∙ ap (map_option f) e) ∙ sym (ap (map on_diagnostic) (final_repeat q before x p e))
+      go None e = final_new (map_option (map (on_loc f)) q) (map (on_loc f) before) (on_loc f x) (listed_natural x.value before ∙ ap (map_option f) e) ∙ (unknown_natural q x ∙ sym (ap (map on_diagnostic) (final_new q before x e)))
+      go (Some p) e = final_repeat (map_option (map (on_loc f)) q) (map (on_loc f) before) (on_loc f x) (f p) (listed_natural x.value before ∙ ap (map_option f) e) ∙ sym (ap (map on_diagnostic) (final_repeat q before x p e))
 
   finals_natural : (q : Option (List (Located P (List ℕ)))) (before l : List (Located P (List ℕ))) → final_errors (map_option (map (on_loc f)) q) (map (on_loc f) before) (map (on_loc f) l) ≡ map on_diagnostic (final_errors q before l)
   unfolding final_errors
@@ -447,9 +445,9 @@ module _ {P Q : Type 0} (f : P → Q) where
       error_expands n (on_rule_line r) (map on_rule_line rs) cut (verdict_natural n r.raw ∙ e)
       ∙ (ap (λ k. rule_errors (n + k) cut (map on_rule_line rs)) (combinations_natural r.raw.read) ∙ (h (n + combinations r.raw.read) cut ∙ sym (ap (map on_diagnostic) (error_expands n r rs cut e))))
   rules_case n cut r rs wrong_arity e h =
-      error_arity n (on_rule_line r) (map on_rule_line rs) cut (verdict_natural n r.raw ∙ e) ∙ (ap (λ t. diagnostic 10 (f r.line) none ∷ t) (h n cut) ∙ sym (ap (map on_diagnostic) (error_arity n r rs cut e)))
+      error_arity n (on_rule_line r) (map on_rule_line rs) cut (verdict_natural n r.raw ∙ e) ∙ (ap (λ t. diagnostic 10 (f r.line) None ∷ t) (h n cut) ∙ sym (ap (map on_diagnostic) (error_arity n r rs cut e)))
   rules_case n false r rs too_many e h =
-      error_many n (on_rule_line r) (map on_rule_line rs) (verdict_natural n r.raw ∙ e) ∙ (ap (λ t. diagnostic 9 (f r.line) none ∷ t) (h n true) ∙ sym (ap (map on_diagnostic) (error_many n r rs e)))
+      error_many n (on_rule_line r) (map on_rule_line rs) (verdict_natural n r.raw ∙ e) ∙ (ap (λ t. diagnostic 9 (f r.line) None ∷ t) (h n true) ∙ sym (ap (map on_diagnostic) (error_many n r rs e)))
   rules_case n true r rs too_many e h = error_more n (on_rule_line r) (map on_rule_line rs) (verdict_natural n r.raw ∙ e) ∙ (h n true ∙ sym (ap (map on_diagnostic) (error_more n r rs e)))
 
   rules_natural : (n : ℕ) (cut : Bool) (rs : List (RuleLine P)) → rule_errors n cut (map on_rule_line rs) ≡ map on_diagnostic (rule_errors n cut rs)
@@ -457,22 +455,21 @@ module _ {P Q : Type 0} (f : P → Q) where
   rules_natural n cut [] = refl
   rules_natural n cut (r ∷ rs) = rules_case n cut r rs (verdict n r.raw) refl (λ k c. rules_natural k c rs)
 
-  else_natural : (o : Option (List (Located P (List ℕ)))) → or_else (map_option (map (on_loc f)) o) [] ≡ map (on_loc f) (or_else o [])
-  unfolding or_else
-  else_natural none = refl
-  else_natural (some l) = refl
+  else_natural : (o : Option (List (Located P (List ℕ)))) → unwrap_or (map_option (map (on_loc f)) o) [] ≡ map (on_loc f) (unwrap_or o [])
+  else_natural None = refl
+  else_natural (Some l) = refl
 
   pub diagnostics_natural : (ls : List (Line P)) → diagnostics_of (map (on_line f) ls) ≡ map on_diagnostic (diagnostics_of ls)
   unfolding diagnostics_of states_in finals_in
   diagnostics_natural ls =
       let is = items ls in
-      let q = found (first (λ p. p.states) is) in
-      let l = or_else (found (first (λ p. p.finals) is)) [] in
+      let q = found (first (select λ p. p.states) is) in
+      let l = unwrap_or (found (first (select λ p. p.finals) is)) [] in
       ap₂ (λ x y. x ++ y) (errors_natural ls)
       (ap₂ (λ x y. x ++ y) (ap (declaration_errors []) (items_natural ls) ∙ declarations_natural [] is)
       (ap₂ (λ x y. x ++ y)
-      (ap (λ is. final_errors (found (first (λ p. p.states) is)) [] (or_else (found (first (λ p. p.finals) is)) [])) (items_natural ls)
-      ∙ (ap₂ (λ q l. final_errors q [] (or_else l [])) (found_natural (λ p. p.states) (λ p. p.states) (map (on_loc f)) (λ p. refl) is) (found_natural (λ p. p.finals) (λ p. p.finals) (map (on_loc f)) (λ p. refl) is)
-      ∙ (ap (final_errors (map_option (map (on_loc f)) q) []) (else_natural (found (first (λ p. p.finals) is))) ∙ finals_natural q [] l)))
+      (ap (λ is. final_errors (found (first (select λ p. p.states) is)) [] (unwrap_or (found (first (select λ p. p.finals) is)) [])) (items_natural ls)
+      ∙ (ap₂ (λ q l. final_errors q [] (unwrap_or l [])) (found_natural (λ p. p.states) (λ p. p.states) (map (on_loc f)) (λ p. refl) is) (found_natural (λ p. p.finals) (λ p. p.finals) (map (on_loc f)) (λ p. refl) is)
+      ∙ (ap (final_errors (map_option (map (on_loc f)) q) []) (else_natural (found (first (select λ p. p.finals) is))) ∙ finals_natural q [] l)))
       (ap (λ b. rule_errors 0 false b.rules) (body_natural ls) ∙ rules_natural 0 false (body_of ls).rules)))
       ∙ sym (four-append on_diagnostic (line_errors ls) (declaration_errors [] is) (final_errors q [] l) (rule_errors 0 false (body_of ls).rules))

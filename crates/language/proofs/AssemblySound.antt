@@ -1,18 +1,19 @@
 -- What well-formed lines say is well formed, and stands for at most 262,144 rules.
 use Prim.Native.Nat.{ℕ, ◌≤◌}
 use mathlib.Core.List.{List, [], ◌∷◌, map}
-use mathlib.Core.Option.{Option, none, some}
+use Rattle.std.specs.Prelude.{Option, None, Some, unwrap_or}
 use mathlib.Core.Path.{refl, sym, subst}
 use lib.ListN.{length, length-map}
 use Rattle.language.specs.Machine.{Located, Dir, Action}
 use Rattle.language.specs.Content.{ActionContent, RuleContent, optional, values, rule_content}
 use Rattle.language.specs.Lines.{RawSymbol, raw_blank, glyph, Text, Item, Line}
-use Rattle.language.specs.Assembly.{items, first, found, or_else, resolve, blank_of, states_in, finals_in, RuleLine, body_of, kept, each_front, choices, written, actions, rule_of, dressed, expand, expand_all}
+use Rattle.language.specs.Assembly.{items, first, found, resolve, blank_of, states_in, finals_in, RuleLine, body_of, kept, each_front, choices, written, actions, rule_of, dressed, expand, expand_all}
+use Rattle.language.proofs.Columns.{select}
 use Rattle.language.specs.Infer.{machine_of}
 use Rattle.language.proofs.Every.{Every, Maybe, Filled, every_append, every_map, every_impl}
 use Rattle.language.proofs.Facts.{Facts, map_option, blank_c, facts_from, facts_of, map-append}
 use Rattle.language.proofs.LexSound.{AllFine, fine}
-use Rattle.language.proofs.ParseHolds.{Some, GoodLine}
+use Rattle.language.proofs.ParseHolds.{EachOfSome, GoodLine}
 use Rattle.language.proofs.AssemblyHolds.{GoodRuleLine, items_good, found_good, body_good, kept_good}
 use Rattle.language.proofs.ReadCounts.{rules-within}
 use Rattle.language.proofs.ParseSound.{GoodName, GoodCode, GoodSymbol, GoodComment, GoodOutput, writable}
@@ -54,13 +55,13 @@ resolve_good b (glyph c) h k = k
 
 written_good : (b : ℕ) (r : RawSymbol) (w : Option RawSymbol) → GoodCode b → GoodSymbol r → Maybe GoodSymbol w → GoodCode (written b r w)
 unfolding written
-written_good b r none g h k = resolve_good b r g h
-written_good b r (some w) g h k = resolve_good b w g k
+written_good b r None g h k = resolve_good b r g h
+written_good b r (Some w) g h k = resolve_good b w g k
 
 pub blank_good : (o : Option RawSymbol) → Maybe GoodSymbol o → GoodCode (blank_c o)
 unfolding blank_c fine
-blank_good none h = (refl, refl)
-blank_good (some s) h = resolve_good 0x2423 s (refl, refl) h
+blank_good None h = (refl, refl)
+blank_good (Some s) h = resolve_good 0x2423 s (refl, refl) h
 
 module _ {P : Type 0} where
   abbrev Note : Located P (List ℕ) → Type 0
@@ -106,8 +107,8 @@ module _ {P : Type 0} where
 
   optional_good : (c : Option (Located P (List ℕ))) → Maybe Note c → Maybe GoodComment (optional c)
   unfolding optional
-  optional_good none h = tt
-  optional_good (some c) h = h
+  optional_good None h = tt
+  optional_good (Some c) h = h
 
   values_good : {A : Type 0} (good : A → Type 0) (l : List (Located P A)) → Every (λ x. good x.value) l → Every good (values l)
   unfolding values
@@ -125,9 +126,9 @@ module _ {P : Type 0} where
     rule-some = actions-some b rs l.raw.write l.raw.dir (x.1 h.raw_good.read_good.0) h.raw_good.write_good.0 h.raw_good.dir_good;
   }
 
-  more_good : (b : ℕ) → GoodCode b → (l : RuleLine P) → GoodRuleLine writable l → (css : List (List (Located P RawSymbol))) → Every (Choice l.raw.read) css → Every GoodRule (map rule_content (map (rule_of b l none []) css))
+  more_good : (b : ℕ) → GoodCode b → (l : RuleLine P) → GoodRuleLine writable l → (css : List (List (Located P RawSymbol))) → Every (Choice l.raw.read) css → Every GoodRule (map rule_content (map (rule_of b l None []) css))
   more_good b g l h [] k = tt
-  more_good b g l h (rs ∷ css) k = (rule_good b g l h none [] tt tt rs k.0, more_good b g l h css k.1)
+  more_good b g l h (rs ∷ css) k = (rule_good b g l h None [] tt tt rs k.0, more_good b g l h css k.1)
 
   dressed_good : (b : ℕ) → GoodCode b → (l : RuleLine P) → GoodRuleLine writable l → (css : List (List (Located P RawSymbol))) → Every (Choice l.raw.read) css → Every GoodRule (map rule_content (dressed b l css))
   unfolding dressed
@@ -140,24 +141,24 @@ module _ {P : Type 0} where
   expand_good b g (l ∷ ls) h =
       subst (Every GoodRule) (sym (map-append rule_content (expand b l) (expand_all b ls)))
       (every_append GoodRule (map rule_content (expand b l)) (map rule_content (expand_all b ls))
-      (dressed_good b g l h.0 (choices l.raw.read) (choices_good l.raw.read (every_impl (Some Sym) (Every Sym) (λ s k. k.1) l.raw.read h.0.raw_good.read_good.1)))
+      (dressed_good b g l h.0 (choices l.raw.read) (choices_good l.raw.read (every_impl (EachOfSome Sym) (Every Sym) (λ s k. k.1) l.raw.read h.0.raw_good.read_good.1)))
       (expand_good b g ls h.1))
 
 -- ---- facts
 
 option_good : {A B : Type 0} (good : A → Type 0) (fine : B → Type 0) (g : A → B) → ((a : A) → good a → fine (g a)) → (o : Option A) → Maybe good o → Maybe fine (map_option g o)
-option_good good fine g e none h = tt
-option_good good fine g e (some a) h = e a h
+option_good good fine g e None h = tt
+option_good good fine g e (Some a) h = e a h
 
 module _ {P : Type 0} where
-  else_good : (o : Option (List (Located P (List ℕ)))) → Maybe (Every (λ n. GoodName n.value)) o → Every GoodName (values (or_else o []))
-  unfolding or_else values
-  else_good none h = tt
-  else_good (some l) h = values_good GoodName l h
+  else_good : (o : Option (List (Located P (List ℕ)))) → Maybe (Every (λ n. GoodName n.value)) o → Every GoodName (values (unwrap_or o []))
+  unfolding values
+  else_good None h = tt
+  else_good (Some l) h = values_good GoodName l h
 
-  blank_is : (is : List (Located P (Item P))) → Maybe GoodSymbol (found (first (λ p. p.blank) is)) → GoodCode (blank_of is)
+  blank_is : (is : List (Located P (Item P))) → Maybe GoodSymbol (found (first (select λ p. p.blank) is)) → GoodCode (blank_of is)
   unfolding blank_of blank_c
-  blank_is is k = blank_good (found (first (λ p. p.blank) is)) k
+  blank_is is k = blank_good (found (first (select λ p. p.blank) is)) k
 
   pub facts_good : (ls : List (Line P)) → Every (GoodLine writable) ls → GoodFacts (facts_of ls)
   unfolding facts_of facts_from states_in finals_in body_of machine_of
@@ -167,15 +168,15 @@ module _ {P : Type 0} where
       let body = body_good writable ls h in
       let blank = found_good writable GoodSymbol (λ p. p.blank) (λ p k. k.blank_part) is g in
       record {
-        f_name = option_good {A = Text P} (λ t. AllFine t.value.value) AllFine (λ t. t.value.value) (λ t k. k) (found (first (λ p. p.machine) is)) (found_good writable (λ t. AllFine t.value.value) (λ p. p.machine) (λ p k. k.machine-part) is g);
-        f_input = option_good {A = Text P} (λ t. AllFine t.value.value) AllFine (λ t. t.value.value) (λ t k. k) (found (first (λ p. p.input) is)) (found_good writable (λ t. AllFine t.value.value) (λ p. p.input) (λ p k. k.input_part) is g);
+        f_name = option_good {A = Text P} (λ t. AllFine t.value.value) AllFine (λ t. t.value.value) (λ t k. k) (found (first (select λ p. p.machine) is)) (found_good writable (λ t. AllFine t.value.value) (λ p. p.machine) (λ p k. k.machine-part) is g);
+        f_input = option_good {A = Text P} (λ t. AllFine t.value.value) AllFine (λ t. t.value.value) (λ t k. k) (found (first (select λ p. p.input) is)) (found_good writable (λ t. AllFine t.value.value) (λ p. p.input) (λ p k. k.input_part) is g);
         f_output = found_good writable GoodOutput (λ p. p.output) (λ p k. k.output-part) is g;
-        f_states = option_good {A = List (Located P (List ℕ))} (Every (λ n. GoodName n.value)) (Every GoodName) values (values_good GoodName) (found (first (λ p. p.states) is)) (found_good writable (Every (λ n. GoodName n.value)) (λ p. p.states) (λ p k. k.states-part) is g);
-        f_finals = else_good (found (first (λ p. p.finals) is)) (found_good writable (Every (λ n. GoodName n.value)) (λ p. p.finals) (λ p k. k.finals-part) is g);
-        f_sigma = option_good (Every (Sym {P = P})) (Every GoodSymbol) values (values_good GoodSymbol) (found (first (λ p. p.sigma) is)) (found_good writable (Every (Sym {P = P})) (λ p. p.sigma) (λ p k. k.sigma-part) is g);
-        f_gamma = option_good (Every (Sym {P = P})) (Every GoodSymbol) values (values_good GoodSymbol) (found (first (λ p. p.gamma) is)) (found_good writable (Every (Sym {P = P})) (λ p. p.gamma) (λ p k. k.gamma-part) is g);
+        f_states = option_good {A = List (Located P (List ℕ))} (Every (λ n. GoodName n.value)) (Every GoodName) values (values_good GoodName) (found (first (select λ p. p.states) is)) (found_good writable (Every (λ n. GoodName n.value)) (λ p. p.states) (λ p k. k.states-part) is g);
+        f_finals = else_good (found (first (select λ p. p.finals) is)) (found_good writable (Every (λ n. GoodName n.value)) (λ p. p.finals) (λ p k. k.finals-part) is g);
+        f_sigma = option_good (Every (Sym {P = P})) (Every GoodSymbol) values (values_good GoodSymbol) (found (first (select λ p. p.sigma) is)) (found_good writable (Every (Sym {P = P})) (λ p. p.sigma) (λ p k. k.sigma-part) is g);
+        f_gamma = option_good (Every (Sym {P = P})) (Every GoodSymbol) values (values_good GoodSymbol) (found (first (select λ p. p.gamma) is)) (found_good writable (Every (Sym {P = P})) (λ p. p.gamma) (λ p k. k.gamma-part) is g);
         f_blank = blank;
-        f_start = option_good {A = Located P (List ℕ)} (λ n. GoodName n.value) GoodName (λ n. n.value) (λ n k. k) (found (first (λ p. p.start) is)) (found_good writable (λ n. GoodName n.value) (λ p. p.start) (λ p k. k.start-part) is g);
+        f_start = option_good {A = Located P (List ℕ)} (λ n. GoodName n.value) GoodName (λ n. n.value) (λ n k. k) (found (first (select λ p. p.start) is)) (found_good writable (λ n. GoodName n.value) (λ p. p.start) (λ p k. k.start-part) is g);
         f_header = values_good GoodComment (body_of ls).header body.header_good;
         f_trailing = values_good GoodComment (body_of ls).trailing body.trailing_good;
         f_rules = expand_good (blank_of is) (blank_is is blank) (kept 0 (body_of ls).rules) (kept_good writable ls h);

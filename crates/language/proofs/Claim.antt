@@ -4,7 +4,6 @@ use native.Mathlib.Omega.{arith}
 use mathlib.Core.Bool.{Bool, true, false, false≢true}
 use mathlib.Core.List.{List, [], ◌++◌}
 use mathlib.Core.Logic.{◌↔◌}
-use mathlib.Core.Option.{Option, none, some}
 use mathlib.Core.Path.{◌≡◌, refl, ap, ◌∙◌, sym, subst}
 use borrow.Author.Tests.{ltb-false, le-ltb}
 use lib.Dec.{ltb}
@@ -12,35 +11,71 @@ use lib.ListN.{length, drop}
 use lib.Seq.{take-append_seam}
 use Rattle.chars.specs.Utf8.{decode, valid_up_to}
 use Rattle.chars.specs.Class.{first_outside}
-use Rattle.std.specs.Prelude.{Option as Perhaps, Some, None}
+use Rattle.std.specs.Prelude.{Option as Perhaps, Some, None, Option}
 use Rattle.chars.proofs.Theorems.{valid_le}
 use Rattle.lexer.specs.Tokens.{Span}
+use Rattle.machine.specs.declared.Head.{Head}
 use Rattle.language.specs.Lines.{Line, read_lines}
 use Rattle.language.specs.Assembly.{diagnostics}
 use Rattle.language.specs.Infer.{machine_of}
-use Rattle.language.specs.Layout.{Head, head_of, sheet_words}
-use Rattle.language.specs.Outcome.{Refusal, text_too_long, work_too_short, invalid_utf8, outside_set, max_bytes, work_needed, refusal_of, admitted, machine, zeros, filled, ReadOutcome, words_needed, read_machine, read_with, read_outcome, written, form_of, write_form, write_with, write_outcome}
+use Rattle.language.specs.Layout.{head_of, sheet_words}
+use Rattle.language.specs.Outcome.{Refusal, text_too_long, work_too_short, invalid_utf8, outside_set, max_bytes, work_needed, refusal_of, admitted, machine, zeros, filled, ReadOutcome, words_needed, read_machine, read_with, read_outcome, written, WriteOutcome, form_of, write_form, write_with, write_outcome}
 use Rattle.language.specs.Agreement.{Answer, content_of_answer}
-use Rattle.language.specs.Claim.{Lent, reading, writing, Enough, Writable, form_left, answer_given, BothAgree, Claim}
+use Rattle.language.specs.Claim.{Writable, form_left, answer_given, BothAgree}
 use Rattle.language.proofs.AnswerBack.{answer_of_text}
 use Rattle.language.proofs.RoundTrip.{content_of_text, Reads, round_trip, forms_agree, form_again}
+
+-- ---- what is shown
+
+-- what a call is lent: so many words of work; a log, a sheet and an output that hold anything
+pub record Lent : Type 0 where
+  pub work : ℕ
+  pub log : List ℕ
+  pub sheet : List ℕ
+  pub output : List ℕ
+
+-- a reading call with them
+abbrev pub reading : List ℕ → Lent → ReadOutcome (List ℕ)
+reading t b = read_outcome t b.work b.log b.sheet
+
+-- a writing call with them
+abbrev pub writing : List ℕ → Lent → WriteOutcome (List ℕ)
+writing t b = write_outcome t b.work b.log b.sheet b.output
+
+-- long enough for a text, its sheet and its plain form
+pub record Enough (t : List ℕ) (b : Lent) : Type 0 where
+  pub work_fits : work_needed (length t) ≤ b.work
+  pub sheet_fits : words_needed (read_lines (decode t)) ≤ length b.sheet
+  pub output_fits : length (form_of t) ≤ length b.output
+
+-- the claim, for two texts and their buffers
+pub record Claim (t u : List ℕ) (a b : Lent) : Type 0 where
+  -- the forms are equal bytes exactly when the answers agree
+  pub forms : (form_left (writing t a) ≡ form_left (writing u b)) ↔ BothAgree (answer_given t (reading t a)) (answer_given u (reading u b))
+  -- the bytes that are written are the text's plain form
+  pub form_written : form_left (writing t a) ≡ form_of t
+  -- a form is a text of that kind again
+  pub form_writable : Writable (form_left (writing t a))
+  -- and with any buffers long enough it reads as a machine that agrees with the text's
+  pub form_agrees : (c : Lent) → Enough (form_left (writing t a)) c
+      → BothAgree (answer_given (form_left (writing t a)) (reading (form_left (writing t a)) c)) (answer_given t (reading t a))
 
 -- ---- rows 1 to 4
 
 -- what the four tests give
 abbrev rows : Bool → Bool → Bool → ℕ → Perhaps ℕ → Option Refusal
 rows long short invalid n o = elim long as (λ _. Option Refusal) [
-  | true ↦ some text_too_long
-  | false ↦ elim short [ true ↦ some work_too_short | false ↦ elim invalid [ true ↦ some (invalid_utf8 n) | false ↦ elim o [ Some p ↦ some (outside_set p) | None ↦ none ] ] ]
+  | true ↦ Some text_too_long
+  | false ↦ elim short [ true ↦ Some work_too_short | false ↦ elim invalid [ true ↦ Some (invalid_utf8 n) | false ↦ elim o [ Some p ↦ Some (outside_set p) | None ↦ None ] ] ]
 ]
 
 -- a text that passes them is short and UTF-8, and passes with any work that is long enough
 record Passed (long invalid : Bool) (n : ℕ) (o : Perhaps ℕ) : Type 0 where
   not_long : long ≡ false
   not_invalid : invalid ≡ false
-  passes : rows long false invalid n o ≡ none
+  passes : rows long false invalid n o ≡ None
 
-passed : (long short invalid : Bool) (n : ℕ) (o : Perhaps ℕ) → elim (rows long short invalid n o) [ none ↦ true | some r ↦ false ] ≡ true → Passed long invalid n o
+passed : (long short invalid : Bool) (n : ℕ) (o : Perhaps ℕ) → elim (rows long short invalid n o) [ None ↦ true | Some r ↦ false ] ≡ true → Passed long invalid n o
 passed true short invalid n o e = absurd (false≢true e)
 passed false true invalid n o e = absurd (false≢true e)
 passed false false true n o e = absurd (false≢true e)
@@ -53,7 +88,7 @@ module _ (t : List ℕ) (h : admitted t ≡ true) where
   facts = passed (ltb max_bytes (length t)) (ltb (work_needed (length t)) (work_needed (length t))) (ltb (valid_up_to t) (length t)) (valid_up_to t) (first_outside t) h
 
   -- it is not refused by rows 1 to 4
-  pub not-refused : (work : ℕ) → work_needed (length t) ≤ work → refusal_of t work ≡ none
+  pub not-refused : (work : ℕ) → work_needed (length t) ≤ work → refusal_of t work ≡ None
   unfolding refusal_of
   not-refused work k = ap (λ s. rows (ltb max_bytes (length t)) s (ltb (valid_up_to t) (length t)) (valid_up_to t) (first_outside t)) (le-ltb work (work_needed (length t)) k) ∙ facts.passes
 
@@ -66,7 +101,7 @@ module _ (t : List ℕ) (h : admitted t ≡ true) where
 -- ---- calls
 
 -- a reading call that is lent enough answers with the machine
-abbrev read_of : List ℕ → ℕ → ℕ → ReadOutcome
+abbrev read_of : List ℕ → ℕ → ℕ → ReadOutcome (List ℕ)
 read_of t log sheet =
     let m = machine_of (read_lines (decode t)) in
     record { reply = machine (head_of m); log = zeros log; sheet = filled (sheet_words m) sheet }
@@ -75,7 +110,7 @@ machine_is : (ls : List (Line Span)) (log sheet : ℕ) → words_needed ls ≤ s
 unfolding read_machine
 machine_is ls log sheet k = rw (le-ltb sheet (words_needed ls) k, read_machine) refl
 
-pub read_is : (t : List ℕ) (work : ℕ) (log sheet : List ℕ) → refusal_of t work ≡ none → diagnostics (read_lines (decode t)) ≡ [] → words_needed (read_lines (decode t)) ≤ length sheet
+pub read_is : (t : List ℕ) (work : ℕ) (log sheet : List ℕ) → refusal_of t work ≡ None → diagnostics (read_lines (decode t)) ≡ [] → words_needed (read_lines (decode t)) ≤ length sheet
     → read_outcome t work log sheet ≡ read_of t (length log) (length sheet)
 unfolding read_outcome read_with
 read_is t work log sheet e d k =
@@ -108,7 +143,7 @@ module _ (t : List ℕ) (good : Writable t) (b : Lent) (enough : Enough t b) whe
       let m = machine_of (read_lines (decode t)) in
       record { head = head_of m; sheet = filled (sheet_words m) (length b.sheet); text = t }
 
-  answer_given_lem : answer_given t (reading t b) ≡ some answer
+  answer_given_lem : answer_given t (reading t b) ≡ Some answer
   unfolding answer
   answer_given_lem = ap (answer_given t) read_answers
 
@@ -145,7 +180,7 @@ claim t u good fine a b e f =
       forms = (λ p. agree.0 (same.0 (sym left ∙ (p ∙ right))), λ p. left ∙ (same.1 (agree.1 p) ∙ sym right));
       form_written = left;
       form_writable = subst Writable (sym left) (form-writes t good);
-      form_agrees_lem = subst (λ x. (c : Lent) → Enough x c → BothAgree (answer_given x (reading x c)) (answer_given t (reading t a))) (sym left)
+      form_agrees = subst (λ x. (c : Lent) → Enough x c → BothAgree (answer_given x (reading x c)) (answer_given t (reading t a))) (sym left)
           (λ c g. (both_agree (form_of t) t (form-writes t good) good c a g e).0 (round_trip t good.is_admitted good.form_short).1);
     }
   where

@@ -4,18 +4,23 @@ use Prim.Native.Char.{code}
 use Prim.Native.String as S
 use mathlib.Core.Bool.{Bool, true, false, ◌&&◌, ◌||◌, false≢true}
 use mathlib.Core.List.{List, [], ◌∷◌, ◌++◌, map}
-use mathlib.Core.Option.{Option, none, some}
+use Rattle.std.specs.Prelude.{Option, None, Some, unwrap_or, option_to_list, is_some}
 use mathlib.Core.Path.{◌≡◌, refl, sym, subst}
 use native.Mathlib.Omega.{arith}
 use borrow.Author.Tests.{leb-true}
 use lib.Dec.{eqb, leb}
 use lib.ListN.{length}
 use Rattle.lexer.specs.Text.{same, codes}
-use Rattle.language.specs.Machine.{Kind, acceptor, transducer, enumerator, beaver, lsb, msb, Decoder, as_word, as_unary, as_binary, Dir, left, right, stay}
+use Rattle.machine.specs.declared.Kind.{Kind}
+use Rattle.machine.specs.declared.Kind.TheVariants.{Acceptor, Transducer, Enumerator, Beaver}
+use Rattle.machine.specs.declared.BitOrder.TheVariants.{Lsb, Msb}
+use Rattle.machine.specs.declared.Decoder.{Decoder}
+use Rattle.machine.specs.declared.Decoder.TheVariants.{Word, Unary, Binary}
+use Rattle.language.specs.Machine.{Dir, left, right, stay}
 use Rattle.language.specs.Content.{StateContent, RuleContent, Content}
 use Rattle.language.specs.Lines.{RawSymbol, RawDecoder, raw_word, raw_unary, raw_binary}
-use Rattle.language.specs.Assembly.{or_else, resolve, of_option}
-use Rattle.language.specs.Infer.{is_some, member, fresh, nothing, resolve_decoder}
+use Rattle.language.specs.Assembly.{resolve}
+use Rattle.language.specs.Infer.{member, fresh, nothing, resolve_decoder}
 use Rattle.language.specs.Plain.{Piece, ◌⨾◌, say, verbatim, end, only, each, commas, symbol, direction, escaped, in_string, escaped_text, string, decimal, comment, comment_line, own_comment, kind_name, decoder, name_set, symbol_set, final_names, rule, rule_lines, pieces, plain}
 use Rattle.language.proofs.Every.{by_test, and_left, and_right, Every, Maybe, every_append, every_map, every_impl}
 use Rattle.language.proofs.PlainLex.{IsWord, IsSymbol, IsComment}
@@ -30,9 +35,9 @@ use Rattle.language.proofs.Facts.{Facts, mentions_c, marked_c, candidates_c, wit
 use Rattle.language.proofs.InferAgain.{fresh_every}
 
 abbrev pub GoodDecoder : Decoder → Type 0
-GoodDecoder as_word = Unit {0}
-GoodDecoder (as_unary c) = GoodCode c
-GoodDecoder (as_binary b) = Unit {0}
+GoodDecoder Word = Unit {0}
+GoodDecoder (Unary c) = GoodCode c
+GoodDecoder (Binary b) = Unit {0}
 
 -- a content that a plain form can write
 pub record GoodContent (m : Content) : Type 0 where
@@ -55,10 +60,9 @@ pub record GoodContent (m : Content) : Type 0 where
 
 -- ---- inference keeps what is well formed
 
-else_fine : (o : Option (List ℕ)) → Maybe AllFine o → AllFine (or_else o [])
-unfolding or_else
-else_fine none h = tt
-else_fine (some s) h = h
+else_fine : (o : Option (List ℕ)) → Maybe AllFine o → AllFine (unwrap_or o [])
+else_fine None h = tt
+else_fine (Some s) h = h
 
 decoder_good : (b : ℕ) → GoodCode b → (o : RawDecoder) → GoodOutput o → GoodDecoder (resolve_decoder b o)
 unfolding resolve_decoder
@@ -66,37 +70,34 @@ decoder_good b g raw_word h = tt
 decoder_good b g (raw_unary s) h = resolve_good b s g h
 decoder_good b g (raw_binary o) h = tt
 
-output_good : (b : ℕ) → GoodCode b → (o : Option RawDecoder) → Maybe GoodOutput o → GoodDecoder (resolve_decoder b (or_else o raw_word))
-unfolding or_else
-output_good b g none h = decoder_good b g raw_word tt
-output_good b g (some o) h = decoder_good b g o h
+output_good : (b : ℕ) → GoodCode b → (o : Option RawDecoder) → Maybe GoodOutput o → GoodDecoder (resolve_decoder b (unwrap_or o raw_word))
+output_good b g None h = decoder_good b g raw_word tt
+output_good b g (Some o) h = decoder_good b g o h
 
 tapes_good : (o : Option ℕ) → tapes_c o < 256
 unfolding tapes_c
-tapes_good none = omega arith
-tapes_good (some n) = by_test (leb n 255) (λ e. let h : n ≤ 255 = leb-true n 255 e in rw (e, tapes_c) (omega arith)) (λ e. rw (e, tapes_c) (omega arith))
+tapes_good None = omega arith
+tapes_good (Some n) = by_test (leb n 255) (λ e. let h : n ≤ 255 = leb-true n 255 e in rw (e, tapes_c) (omega arith)) (λ e. rw (e, tapes_c) (omega arith))
 
 mentions_good : (rs : List RuleContent) → Every GoodRule rs → Every GoodName (mentions_c rs)
 unfolding mentions_c
 mentions_good [] h = tt
 mentions_good (r ∷ rs) h = (h.0.rule_from, (h.0.rule_to, mentions_good rs h.1))
 
-option_names : (o : Option (List ℕ)) → Maybe GoodName o → Every GoodName (of_option o)
-unfolding of_option
-option_names none h = tt
-option_names (some w) h = (h, tt)
+option_names : (o : Option (List ℕ)) → Maybe GoodName o → Every GoodName (option_to_list o)
+option_names None h = tt
+option_names (Some w) h = (h, tt)
 
-else_names : (q : Option (List (List ℕ))) (l : List (List ℕ)) → Maybe (Every GoodName) q → Every GoodName l → Every GoodName (or_else q l)
-unfolding or_else
-else_names none l h k = k
-else_names (some q) l h k = h
+else_names : (q : Option (List (List ℕ))) (l : List (List ℕ)) → Maybe (Every GoodName) q → Every GoodName l → Every GoodName (unwrap_or q l)
+else_names None l h k = k
+else_names (Some q) l h k = h
 
 names_good : (f : Facts) → GoodFacts f → Every GoodName (names_c f)
 unfolding names_c
 names_good f g = else_names f.states _ g.f_states
-    (fresh_every GoodName nothing (of_option f.start ++ mentions_c f.rules ++ fresh same nothing f.finals)
-    (every_append GoodName (of_option f.start ++ mentions_c f.rules) (fresh same nothing f.finals)
-    (every_append GoodName (of_option f.start) (mentions_c f.rules) (option_names f.start g.f_start) (mentions_good f.rules g.f_rules))
+    (fresh_every GoodName nothing (option_to_list f.start ++ mentions_c f.rules ++ fresh same nothing f.finals)
+    (every_append GoodName (option_to_list f.start ++ mentions_c f.rules) (fresh same nothing f.finals)
+    (every_append GoodName (option_to_list f.start) (mentions_c f.rules) (option_names f.start g.f_start) (mentions_good f.rules g.f_rules))
     (fresh_every GoodName nothing f.finals g.f_finals)))
 
 marked_good : (t known : List ℕ → Bool) (l : List (List ℕ)) → Every GoodName l → Every (λ s. GoodName s.name) (marked_c t known l)
@@ -105,9 +106,9 @@ marked_good t known [] h = tt
 marked_good t known (q ∷ l) h = (h.0, marked_good t (λ y. same q y || known y) l h.1)
 
 start_good : (o : Option (List ℕ)) (names : List (List ℕ)) → Maybe GoodName o → is_some o ≡ true → GoodName (start_c o names)
-unfolding is_some start_c
-start_good none names h e = absurd (false≢true e)
-start_good (some w) names h e = h
+unfolding start_c
+start_good None names h e = absurd (false≢true e)
+start_good (Some w) names h e = h
 
 resolved_good : (b : ℕ) → GoodCode b → (l : List RawSymbol) → Every GoodSymbol l → Every GoodCode (map (resolve b) l)
 resolved_good b g l h = every_map GoodSymbol GoodCode (resolve b) (λ s k. resolve_good b s g k) l h
@@ -117,14 +118,14 @@ unfolding with_blank_c
 with_good b g l h = by_test (member eqb l b) (λ e. rw (e, with_blank_c) h) (λ e. rw (e, with_blank_c) (every_append GoodCode l (b ∷ []) h (g, tt)))
 
 sigma_good : (b : ℕ) → GoodCode b → (o : Option (List RawSymbol)) (g : List ℕ) → Maybe (Every GoodSymbol) o → is_some o ≡ true → Every GoodCode (sigma_c b o g)
-unfolding is_some sigma_c
-sigma_good b k none g h e = absurd (false≢true e)
-sigma_good b k (some s) g h e = resolved_good b k s h
+unfolding sigma_c
+sigma_good b k None g h e = absurd (false≢true e)
+sigma_good b k (Some s) g h e = resolved_good b k s h
 
 gamma_good : (b : ℕ) → GoodCode b → (o : Option (List RawSymbol)) (cs : List ℕ) → Maybe (Every GoodSymbol) o → is_some o ≡ true → Every GoodCode (gamma_c b o cs)
-unfolding is_some gamma_c
-gamma_good b k none cs h e = absurd (false≢true e)
-gamma_good b k (some s) cs h e = with_good b k (map (resolve b) s) (resolved_good b k s h)
+unfolding gamma_c
+gamma_good b k None cs h e = absurd (false≢true e)
+gamma_good b k (Some s) cs h e = with_good b k (map (resolve b) s) (resolved_good b k s h)
 
 pub content_good : (f : Facts) → GoodFacts f → GoodContent (content_from f)
 unfolding content_from
@@ -139,8 +140,8 @@ content_good f g =
       c_blank = k;
       c_start = start_good f.start (names_c f) g.f_start;
       c_states = marked_good (member same (fresh same nothing f.finals)) nothing (names_c f) (names_good f g);
-      c_sigma = sigma_good b k f.sigma (gamma_c b f.gamma (candidates_c b f.sigma f.rules (or_else f.input []))) g.f_sigma;
-      c_gamma = gamma_good b k f.gamma (candidates_c b f.sigma f.rules (or_else f.input [])) g.f_gamma;
+      c_sigma = sigma_good b k f.sigma (gamma_c b f.gamma (candidates_c b f.sigma f.rules (unwrap_or f.input []))) g.f_sigma;
+      c_gamma = gamma_good b k f.gamma (candidates_c b f.sigma f.rules (unwrap_or f.input [])) g.f_gamma;
       c_header = g.f_header;
       c_trailing = g.f_trailing;
       c_rules = g.f_rules;
@@ -156,16 +157,16 @@ comments_are : (l : List (List ℕ)) → Every GoodComment l → Every IsComment
 comments_are l h = every_impl GoodComment IsComment (λ s g. g.0) l h
 
 maybe_is : (o : Option (List ℕ)) → Maybe GoodComment o → Maybe IsComment o
-maybe_is none h = tt
-maybe_is (some s) h = h.0
+maybe_is None h = tt
+maybe_is (Some s) h = h.0
 
 codes_are : (l : List ℕ) → Every GoodCode l → Every IsSymbol l
 codes_are l h = every_impl GoodCode IsSymbol (λ c g. g.0) l h
 
 decoder_is : (d : Decoder) → GoodDecoder d → IsDecoder d
-decoder_is as_word h = tt
-decoder_is (as_unary c) h = h.0
-decoder_is (as_binary b) h = tt
+decoder_is Word h = tt
+decoder_is (Unary c) h = h.0
+decoder_is (Binary b) h = tt
 
 rule_is : (r : RuleContent) → GoodRule r → IsRule r
 rule_is r h = record {
@@ -287,8 +288,8 @@ escaped_fine c = by_test (eqb c 0x22) (λ t. rw (t, escaped) refl) (λ t. rw (t,
 
 in_string_lem : (o : Option ℕ) (c : ℕ) → Maybe Fine o → Fine c → (rest : List ℕ) → AllFine rest → AllFine (in_string o c rest)
 unfolding in_string fine
-in_string_lem none c h k rest g = (k, g)
-in_string_lem (some e) c h k rest g = (refl, (h, g))
+in_string_lem None c h k rest g = (k, g)
+in_string_lem (Some e) c h k rest g = (refl, (h, g))
 
 text_adds : (s : List ℕ) → AllFine s → (rest : List ℕ) → AllFine rest → AllFine (escaped_text s rest)
 unfolding escaped_text
@@ -312,22 +313,22 @@ fine_line s h = fine_comment s h.1 then fine_end
 
 fine_own : (o : Option (List ℕ)) → Maybe GoodComment o → FinePiece (own_comment o)
 unfolding all_fine
-fine_own none h = fine_nothing
-fine_own (some s) h = fine_say " " refl then fine_comment s h.1
+fine_own None h = fine_nothing
+fine_own (Some s) h = fine_say " " refl then fine_comment s h.1
 
 fine_kind : (k : Kind) → FinePiece (say (kind_name k))
 unfolding all_fine
-fine_kind acceptor = fine_say "acceptor" refl
-fine_kind transducer = fine_say "transducer" refl
-fine_kind enumerator = fine_say "enumerator" refl
-fine_kind beaver = fine_say "beaver" refl
+fine_kind Acceptor = fine_say "acceptor" refl
+fine_kind Transducer = fine_say "transducer" refl
+fine_kind Enumerator = fine_say "enumerator" refl
+fine_kind Beaver = fine_say "beaver" refl
 
 fine_decoder : (d : Decoder) → GoodDecoder d → FinePiece (decoder d)
 unfolding all_fine
-fine_decoder as_word h = fine_say "word" refl
-fine_decoder (as_unary c) h = fine_say "unary " refl then fine_symbol c h.1
-fine_decoder (as_binary lsb) h = fine_say "binary lsb" refl
-fine_decoder (as_binary msb) h = fine_say "binary msb" refl
+fine_decoder Word h = fine_say "word" refl
+fine_decoder (Unary c) h = fine_say "unary " refl then fine_symbol c h.1
+fine_decoder (Binary Lsb) h = fine_say "binary lsb" refl
+fine_decoder (Binary Msb) h = fine_say "binary msb" refl
 
 fine_names : (l : List (List ℕ)) → Every AllFine l → FinePiece (name_set l)
 unfolding name_set all_fine

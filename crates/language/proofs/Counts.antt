@@ -3,7 +3,7 @@ use Prim.Native.Nat.{ℕ, suc, ◌+◌, ◌*◌}
 use native.Mathlib.Omega.{arith}
 use mathlib.Core.Bool.{Bool, ◌&&◌}
 use mathlib.Core.List.{List, [], ◌∷◌, ◌++◌, map, append_assoc}
-use mathlib.Core.Option.{Option, none, some}
+use Rattle.std.specs.Prelude.{Option, None, Some}
 use mathlib.Core.Path.{◌≡◌, refl, ap, ap₂, ◌∙◌, sym}
 use borrow.Author.Tests.{eqb-true}
 use lib.Dec.{eqb}
@@ -42,7 +42,7 @@ choices-wide (s ∷ ss) = each_every (λ l. length l ≡ suc (length ss)) (λ l.
 dressed-length : {P : Type 0} (b : ℕ) (l : RuleLine P) (cs : List (List (Located P RawSymbol))) → length (dressed b l cs) ≡ length cs
 unfolding dressed
 dressed-length b l [] = refl
-dressed-length b l (c ∷ cs) = ap suc (length-map cs (rule_of b l none []))
+dressed-length b l (c ∷ cs) = ap suc (length-map cs (rule_of b l None []))
 
 -- as many rules as combinations
 pub expand-length : {P : Type 0} (b : ℕ) (l : RuleLine P) → length (expand b l) ≡ combinations l.raw.read
@@ -149,10 +149,10 @@ module _ (b : ℕ) (l : RuleLine Span) (fits : Fits l) where
   dressed-words (c ∷ cs) f h =
       let first : ℕ = length (rule_words (rule_of b l l.comment l.leading c)) in
       rw (
-        length-append (rule_words (rule_of b l l.comment l.leading c)) (flat rule_words (map (rule_of b l none []) cs)),
+        length-append (rule_words (rule_of b l l.comment l.leading c)) (flat rule_words (map (rule_of b l None []) cs)),
         choice-length l.comment l.leading c h.0,
-        flat-length rule_words (rule_length (length l.raw.read) 0) (map (rule_of b l none []) cs) (every_map (λ c. length c ≡ length l.raw.read) (λ r. length (rule_words r) ≡ rule_length (length l.raw.read) 0) (rule_of b l none []) (choice-length none []) cs h.1),
-        length-map cs (rule_of b l none []),
+        flat-length rule_words (rule_length (length l.raw.read) 0) (map (rule_of b l None []) cs) (every_map (λ c. length c ≡ length l.raw.read) (λ r. length (rule_words r) ≡ rule_length (length l.raw.read) 0) (rule_of b l None []) (choice-length None []) cs h.1),
+        length-map cs (rule_of b l None []),
       ) (omega arith)
   dressed-words [] f h = absurd f
 
@@ -180,9 +180,9 @@ pub symbol-length : (s : Symbol Span) → length (symbol_words s) ≡ 3
 unfolding symbol_words
 symbol-length s = placed s.declared_at
   where
-    placed : (o : Option Span) → length (s.code ∷ elim o [ some p ↦ place_words p | none ↦ 0 ∷ 0 ∷ [] ]) ≡ 3
-    placed none = refl
-    placed (some p) = refl
+    placed : (o : Option Span) → length (s.code ∷ elim o [ Some p ↦ place_words p | None ↦ 0 ∷ 0 ∷ [] ]) ≡ 3
+    placed None = refl
+    placed (Some p) = refl
 
 -- the sheet of a machine whose rules are those of the lines has the words that the counts say
 pub sheet_length_lem : (m : Machine Span) (b : ℕ) (ls : List (RuleLine Span)) → m.rules ≡ expand_all b ls → Every Fits ls → Every Chosen ls → length (sheet_words m) ≡ sheet_length m ls

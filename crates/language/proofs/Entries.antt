@@ -3,7 +3,7 @@ use Prim.Native.Nat.{ℕ, zero, suc, ◌≤◌, ◌<◌}
 use native.Mathlib.Omega.{arith}
 use mathlib.Core.Bool.{Bool, true, false}
 use mathlib.Core.List.{List, [], ◌∷◌}
-use mathlib.Core.Option.{Option, none, some}
+use Rattle.std.specs.Prelude.{Option, None, Some}
 use mathlib.Core.Path.{◌≡◌, refl, ap, ◌∙◌, sym}
 use lib.ListN.{length}
 use Rattle.lexer.specs.Tokens.{TokenKind, Token}
@@ -24,8 +24,8 @@ module _ {P : Type 0} (stop : P) where
 
   taken_below : {A : Type 0} (o : Option A) (bad : TokenKind → ℕ) (t : Token P) (ts : List (Token P)) → Below (suc (length ts)) (taken o bad t ts)
   unfolding taken
-  taken_below none bad t ts = tt
-  taken_below (some a) bad t ts = omega arith
+  taken_below None bad t ts = tt
+  taken_below (Some a) bad t ts = omega arith
 
   one_below : {A : Type 0} (view : TokenKind → Option A) (bad : TokenKind → ℕ) (ts : List (Token P)) → Below (length ts) (one stop view bad ts)
   unfolding one
@@ -144,8 +144,8 @@ module _ {P : Type 0} (stop : P) where
 
   opened_below : {A : Type 0} (o : Option Bool) (p q : Parser P A) → Takes p → Takes q → (t : Token P) (ts : List (Token P)) → Below (suc (length ts)) (branch o p q t ts)
   unfolding branch
-  opened_below none p q d e t ts = e.takes (t ∷ ts)
-  opened_below (some b) p q d e t ts = wider (p ts) (d.takes ts)
+  opened_below None p q d e t ts = e.takes (t ∷ ts)
+  opened_below (Some b) p q d e t ts = wider (p ts) (d.takes ts)
     where
       wider : {A : Type 0} (o : Result P A) → Below (length ts) o → Below (suc (length ts)) o
       wider (ok a us) h = omega arith

@@ -1,7 +1,7 @@
 -- Small laws on lists and tests that the round trip uses.
 use mathlib.Core.Bool.{Bool, true, false, ◌&&◌, ◌||◌, not, false≢true}
 use mathlib.Core.List.{List, [], ◌∷◌, ◌++◌, map}
-use mathlib.Core.Option.{Option, none, some}
+use Rattle.std.specs.Prelude.{Option, None, Some}
 use mathlib.Core.Path.{◌≡◌, refl, ap₂, sym}
 
 -- to go by a test and keep what it said
@@ -45,8 +45,8 @@ All p l = Every (λ a. p a ≡ true) l
 
 -- what is there has the property
 abbrev pub Maybe : {A : Type 0} → (A → Type 0) → Option A → Type 0
-Maybe p none = Unit {0}
-Maybe p (some a) = p a
+Maybe p None = Unit {0}
+Maybe p (Some a) = p a
 
 -- the list has a member
 abbrev pub Filled : {A : Type 0} → List A → Type 0

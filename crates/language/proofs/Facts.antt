@@ -2,20 +2,23 @@
 use Prim.Native.Nat.{ℕ, ◌+◌}
 use mathlib.Core.Bool.{Bool, true, false, ◌&&◌, ◌||◌, not}
 use mathlib.Core.List.{List, [], ◌∷◌, ◌++◌, map, map-map}
-use mathlib.Core.Option.{Option, none, some}
+use Rattle.std.specs.Prelude.{Option, None, Some, unwrap_or, option_to_list, is_some}
 use mathlib.Core.Path.{◌≡◌, refl, ap, ap₂, ◌∙◌, sym}
 use lib.Dec.{eqb, leb}
 use Rattle.lexer.specs.Text.{same}
-use Rattle.language.specs.Machine.{Located, Kind, transducer, Action, Rule, Symbol}
+use Rattle.machine.specs.declared.Kind.{Kind}
+use Rattle.machine.specs.declared.Kind.TheVariants.{Transducer}
+use Rattle.language.specs.Machine.{Located, Action, Rule, Symbol}
 use Rattle.language.specs.Content.{StateContent, ActionContent, RuleContent, Content, value_or, values, rule_content, content_of}
 use Rattle.language.specs.Lines.{RawSymbol, raw_blank, RawDecoder, raw_word, Item, Line}
-use Rattle.language.specs.Assembly.{Body, items, first, found, or_else, resolve, blank_of, states_in, finals_in, of_option, body_of, kept, expand_all}
-use Rattle.language.specs.Infer.{is_some, same_name, member, fresh, nothing, mentions, infer_states, marked, head, inferred, listed, used, candidates, with_blank, infer_gamma, less, infer_sigma, resolve_decoder, tapes_of, between, machine_of}
+use Rattle.language.specs.Assembly.{Body, items, first, found, resolve, blank_of, states_in, finals_in, body_of, kept, expand_all}
+use Rattle.language.proofs.Columns.{select}
+use Rattle.language.specs.Infer.{same_name, member, fresh, nothing, mentions, infer_states, marked, head, inferred, listed, used, candidates, with_blank, infer_gamma, less, infer_sigma, resolve_decoder, tapes_of, between, machine_of}
 use Rattle.language.proofs.Every.{by_test}
 
 abbrev pub map_option : {A B : Type 0} → (A → B) → Option A → Option B
-map_option g none = none
-map_option g (some a) = some (g a)
+map_option g None = None
+map_option g (Some a) = Some (g a)
 
 -- what the lines of a description say, places left out
 pub record Facts : Type 0 where
@@ -50,8 +53,8 @@ used_c (r ∷ rs) = map (λ a. a.read) r.actions ++ (map (λ a. a.write) r.actio
 
 unfoldable pub candidates_c : ℕ → Option (List RawSymbol) → List RuleContent → List ℕ → List ℕ
 unfolding resolve used_c
-candidates_c b (some s) rules input = map (resolve b) s ++ used_c rules
-candidates_c b none rules input = used_c rules ++ input
+candidates_c b (Some s) rules input = map (resolve b) s ++ used_c rules
+candidates_c b None rules input = used_c rules ++ input
 
 unfoldable pub with_blank_c : ℕ → List ℕ → List ℕ
 unfolding member
@@ -59,42 +62,42 @@ with_blank_c b g = elim (member eqb g b) [ true ↦ g | false ↦ g ++ b ∷ [] 
 
 unfoldable pub gamma_c : ℕ → Option (List RawSymbol) → List ℕ → List ℕ
 unfolding with_blank_c resolve fresh
-gamma_c b (some g) cs = with_blank_c b (map (resolve b) g)
-gamma_c b none cs = b ∷ fresh eqb (eqb b) cs
+gamma_c b (Some g) cs = with_blank_c b (map (resolve b) g)
+gamma_c b None cs = b ∷ fresh eqb (eqb b) cs
 
 unfoldable pub sigma_c : ℕ → Option (List RawSymbol) → List ℕ → List ℕ
 unfolding less resolve
-sigma_c b (some s) gamma = map (resolve b) s
-sigma_c b none gamma = less b gamma
+sigma_c b (Some s) gamma = map (resolve b) s
+sigma_c b None gamma = less b gamma
 
 unfoldable pub tapes_c : Option ℕ → ℕ
-tapes_c none = 1
-tapes_c (some n) = elim (leb n 255) [ true ↦ n | false ↦ 1 ]
+tapes_c None = 1
+tapes_c (Some n) = elim (leb n 255) [ true ↦ n | false ↦ 1 ]
 
 unfoldable pub blank_c : Option RawSymbol → ℕ
-unfolding or_else resolve
-blank_c o = resolve 0x2423 (or_else o raw_blank)
+unfolding resolve
+blank_c o = resolve 0x2423 (unwrap_or o raw_blank)
 
 unfoldable pub names_c : Facts → List (List ℕ)
-unfolding or_else fresh of_option mentions_c
-names_c f = or_else f.states (fresh same nothing (of_option f.start ++ mentions_c f.rules ++ fresh same nothing f.finals))
+unfolding fresh mentions_c
+names_c f = unwrap_or f.states (fresh same nothing (option_to_list f.start ++ mentions_c f.rules ++ fresh same nothing f.finals))
 
 unfoldable pub start_c : Option (List ℕ) → List (List ℕ) → List ℕ
-start_c (some w) names = w
-start_c none [] = []
-start_c none (w ∷ names) = w
+start_c (Some w) names = w
+start_c None [] = []
+start_c None (w ∷ names) = w
 
 -- the content of a description
 unfoldable pub content_from : Facts → Content
-unfolding or_else is_some member fresh marked_c candidates_c gamma_c sigma_c tapes_c blank_c names_c start_c resolve_decoder
+unfolding member fresh marked_c candidates_c gamma_c sigma_c tapes_c blank_c names_c start_c resolve_decoder
 content_from f =
     let b = blank_c f.blank in
-    let symbols = gamma_c b f.gamma (candidates_c b f.sigma f.rules (or_else f.input [])) in
+    let symbols = gamma_c b f.gamma (candidates_c b f.sigma f.rules (unwrap_or f.input [])) in
     record {
-      name = or_else f.name [];
-      input = or_else f.input [];
-      kind = or_else f.kind transducer;
-      output = resolve_decoder b (or_else f.output raw_word);
+      name = unwrap_or f.name [];
+      input = unwrap_or f.input [];
+      kind = unwrap_or f.kind Transducer;
+      output = resolve_decoder b (unwrap_or f.output raw_word);
       tapes = tapes_c f.tapes;
       blank = b;
       declared = record { states = is_some f.states; input_alphabet = is_some f.sigma; tape_alphabet = is_some f.gamma; start = is_some f.start; blank = is_some f.blank };
@@ -111,17 +114,17 @@ content_from f =
 unfoldable pub facts_from : {P : Type 0} → List (Located P (Item P)) → Body P → Facts
 unfolding first found blank_of states_in finals_in kept expand_all rule_content values
 facts_from is body = record {
-  name = map_option (λ t. t.value.value) (found (first (λ p. p.machine) is));
-  input = map_option (λ t. t.value.value) (found (first (λ p. p.input) is));
-  kind = found (first (λ p. p.kind) is);
-  output = found (first (λ p. p.output) is);
-  tapes = map_option (λ t. t.value) (found (first (λ p. p.tapes) is));
+  name = map_option (λ t. t.value.value) (found (first (select λ p. p.machine) is));
+  input = map_option (λ t. t.value.value) (found (first (select λ p. p.input) is));
+  kind = found (first (select λ p. p.kind) is);
+  output = found (first (select λ p. p.output) is);
+  tapes = map_option (λ t. t.value) (found (first (select λ p. p.tapes) is));
   states = map_option values (states_in is);
   finals = values (finals_in is);
-  sigma = map_option values (found (first (λ p. p.sigma) is));
-  gamma = map_option values (found (first (λ p. p.gamma) is));
-  blank = found (first (λ p. p.blank) is);
-  start = map_option (λ t. t.value) (found (first (λ p. p.start) is));
+  sigma = map_option values (found (first (select λ p. p.sigma) is));
+  gamma = map_option values (found (first (select λ p. p.gamma) is));
+  blank = found (first (select λ p. p.blank) is);
+  start = map_option (λ t. t.value) (found (first (select λ p. p.start) is));
   header = values body.header;
   trailing = values body.trailing;
   rules = map rule_content (expand_all (blank_of is) (kept 0 body.rules));
@@ -142,9 +145,8 @@ map-append f [] r = refl
 map-append f (a ∷ l) r = ap (λ t. f a ∷ t) (map-append f l r)
 
 some-values : {A B : Type 0} (f : A → B) (o : Option A) → is_some o ≡ is_some (map_option f o)
-unfolding is_some
-some-values f none = refl
-some-values f (some a) = refl
+some-values f None = refl
+some-values f (Some a) = refl
 
 codes-inferred : (P : Type 0) (l : List ℕ) → map (λ s. s.code) (map (inferred {P = P}) l) ≡ l
 unfolding inferred
@@ -186,10 +188,9 @@ module _ {P : Type 0} where
       (sym (map-map (λ (a : ActionContent). a.write) (λ (a : Action P). record { read = a.read.value; write = a.write.value; dir = a.dir }) r.actions))
       (used-values rs))
 
-  option_values : (o : Option (Name P)) → map (λ n. n.value) (of_option o) ≡ of_option (map_option (λ n. n.value) o)
-  unfolding of_option
-  option_values none = refl
-  option_values (some n) = refl
+  option_values : (o : Option (Name P)) → map (λ n. n.value) (option_to_list o) ≡ option_to_list (map_option (λ n. n.value) o)
+  option_values None = refl
+  option_values (Some n) = refl
 
   symbols-values : (b : ℕ) (l : List (Located P RawSymbol)) → map (λ x. resolve b x.value) l ≡ map (resolve b) (values l)
   unfolding values
@@ -197,8 +198,8 @@ module _ {P : Type 0} where
 
   candidates-values : (b : ℕ) (o : Option (List (Located P RawSymbol))) (rs : List (Rule P)) (i : List ℕ) → candidates b o rs i ≡ candidates_c b (map_option values o) (map rule_content rs) i
   unfolding candidates candidates_c
-  candidates-values b none rs i = ap (λ t. t ++ i) (used-values rs)
-  candidates-values b (some s) rs i = ap₂ (λ (x y : List ℕ). x ++ y) (symbols-values b s) (used-values rs)
+  candidates-values b None rs i = ap (λ t. t ++ i) (used-values rs)
+  candidates-values b (Some s) rs i = ap₂ (λ (x y : List ℕ). x ++ y) (symbols-values b s) (used-values rs)
 
   codes-listed : (b : ℕ) (l : List (Located P RawSymbol)) → map (λ s. s.code) (map (listed b) l) ≡ map (resolve b) (values l)
   unfolding listed
@@ -210,46 +211,46 @@ module _ {P : Type 0} where
 
   gamma-values : (b : ℕ) (o : Option (List (Located P RawSymbol))) (cs : List ℕ) → map (λ s. s.code) (infer_gamma b o cs) ≡ gamma_c b (map_option values o) cs
   unfolding infer_gamma gamma_c
-  gamma-values b none cs = codes-inferred P (b ∷ fresh eqb (eqb b) cs)
-  gamma-values b (some g) cs = blank_values b (map (listed b) g) ∙ ap (with_blank_c b) (codes-listed b g)
+  gamma-values b None cs = codes-inferred P (b ∷ fresh eqb (eqb b) cs)
+  gamma-values b (Some g) cs = blank_values b (map (listed b) g) ∙ ap (with_blank_c b) (codes-listed b g)
 
   sigma-values : (b : ℕ) (o : Option (List (Located P RawSymbol))) (g : List (Symbol P)) → map (λ s. s.code) (infer_sigma b o g) ≡ sigma_c b (map_option values o) (map (λ s. s.code) g)
   unfolding infer_sigma sigma_c
-  sigma-values b none g = codes-inferred P (less b (map (λ s. s.code) g))
-  sigma-values b (some s) g = codes-listed b s
+  sigma-values b None g = codes-inferred P (less b (map (λ s. s.code) g))
+  sigma-values b (Some s) g = codes-listed b s
 
   names-values : (q : Option (List (Name P))) (start : Option (Name P)) (rs : List (Rule P)) (finals : List (Name P))
-      → values (or_else q (infer_states start rs (fresh same_name nothing finals)))
-      ≡ or_else (map_option values q) (fresh same nothing (of_option (map_option (λ t. t.value) start) ++ mentions_c (map rule_content rs) ++ fresh same nothing (values finals)))
-  unfolding or_else infer_states values
-  names-values (some q) start rs finals = refl
-  names-values none start rs finals =
-      fresh-values nothing (of_option start ++ mentions rs ++ fresh same_name nothing finals)
-      ∙ ap (fresh same nothing) (map-append (λ n. n.value) (of_option start ++ mentions rs) (fresh same_name nothing finals)
+      → values (unwrap_or q (infer_states start rs (fresh same_name nothing finals)))
+      ≡ unwrap_or (map_option values q) (fresh same nothing (option_to_list (map_option (λ t. t.value) start) ++ mentions_c (map rule_content rs) ++ fresh same nothing (values finals)))
+  unfolding infer_states values
+  names-values (Some q) start rs finals = refl
+  names-values None start rs finals =
+      fresh-values nothing (option_to_list start ++ mentions rs ++ fresh same_name nothing finals)
+      ∙ ap (fresh same nothing) (map-append (λ n. n.value) (option_to_list start ++ mentions rs) (fresh same_name nothing finals)
       ∙ ap₂ (λ (x y : List (List ℕ)). x ++ y)
-      (map-append (λ n. n.value) (of_option start) (mentions rs) ∙ ap₂ (λ (x y : List (List ℕ)). x ++ y) (option_values start) (mentions-values rs))
+      (map-append (λ n. n.value) (option_to_list start) (mentions rs) ∙ ap₂ (λ (x y : List (List ℕ)). x ++ y) (option_values start) (mentions-values rs))
       (fresh-values nothing finals))
 
-  start-values : (start : Option (Name P)) (names : List (Name P)) → value_or (head (of_option start ++ names)) ≡ start_c (map_option (λ t. t.value) start) (values names)
-  unfolding head of_option value_or start_c values
-  start-values (some w) names = refl
-  start-values none [] = refl
-  start-values none (w ∷ names) = refl
+  start-values : (start : Option (Name P)) (names : List (Name P)) → value_or (head (option_to_list start ++ names)) ≡ start_c (map_option (λ t. t.value) start) (values names)
+  unfolding head value_or start_c values
+  start-values (Some w) names = refl
+  start-values None [] = refl
+  start-values None (w ∷ names) = refl
 
-  text_values : (o : Option (Located P (Name P))) → value_or (between o) ≡ or_else (map_option (λ t. t.value.value) o) []
-  unfolding value_or between or_else
-  text_values none = refl
-  text_values (some t) = refl
+  text_values : (o : Option (Located P (Name P))) → value_or (between o) ≡ unwrap_or (map_option (λ t. t.value.value) o) []
+  unfolding value_or between
+  text_values None = refl
+  text_values (Some t) = refl
 
   tapes-values : (o : Option (Located P ℕ)) → tapes_of o ≡ tapes_c (map_option (λ t. t.value) o)
   unfolding tapes_of tapes_c
-  tapes-values none = refl
-  tapes-values (some t) = refl
+  tapes-values None = refl
+  tapes-values (Some t) = refl
 
   some-found : {A : Type 0} (o : Option (Located P A)) → is_some o ≡ is_some (found o)
-  unfolding is_some found
-  some-found none = refl
-  some-found (some a) = refl
+  unfolding found
+  some-found None = refl
+  some-found (Some a) = refl
 
   states-values : (names : List (Name P)) (finals : List (Name P))
       → map (λ s. record { name = s.name.value; final = s.final }) (marked (member same_name (fresh same_name nothing finals)) nothing names) ≡ marked_c (member same (fresh same nothing (values finals))) nothing (values names)
@@ -264,27 +265,27 @@ module _ {P : Type 0} where
       let body = body_of ls in
       let b = blank_of is in
       let rules = expand_all b (kept 0 body.rules) in
-      let input = found (first (λ p. p.input) is) in
-      let start = found (first (λ p. p.start) is) in
-      let names = or_else (states_in is) (infer_states start rules (fresh same_name nothing (finals_in is))) in
-      let sigma = found (first (λ p. p.sigma) is) in
-      let gamma = found (first (λ p. p.gamma) is) in
-      let symbols : map (λ s. s.code) (infer_gamma b gamma (candidates b sigma rules (value_or (between input)))) ≡ gamma_c b (map_option values gamma) (candidates_c b (map_option values sigma) (map rule_content rules) (or_else (map_option (λ t. t.value.value) input) []))
+      let input = found (first (select λ p. p.input) is) in
+      let start = found (first (select λ p. p.start) is) in
+      let names = unwrap_or (states_in is) (infer_states start rules (fresh same_name nothing (finals_in is))) in
+      let sigma = found (first (select λ p. p.sigma) is) in
+      let gamma = found (first (select λ p. p.gamma) is) in
+      let symbols : map (λ s. s.code) (infer_gamma b gamma (candidates b sigma rules (value_or (between input)))) ≡ gamma_c b (map_option values gamma) (candidates_c b (map_option values sigma) (map rule_content rules) (unwrap_or (map_option (λ t. t.value.value) input) []))
       = gamma-values b gamma _ ∙ ap (gamma_c b (map_option values gamma)) (candidates-values b sigma rules _ ∙ ap (candidates_c b (map_option values sigma) (map rule_content rules)) (text_values input)) in
       let states-eq = names-values (states_in is) start rules (finals_in is) in
       λ i. record {
-        name = text_values (found (first (λ p. p.machine) is)) i;
+        name = text_values (found (first (select λ p. p.machine) is)) i;
         input = text_values input i;
-        kind = or_else (found (first (λ p. p.kind) is)) transducer;
-        output = resolve_decoder b (or_else (found (first (λ p. p.output) is)) raw_word);
-        tapes = tapes-values (found (first (λ p. p.tapes) is)) i;
+        kind = unwrap_or (found (first (select λ p. p.kind) is)) Transducer;
+        output = resolve_decoder b (unwrap_or (found (first (select λ p. p.output) is)) raw_word);
+        tapes = tapes-values (found (first (select λ p. p.tapes) is)) i;
         blank = b;
         declared = record {
           states = some-values values (states_in is) i;
           input_alphabet = some-values values sigma i;
           tape_alphabet = some-values values gamma i;
           start = some-values (λ t. t.value) start i;
-          blank = some-found (first (λ p. p.blank) is) i;
+          blank = some-found (first (select λ p. p.blank) is) i;
         };
         start = (start-values start names ∙ ap (start_c (map_option (λ t. t.value) start)) states-eq) i;
         states = (states-values names (finals_in is) ∙ ap (marked_c (member same (fresh same nothing (values (finals_in is)))) nothing) states-eq) i;

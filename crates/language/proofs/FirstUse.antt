@@ -3,7 +3,7 @@ use Prim.Native.Nat.{ℕ}
 use native.Mathlib.Omega.{arith}
 use mathlib.Core.Bool.{Bool, true, false, ◌||◌, false≢true}
 use mathlib.Core.List.{List, [], ◌∷◌, ◌++◌, map, append_assoc}
-use mathlib.Core.Option.{Option, none, some}
+use Rattle.std.specs.Prelude.{Option, None, Some}
 use mathlib.Core.Path.{◌≡◌, refl, ap, ◌∙◌, sym, subst}
 use borrow.Author.Tests.{eqb-true, eq-eqb}
 use lib.Dec.{eqb}
@@ -115,8 +115,8 @@ back_all q (x ∷ l) m h = back_all q l m h.1
 
 -- what is written where a is read: `none` is `*`
 abbrev pub out : ℕ → Option ℕ → ℕ
-out a none = a
-out a (some w) = w
+out a None = a
+out a (Some w) = w
 
 abbrev pub outs : List ℕ → List (Option ℕ) → List ℕ
 outs [] ws = []
@@ -150,8 +150,8 @@ with a cs = map (λ l. a ∷ l) cs
 
 -- q knows what a tape's write adds
 abbrev Wrote : Test → Option ℕ → Type 0
-Wrote q none = Unit {0}
-Wrote q (some v) = q v ≡ true
+Wrote q None = Unit {0}
+Wrote q (Some v) = q v ≡ true
 
 module _ (a : ℕ) (w : Option ℕ) (ws : List (Option ℕ)) where
   -- once a and what it writes are known, the first tape adds nothing
@@ -162,8 +162,8 @@ module _ (a : ℕ) (w : Option ℕ) (ws : List (Option ℕ)) where
       (first-less k e f cs)
 
   out_known : (q : Test) (o : Option ℕ) → Wrote q o → also a q (out a o) ≡ true
-  out_known q none h = or_left (eqb a a) (q a) (eq-eqb a a refl)
-  out_known q (some v) h = or_right (eqb a v) (q v) h
+  out_known q None h = or_left (eqb a a) (q a) (eq-eqb a a refl)
+  out_known q (Some v) h = or_right (eqb a v) (q v) h
 
   -- all that a choice with a uses is a, or known from the other tapes
   block_known : (q : Test) → Wrote q w → (cs : List (List ℕ)) → All q (spread ws cs) → All (also a q) (spread (w ∷ ws) (with a cs))
@@ -244,8 +244,8 @@ module _ (a : ℕ) (s : List ℕ) (w : Option ℕ) (ss : List (List ℕ)) (ws : 
       ∙ under (c ++ outs c ws) p (spread ws cs) (furthers ss) (less-members any p (c ++ outs c ws) (skip refl (less-append any c c (out a w ∷ outs c ws) (outs c ws) (less-same any c) (skip refl (less-same any (outs c ws)))))) u.uses known r
 
   wrote : (o : Option ℕ) → w ≡ o → Wrote (member eqb (p ++ b)) o
-  wrote none h = tt
-  wrote (some v) h = subst (λ x. member eqb (p ++ b) (out a x) ≡ true) h (member-front p b (out a w) out_in)
+  wrote None h = tt
+  wrote (Some v) h = subst (λ x. member eqb (p ++ b) (out a x) ≡ true) h (member-front p b (out a w) out_in)
 
   without_a : (known : Test) (r : List ℕ) → fresh eqb known (p ++ b ++ (e ++ r)) ≡ fresh eqb known (p ++ b ++ (s ++ r))
   without_a known r =

@@ -2,18 +2,19 @@
 use Prim.Native.Nat.{ℕ}
 use mathlib.Core.Bool.{Bool, true, false, ◌&&◌, ◌||◌, not, false≢true}
 use mathlib.Core.List.{List, [], ◌∷◌, ◌++◌, map}
-use mathlib.Core.Option.{Option, none, some}
+use Rattle.std.specs.Prelude.{Option, None, Some, unwrap_or, option_to_list, is_some}
 use mathlib.Core.Path.{◌≡◌, refl, ap, ap₂, ◌∙◌, sym, fun_ext}
 use borrow.Author.Tests.{eqb-true, eq-eqb}
 use lib.Dec.{eqb, leb}
 use Rattle.std.proofs.Math.Bool.{and-true, and-false}
 use Rattle.lexer.specs.Text.{same}
-use Rattle.language.specs.Machine.{Decoder, as_word, as_unary, as_binary}
+use Rattle.machine.specs.declared.Decoder.{Decoder}
+use Rattle.machine.specs.declared.Decoder.TheVariants.{Word, Unary, Binary}
 use Rattle.language.specs.Content.{StateContent, RuleContent, Content}
 use Rattle.language.specs.Parser.{when}
 use Rattle.language.specs.Lines.{RawSymbol, glyph}
-use Rattle.language.specs.Assembly.{or_else, resolve, of_option}
-use Rattle.language.specs.Infer.{is_some, member, fresh, nothing, resolve_decoder}
+use Rattle.language.specs.Assembly.{resolve}
+use Rattle.language.specs.Infer.{member, fresh, nothing, resolve_decoder}
 use Rattle.language.specs.Plain.{final_names}
 use Rattle.language.proofs.Every.{by_test, or_left, or_right, Every, All, every_impl}
 use Rattle.language.proofs.PlainParse.{raw_decoder}
@@ -207,11 +208,11 @@ states_again f l = marked_ext (member same (fresh same nothing (final_names (mar
 unfoldable pub plain_facts : Content → Facts
 unfolding final_names
 plain_facts m = record {
-  name = some m.name;
-  input = some m.input;
-  kind = some m.kind;
-  output = some (raw_decoder m.output);
-  tapes = some m.tapes;
+  name = Some m.name;
+  input = Some m.input;
+  kind = Some m.kind;
+  output = Some (raw_decoder m.output);
+  tapes = Some m.tapes;
   states = when m.declared.states (map (λ s. s.name) m.states);
   finals = final_names m.states;
   sigma = when m.declared.input_alphabet (map glyph m.sigma);
@@ -224,7 +225,6 @@ plain_facts m = record {
 }
 
 some-when : {A : Type 0} (b : Bool) (a : A) → is_some (when b a) ≡ b
-unfolding is_some
 some-when true a = refl
 some-when false a = refl
 
@@ -234,38 +234,38 @@ glyphs_back b [] = refl
 glyphs_back b (c ∷ l) = ap (λ t. c ∷ t) (glyphs_back b l)
 
 blank_again : (o : Option RawSymbol) → blank_c (when (is_some o) (glyph (blank_c o))) ≡ blank_c o
-unfolding blank_c is_some
-blank_again none = refl
-blank_again (some s) = refl
+unfolding blank_c
+blank_again None = refl
+blank_again (Some s) = refl
 
 decoder_again : (b : ℕ) (d : Decoder) → resolve_decoder b (raw_decoder d) ≡ d
 unfolding resolve_decoder
-decoder_again b as_word = refl
-decoder_again b (as_unary c) = refl
-decoder_again b (as_binary o) = refl
+decoder_again b Word = refl
+decoder_again b (Unary c) = refl
+decoder_again b (Binary o) = refl
 
-tapes_few : (n : ℕ) → leb n 255 ≡ true → tapes_c (some n) ≡ n
+tapes_few : (n : ℕ) → leb n 255 ≡ true → tapes_c (Some n) ≡ n
 unfolding tapes_c
 tapes_few n e = rw (e, tapes_c)
 
-tapes_many : (n : ℕ) → leb n 255 ≡ false → tapes_c (some n) ≡ 1
+tapes_many : (n : ℕ) → leb n 255 ≡ false → tapes_c (Some n) ≡ 1
 unfolding tapes_c
 tapes_many n e = rw (e, tapes_c)
 
-tapes_again : (o : Option ℕ) → tapes_c (some (tapes_c o)) ≡ tapes_c o
+tapes_again : (o : Option ℕ) → tapes_c (Some (tapes_c o)) ≡ tapes_c o
 unfolding tapes_c
-tapes_again none = refl
-tapes_again (some n) = by_test (leb n 255) (λ e. ap (λ t. tapes_c (some t)) (tapes_few n e)) (λ e. ap (λ t. tapes_c (some t)) (tapes_many n e) ∙ sym (tapes_many n e))
+tapes_again None = refl
+tapes_again (Some n) = by_test (leb n 255) (λ e. ap (λ t. tapes_c (Some t)) (tapes_few n e)) (λ e. ap (λ t. tapes_c (Some t)) (tapes_many n e) ∙ sym (tapes_many n e))
 
 sigma_again : (b : ℕ) (o : Option (List RawSymbol)) (g : List ℕ) → sigma_c b (when (is_some o) (map glyph (sigma_c b o g))) g ≡ sigma_c b o g
-unfolding sigma_c is_some
-sigma_again b none g = refl
-sigma_again b (some s) g = glyphs_back b (map (resolve b) s)
+unfolding sigma_c
+sigma_again b None g = refl
+sigma_again b (Some s) g = glyphs_back b (map (resolve b) s)
 
 candidates_again : (b : ℕ) (o : Option (List RawSymbol)) (g : List ℕ) (rs : List RuleContent) (i : List ℕ) → candidates_c b (when (is_some o) (map glyph (sigma_c b o g))) rs i ≡ candidates_c b o rs i
-unfolding candidates_c sigma_c is_some
-candidates_again b none g rs i = refl
-candidates_again b (some s) g rs i = ap (λ t. t ++ used_c rs) (glyphs_back b (map (resolve b) s))
+unfolding candidates_c sigma_c
+candidates_again b None g rs i = refl
+candidates_again b (Some s) g rs i = ap (λ t. t ++ used_c rs) (glyphs_back b (map (resolve b) s))
 
 member_last : (b : ℕ) (l : List ℕ) → member eqb (l ++ b ∷ []) b ≡ true
 unfolding member
@@ -286,14 +286,14 @@ with_again b l = by_test (member eqb l b)
     (λ e. ap (with_blank_c b) (with_last b l e) ∙ (with_there b (l ++ b ∷ []) (member_last b l) ∙ sym (with_last b l e)))
 
 gamma_again : (b : ℕ) (o : Option (List RawSymbol)) (cs : List ℕ) → gamma_c b (when (is_some o) (map glyph (gamma_c b o cs))) cs ≡ gamma_c b o cs
-unfolding gamma_c is_some
-gamma_again b none cs = refl
-gamma_again b (some g) cs = ap (with_blank_c b) (glyphs_back b (with_blank_c b (map (resolve b) g))) ∙ with_again b (map (resolve b) g)
+unfolding gamma_c
+gamma_again b None cs = refl
+gamma_again b (Some g) cs = ap (with_blank_c b) (glyphs_back b (with_blank_c b (map (resolve b) g))) ∙ with_again b (map (resolve b) g)
 
 start_again : (o : Option (List ℕ)) (names : Names) → start_c (when (is_some o) (start_c o names)) names ≡ start_c o names
-unfolding start_c is_some
-start_again none names = refl
-start_again (some w) names = refl
+unfolding start_c
+start_again None names = refl
+start_again (Some w) names = refl
 
 fresh_inner : (xs l : Names) → fresh same nothing (xs ++ fresh same nothing l) ≡ fresh same nothing (xs ++ l)
 fresh_inner xs l =
@@ -307,12 +307,12 @@ names-inferred xs D =
     fresh_inner xs (final_names (marked_c (member same D) nothing names))
     ∙ (ap (λ t. fresh same nothing (xs ++ t)) (finals_keep (member same D) nothing names ∙ ap (keep (member same D)) (fresh-fresh nothing (xs ++ D))) ∙ infer_stable xs D)
 
-names_again : (q : Option Names) (start : Option (List ℕ)) (ms D : Names) → let names = or_else q (fresh same nothing (of_option start ++ ms ++ D)) in
-    or_else (when (is_some q) (map (λ s. s.name) (marked_c (member same D) nothing names))) (fresh same nothing (of_option (when (is_some start) (start_c start names)) ++ ms ++ fresh same nothing (final_names (marked_c (member same D) nothing names)))) ≡ names
-unfolding or_else is_some of_option start_c
-names_again (some q) start ms D = names_marked (member same D) nothing q
-names_again none none ms D = names-inferred ms D
-names_again none (some w) ms D = names-inferred (w ∷ ms) D
+names_again : (q : Option Names) (start : Option (List ℕ)) (ms D : Names) → let names = unwrap_or q (fresh same nothing (option_to_list start ++ ms ++ D)) in
+    unwrap_or (when (is_some q) (map (λ s. s.name) (marked_c (member same D) nothing names))) (fresh same nothing (option_to_list (when (is_some start) (start_c start names)) ++ ms ++ fresh same nothing (final_names (marked_c (member same D) nothing names)))) ≡ names
+unfolding start_c
+names_again (Some q) start ms D = names_marked (member same D) nothing q
+names_again None None ms D = names-inferred ms D
+names_again None (Some w) ms D = names-inferred (w ∷ ms) D
 
 -- the facts of a content that was inferred give it again
 pub infer_again : (f : Facts) → content_from (plain_facts (content_from f)) ≡ content_from f
@@ -320,17 +320,17 @@ unfolding content_from plain_facts names_c
 infer_again f =
     let b = blank_c f.blank in
     let D = fresh same nothing f.finals in
-    let cs = candidates_c b f.sigma f.rules (or_else f.input []) in
+    let cs = candidates_c b f.sigma f.rules (unwrap_or f.input []) in
     let G = gamma_c b f.gamma cs in
     let again = plain_facts (content_from f) in
     let b-eq : blank_c again.blank ≡ b = blank_again f.blank in
     let names : names_c again ≡ names_c f = names_again f.states f.start (mentions_c f.rules) D in
-    let gamma : gamma_c (blank_c again.blank) again.gamma (candidates_c (blank_c again.blank) again.sigma again.rules (or_else again.input [])) ≡ G
-    = ap (λ x. gamma_c x again.gamma (candidates_c x again.sigma again.rules (or_else f.input []))) b-eq
-    ∙ (ap (gamma_c b again.gamma) (candidates_again b f.sigma G f.rules (or_else f.input [])) ∙ gamma_again b f.gamma cs) in
+    let gamma : gamma_c (blank_c again.blank) again.gamma (candidates_c (blank_c again.blank) again.sigma again.rules (unwrap_or again.input [])) ≡ G
+    = ap (λ x. gamma_c x again.gamma (candidates_c x again.sigma again.rules (unwrap_or f.input []))) b-eq
+    ∙ (ap (gamma_c b again.gamma) (candidates_again b f.sigma G f.rules (unwrap_or f.input [])) ∙ gamma_again b f.gamma cs) in
     λ i. record {
-      name = or_else f.name [];
-      input = or_else f.input [];
+      name = unwrap_or f.name [];
+      input = unwrap_or f.input [];
       kind = (content_from f).kind;
       output = decoder_again (blank_c again.blank) (content_from f).output i;
       tapes = tapes_again f.tapes i;

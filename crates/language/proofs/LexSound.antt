@@ -2,7 +2,7 @@
 use Prim.Native.Nat.{ℕ, zero, suc}
 use mathlib.Core.Bool.{Bool, true, false, not}
 use mathlib.Core.List.{List, [], ◌∷◌}
-use mathlib.Core.Option.{Option, none, some}
+use Rattle.std.specs.Prelude.{Option, None, Some}
 use mathlib.Core.Path.{◌≡◌, refl, ap, subst}
 use borrow.Author.Tests.{eqb-true}
 use lib.Dec.{eqb}
@@ -10,7 +10,8 @@ use Rattle.chars.specs.Ranges.{within}
 use Rattle.chars.specs.Class.{admitted, class_of}
 use Rattle.chars.specs.declared.Class.{Class}
 use Rattle.chars.specs.declared.Class.TheVariants.{Letter, Digit, Space, Sign, Other}
-use Rattle.lexer.specs.Tokens.{TokenKind, word, number, quoted, str, sign, comment, newline, unterminated_string, unterminated_quote, Step, gap, tok, is_letter, is_digit, is_word_start, is_word_continue, is_ascii_digit, is_whitespace, run, line, trim_cons, trim_end, comment_text, escape, Inner, ends, breaks, escapes, stands, inner_of, Inside, closed, unclosed, put, pass, inside, word_step, number_step, string_step, quoted_step, slash_step, other_step, step}
+use Rattle.lexer.specs.Tokens.{TokenKind, word, number, quoted, str, sign, comment, newline, unterminated_string, unterminated_quote, Step, gap, tok, is_letter, is_digit, is_word_continue, is_ascii_digit, is_whitespace, run, line, trim_cons, trim_end, comment_text, escape, Inner, ends, breaks, escapes, stands, inner_of, Inside, closed, unclosed, put, pass, inside, word_step, number_step, string_step, quoted_step, slash_step, other_step, step}
+use Rattle.lexer.specs.Starts.{is_word_start}
 use Rattle.language.proofs.Every.{by_test, or_left, or_right, Every, All, Maybe}
 use Rattle.language.proofs.TokenKinds.{kinds, kinds_from, emit_kind}
 use Rattle.language.proofs.PlainLex.{IsWord, IsSymbol, IsComment}
@@ -144,8 +145,8 @@ char_good stands c r e f g h = rw (e, inside) (put_good c (pass (inside false r)
 
 escaped_good : (o : Option ℕ) (c : ℕ) (r : List ℕ) → escape c ≡ o → Maybe Fine o → Fine c → GoodInside (inside false r) → GoodInside (inside true (c ∷ r))
 unfolding inside fine
-escaped_good (some v) c r e m f h = rw (e, inside) (put_good v (pass (inside false r)) m (pass_good (inside false r) h))
-escaped_good none c r e m f h = rw (e, inside) (by_test (eqb c 10)
+escaped_good (Some v) c r e m f h = rw (e, inside) (put_good v (pass (inside false r)) m (pass_good (inside false r) h))
+escaped_good None c r e m f h = rw (e, inside) (by_test (eqb c 10)
     (λ t. rw t tt)
     (λ t. rw t (put_good 0x5C (put c (pass (inside false r))) refl (put_good c (pass (inside false r)) f (pass_good (inside false r) h)))))
 

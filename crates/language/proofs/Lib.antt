@@ -5,6 +5,7 @@ pub mod Decimal
 pub mod PlainRows
 pub mod LexSound
 pub mod PlainParse
+pub mod Columns
 pub mod Facts
 pub mod InferAgain
 pub mod PlainAssembly
@@ -26,3 +27,4 @@ pub mod Entries
 pub mod Claim
 pub mod FirstUse
 pub mod LineUses
+pub mod Given

@@ -3,13 +3,13 @@ use Prim.Native.Nat.{ℕ}
 use native.Mathlib.Omega.{arith}
 use mathlib.Core.Bool.{Bool, true, ◌||◌}
 use mathlib.Core.List.{List, [], ◌∷◌, ◌++◌, map, append_assoc, append-nil}
-use mathlib.Core.Option.{Option, none, some}
+use Rattle.std.specs.Prelude.{Option, None, Some, option_to_list}
 use mathlib.Core.Path.{◌≡◌, refl, ap, ap₂, ◌∙◌, sym}
 use lib.Dec.{eqb}
 use lib.ListN.{length, length-map}
 use Rattle.language.specs.Machine.{Located, Dir, Rule}
 use Rattle.language.specs.Lines.{RawSymbol}
-use Rattle.language.specs.Assembly.{resolve, of_option, RuleLine, choices, written, actions, rule_of, dressed, expand, expand_all}
+use Rattle.language.specs.Assembly.{resolve, RuleLine, choices, written, actions, rule_of, dressed, expand, expand_all}
 use Rattle.language.specs.Infer.{same_name, fresh, nothing, mentions, infer_states, used, candidates}
 use Rattle.language.proofs.Every.{by_test, Every, Filled, every_map, or_left, or_right}
 use Rattle.language.proofs.Facts.{map_option}
@@ -22,8 +22,8 @@ use Rattle.language.proofs.FirstUse.{out, outs, spread, firsts, furthers, first_
 
 written_is : (b : ℕ) (r : RawSymbol) (w : Option RawSymbol) → written b r w ≡ out (resolve b r) (map_option (resolve b) w)
 unfolding written
-written_is b r none = refl
-written_is b r (some w) = refl
+written_is b r None = refl
+written_is b r (Some w) = refl
 
 module _ {P : Type 0} (b : ℕ) where
   -- the character that a symbol stands for
@@ -79,15 +79,15 @@ module _ {P : Type 0} (b : ℕ) where
         ap₂ (λ x y. x ++ (y ++ used rest)) (actions-read c l.raw.write l.raw.dir (fits.0 ∙ sym h) (fits.1 ∙ sym h)) (actions-write c l.raw.write l.raw.dir (fits.0 ∙ sym h) (fits.1 ∙ sym h))
         ∙ sym (append_assoc (map code c) (outs (map code c) (writes l.raw.write)) (used rest))
 
-    more_use : (cs : List (List (Located P RawSymbol))) → Every Wide cs → used (map (rule_of b l none []) cs) ≡ spread (writes l.raw.write) (map (map code) cs)
+    more_use : (cs : List (List (Located P RawSymbol))) → Every Wide cs → used (map (rule_of b l None []) cs) ≡ spread (writes l.raw.write) (map (map code) cs)
     unfolding used
     more_use [] h = refl
-    more_use (c ∷ cs) h = rule_uses none [] c h.0 (map (rule_of b l none []) cs) ∙ ap (λ z. map code c ++ outs (map code c) (writes l.raw.write) ++ z) (more_use cs h.1)
+    more_use (c ∷ cs) h = rule_uses None [] c h.0 (map (rule_of b l None []) cs) ∙ ap (λ z. map code c ++ outs (map code c) (writes l.raw.write) ++ z) (more_use cs h.1)
 
     dressed_use : (cs : List (List (Located P RawSymbol))) → Every Wide cs → used (dressed b l cs) ≡ spread (writes l.raw.write) (map (map code) cs)
     unfolding dressed used
     dressed_use [] h = refl
-    dressed_use (c ∷ cs) h = rule_uses l.comment l.leading c h.0 (map (rule_of b l none []) cs) ∙ ap (λ z. map code c ++ outs (map code c) (writes l.raw.write) ++ z) (more_use cs h.1)
+    dressed_use (c ∷ cs) h = rule_uses l.comment l.leading c h.0 (map (rule_of b l None []) cs) ∙ ap (λ z. map code c ++ outs (map code c) (writes l.raw.write) ++ z) (more_use cs h.1)
 
     -- one line
     line_use : Chosen l → (known : ℕ → Bool) (r : List ℕ) → fresh eqb known (used (expand b l) ++ r) ≡ fresh eqb known (line_uses l ++ r)
@@ -138,7 +138,7 @@ module _ {P : Type 0} where
   module _ (b : ℕ) (l : RuleLine P) where
     -- the rules behind the first mention nothing new
     again : (cs : List (List (Located P RawSymbol))) (known : Known P) (r : List (Located P (List ℕ))) → known l.raw.from ≡ true → known l.raw.to ≡ true
-        → fresh same_name known (mentions (map (rule_of b l none []) cs) ++ r) ≡ fresh same_name known r
+        → fresh same_name known (mentions (map (rule_of b l None []) cs) ++ r) ≡ fresh same_name known r
     unfolding mentions rule_of fresh
     again [] known r f t = refl
     again (c ∷ cs) known r f t = rw (f, fresh) (rw (t, fresh) (again cs known r f t))
@@ -159,7 +159,7 @@ module _ {P : Type 0} where
     line-mentions h known r = from_choices (choices l.raw.read) (choices-filled l.raw.read h)
       where
         from_choices : (cs : List (List (Located P RawSymbol))) → Filled cs → fresh same_name known (mentions (dressed b l cs) ++ r) ≡ fresh same_name known (l.raw.from ∷ l.raw.to ∷ r)
-        from_choices (c ∷ cs) k = unfold mentions dressed rule_of in (both known (mentions (map (rule_of b l none []) cs) ++ r) r (λ known f t. again cs known r f t))
+        from_choices (c ∷ cs) k = unfold mentions dressed rule_of in (both known (mentions (map (rule_of b l None []) cs) ++ r) r (λ known f t. again cs known r f t))
         from_choices [] k = absurd k
 
   -- all lines
@@ -176,20 +176,20 @@ module _ {P : Type 0} where
 
 module _ {P : Type 0} (b : ℕ) (ls : List (RuleLine P)) (fits : Every Fits ls) (chosen : Every Chosen ls) where
   -- undeclared states, from the lines
-  pub states_from_lines : (start : Option (Located P (List ℕ))) (finals : List (Located P (List ℕ))) → infer_states start (expand_all b ls) finals ≡ fresh same_name nothing (of_option start ++ line_mentions ls ++ finals)
-  unfolding infer_states of_option fresh
-  states_from_lines none finals = lines-mention b ls chosen nothing finals
-  states_from_lines (some q) finals = ap (λ z. q ∷ z) (lines-mention b ls chosen (λ y. same_name q y || nothing y) finals)
+  pub states_from_lines : (start : Option (Located P (List ℕ))) (finals : List (Located P (List ℕ))) → infer_states start (expand_all b ls) finals ≡ fresh same_name nothing (option_to_list start ++ line_mentions ls ++ finals)
+  unfolding infer_states fresh
+  states_from_lines None finals = lines-mention b ls chosen nothing finals
+  states_from_lines (Some q) finals = ap (λ z. q ∷ z) (lines-mention b ls chosen (λ y. same_name q y || nothing y) finals)
 
   -- what an undeclared Γ holds besides the blank, from the lines
   abbrev pub candidates_of_lines : Option (List (Located P RawSymbol)) → List ℕ → List ℕ
-  candidates_of_lines (some s) input = map (λ x. resolve b x.value) s ++ lines_use b ls
-  candidates_of_lines none input = lines_use b ls ++ input
+  candidates_of_lines (Some s) input = map (λ x. resolve b x.value) s ++ lines_use b ls
+  candidates_of_lines None input = lines_use b ls ++ input
 
   pub candidates_from_lines : (sigma : Option (List (Located P RawSymbol))) (input : List ℕ) → fresh eqb (eqb b) (candidates b sigma (expand_all b ls) input) ≡ fresh eqb (eqb b) (candidates_of_lines sigma input)
   unfolding candidates
-  candidates_from_lines none input = lines_use_lem b ls fits chosen (eqb b) input
-  candidates_from_lines (some s) input =
+  candidates_from_lines None input = lines_use_lem b ls fits chosen (eqb b) input
+  candidates_from_lines (Some s) input =
       let p : List ℕ = map (λ x. resolve b x.value) s in
       let behind : fresh eqb (after (eqb b) p) (used (expand_all b ls)) ≡ fresh eqb (after (eqb b) p) (lines_use b ls) =
       ap (fresh eqb (after (eqb b) p)) (sym (append-nil (used (expand_all b ls)))) ∙ (lines_use_lem b ls fits chosen (after (eqb b) p) [] ∙ ap (fresh eqb (after (eqb b) p)) (append-nil (lines_use b ls))) in

@@ -2,13 +2,13 @@
 use Prim.Native.Nat.{ℕ, zero, suc}
 use mathlib.Core.Bool.{Bool, true, false}
 use mathlib.Core.List.{List, [], ◌∷◌}
-use mathlib.Core.Option.{Option, none, some}
+use Rattle.std.specs.Prelude.{Option, None, Some}
 use mathlib.Core.Path.{sym}
 use lib.ListN.{length}
 use Rattle.lexer.specs.Tokens.{TokenKind, comment, Token}
 use Rattle.language.specs.Machine.{Located}
 use Rattle.language.specs.Parser.{Result, ok, fail, Parser, then, ◌>>=◌, give, unexpected, is_sign, goes_on, taken, branch, go_on, one, expect, opened, at_most, entries, single, tuple, set}
-use Rattle.language.specs.Lines.{RawSymbol, RawDecoder, raw_word, raw_unary, raw_binary, RawTransition, Item, machine_item, input_item, kind_item, output_item, tapes_item, states_item, final_item, input_alphabet_item, tape_alphabet_item, blank_item, start_item, transition_item, Line, blank_line, comment_line, item_line, error_line, state_in, symbol_in, write_in, direction_in, not_direction, string_in, number_in, Spelled, word_in, Keyword, machine_word, kind_word, input_word, output_word, tapes_word, states_word, sigma_word, gamma_word, blank_word, start_word, final_word, delta_word, keywords, kinds, OutputWord, word_output, unary_output, binary_output, outputs, orders, string_taken, string, choice, state, symbol, direction, read_entry, write_entry, transition, output, item_of, item, Row, Ending, line_feed, goes_by, remark, ending_of, in_front, rows, last_place, finished, empty_line, line_from, line_of, lines}
+use Rattle.language.specs.Lines.{RawSymbol, RawDecoder, raw_word, raw_unary, raw_binary, RawTransition, Item, machine_item, input_item, kind_item, output_item, tapes_item, states_item, final_item, input_alphabet_item, tape_alphabet_item, blank_item, start_item, transition_item, Line, blank_line, comment_line, item_line, error_line, state_in, symbol_in, write_in, direction_in, not_direction, string_in, number_in, word_in, Keyword, machine_word, kind_word, input_word, output_word, tapes_word, states_word, sigma_word, gamma_word, blank_word, start_word, final_word, delta_word, keywords, kinds, OutputWord, word_output, unary_output, binary_output, outputs, orders, string_taken, string, choice, state, symbol, direction, read_entry, write_entry, transition, output, item_of, item, Row, Ending, line_feed, goes_by, remark, ending_of, in_front, rows, last_place, finished, empty_line, line_from, line_of, lines}
 use Rattle.language.proofs.Every.{Every, Maybe, Filled, every_map}
 
 -- a value as it is taken from a token
@@ -20,12 +20,12 @@ abbrev pub Any : {A : Type 0} → A → Type 0
 Any a = Unit {0}
 
 pub any_maybe : {A : Type 0} (o : Option A) → Maybe Any o
-any_maybe none = tt
-any_maybe (some a) = tt
+any_maybe None = tt
+any_maybe (Some a) = tt
 
 -- a list with an entry, of good entries
-abbrev pub Some : {A : Type 0} → (A → Type 0) → List A → Type 0
-Some good l = Filled l × Every good l
+abbrev pub EachOfSome : {A : Type 0} → (A → Type 0) → List A → Type 0
+EachOfSome good l = Filled l × Every good l
 
 -- a comment's text is good
 abbrev pub GoodEnding : (List ℕ → Type 0) → Ending → Type 0
@@ -45,8 +45,8 @@ module _ {P : Type 0} (S : Goods P) where
   pub record GoodRaw (r : RawTransition P) : Type 0 where
     pub from_good : S.name r.from
     pub to_good : S.name r.to
-    pub read_good : Some (Some (λ s. S.sym s.value)) r.read
-    pub write_good : Some (λ w. Maybe S.sym w.value) r.write
+    pub read_good : EachOfSome (EachOfSome (λ s. S.sym s.value)) r.read
+    pub write_good : EachOfSome (λ w. Maybe S.sym w.value) r.write
     pub dir_good : Filled r.dir
 
   abbrev pub GoodDecoder : RawDecoder → Type 0
@@ -106,8 +106,8 @@ module _ {P : Type 0} (G : Token P → Type 0) where
   module _ (stop : P) where
     taken_gives : {A : Type 0} (good : Located P A → Type 0) (o : Option A) (bad : TokenKind → ℕ) (t : Token P) (ts : List (Token P)) → Maybe (λ a. good (from t a)) o → Every G ts → Good good (taken o bad t ts)
     unfolding taken
-    taken_gives good none bad t ts h g = tt
-    taken_gives good (some a) bad t ts h g = (h, g)
+    taken_gives good None bad t ts h g = tt
+    taken_gives good (Some a) bad t ts h g = (h, g)
 
     one_g : {A : Type 0} (good : Located P A → Type 0) (view : TokenKind → Option A) (bad : TokenKind → ℕ) → Views good view → (ts : List (Token P)) → Every G ts → Good good (one stop view bad ts)
     unfolding one
@@ -122,8 +122,8 @@ module _ {P : Type 0} (G : Token P → Type 0) where
 
     branch_gives : {A : Type 0} (good : A → Type 0) {p q : Parser P A} (o : Option Bool) → Gives good p → Gives good q → (t : Token P) (ts : List (Token P)) → Every G (t ∷ ts) → Good good (branch o p q t ts)
     unfolding branch
-    branch_gives good none d e t ts h = e.gives (t ∷ ts) h
-    branch_gives good (some b) d e t ts h = d.gives ts h.1
+    branch_gives good None d e t ts h = e.gives (t ∷ ts) h
+    branch_gives good (Some b) d e t ts h = d.gives ts h.1
 
     opened_g : {A : Type 0} (good : A → Type 0) {p q : Parser P A} (c : ℕ) → Gives good p → Gives good q → (ts : List (Token P)) → Every G ts → Good good (opened stop c p q ts)
     unfolding opened
@@ -133,25 +133,25 @@ module _ {P : Type 0} (G : Token P → Type 0) where
     pub opened_gives : {A : Type 0} {good : A → Type 0} {p q : Parser P A} (c : ℕ) → Gives good p → Gives good q → Gives good (opened stop c p q)
     opened_gives {good = good} c d e = record { gives = opened_g good c d e }
 
-    go_on_gives : {A : Type 0} {good : A → Type 0} {p : Parser P (List A)} (b : Bool) → Gives (Some good) p → (a : A) → good a → Gives (Some good) (go_on b p a)
+    go_on_gives : {A : Type 0} {good : A → Type 0} {p : Parser P (List A)} (b : Bool) → Gives (EachOfSome good) p → (a : A) → good a → Gives (EachOfSome good) (go_on b p a)
     unfolding go_on
     go_on_gives true e a h = bind_gives _ e (λ l g. give_gives (tt, (h, g.1)))
     go_on_gives false e a h = give_gives (tt, (h, tt))
 
-    most_gives : {A : Type 0} {good : A → Type 0} {p : Parser P A} → Gives good p → (c n : ℕ) → Gives (Some good) (at_most stop n p c)
+    most_gives : {A : Type 0} {good : A → Type 0} {p : Parser P A} → Gives good p → (c n : ℕ) → Gives (EachOfSome good) (at_most stop n p c)
     unfolding at_most
     most_gives e c zero = record { gives = λ ts h. tt }
     most_gives e c (suc n) = bind_gives _ e (λ a h. bind_gives _ (any_gives (goes_on c) unexpected) (λ b _. go_on_gives b.value (most_gives e c n) a h))
 
-    pub entries_gives : {A : Type 0} {good : A → Type 0} {p : Parser P A} → Gives good p → (c : ℕ) → Gives (Some good) (entries stop p c)
+    pub entries_gives : {A : Type 0} {good : A → Type 0} {p : Parser P A} → Gives good p → (c : ℕ) → Gives (EachOfSome good) (entries stop p c)
     unfolding entries
     entries_gives e c = record { gives = λ ts h. (most_gives e c (length ts)).gives ts h }
 
-    pub single_gives : {A : Type 0} {good : A → Type 0} {p : Parser P A} → Gives good p → Gives (Some good) (single stop p)
+    pub single_gives : {A : Type 0} {good : A → Type 0} {p : Parser P A} → Gives good p → Gives (EachOfSome good) (single stop p)
     unfolding single
     single_gives e = bind_gives _ e (λ a h. give_gives (tt, (h, tt)))
 
-    pub tuple_gives : {A : Type 0} {good : A → Type 0} {p : Parser P A} → Gives good p → Gives (Some good) (tuple stop p)
+    pub tuple_gives : {A : Type 0} {good : A → Type 0} {p : Parser P A} → Gives good p → Gives (EachOfSome good) (tuple stop p)
     unfolding tuple
     tuple_gives e = opened_gives 0x28 (entries_gives e 0x29) (single_gives e)
 
@@ -159,7 +159,7 @@ module _ {P : Type 0} (G : Token P → Type 0) where
     unfolding expect
     expect_gives c = any_gives (is_sign c) unexpected
 
-    some_every : {A : Type 0} (good : A → Type 0) (r : Result P (List A)) → Good (Some good) r → Good (Every good) r
+    some_every : {A : Type 0} (good : A → Type 0) (r : Result P (List A)) → Good (EachOfSome good) r → Good (Every good) r
     some_every good (ok a ts) h = (h.0.1, h.1)
     some_every good (fail n p) h = tt
 
@@ -175,8 +175,8 @@ module _ {P : Type 0} (G : Token P → Type 0) where
     module _ (stop : P) where
       string_taken_lem : (o : Option (List ℕ)) (t : Token P) (ts : List (Token P)) → Maybe (λ s. S.text (record { value = s; place = t.inner })) o → Every G ts → Good (λ x. S.text x.value) (string_taken o t ts)
       unfolding string_taken
-      string_taken_lem none t ts h g = tt
-      string_taken_lem (some s) t ts h g = (h, g)
+      string_taken_lem None t ts h g = tt
+      string_taken_lem (Some s) t ts h g = (h, g)
 
       string_g : (ts : List (Token P)) → Every G ts → Good (λ x. S.text x.value) (string stop ts)
       unfolding string
@@ -194,15 +194,15 @@ module _ {P : Type 0} (G : Token P → Type 0) where
       unfolding symbol
       symbol_gives = one_gives stop (λ s. S.sym s.value) symbol_in unexpected sym-view
 
-      read_gives : Gives (Some (λ s. S.sym s.value)) (read_entry stop)
+      read_gives : Gives (EachOfSome (λ s. S.sym s.value)) (read_entry stop)
       unfolding read_entry
       read_gives = opened_gives stop 0x7B (entries_gives stop symbol_gives 0x7D) (single_gives stop symbol_gives)
 
       star_or : (t : Token P) (o : Option Bool) (u : Option RawSymbol) → Maybe S.sym u
-          → Maybe (Maybe S.sym) (elim o [ some b ↦ some none | none ↦ elim u [ some s ↦ some (some s) | none ↦ none ] ])
-      star_or t (some b) u h = tt
-      star_or t none none h = tt
-      star_or t none (some s) h = h
+          → Maybe (Maybe S.sym) (elim o [ Some b ↦ Some None | None ↦ elim u [ Some s ↦ Some (Some s) | None ↦ None ] ])
+      star_or t (Some b) u h = tt
+      star_or t None None h = tt
+      star_or t None (Some s) h = h
 
       write_view : Views (λ w. Maybe S.sym w.value) write_in
       unfolding write_in
@@ -216,7 +216,7 @@ module _ {P : Type 0} (G : Token P → Type 0) where
       unfolding direction
       direction_gives = any_gives stop direction_in not_direction
 
-      choice_gives : {A : Type 0} (l : List (Spelled A)) → Gives Any (choice stop l)
+      choice_gives : {A : Type 0} (l : List (List ℕ × A)) → Gives Any (choice stop l)
       unfolding choice
       choice_gives l = any_gives stop (word_in l) unexpected
 
@@ -275,8 +275,8 @@ module _ {P : Type 0} (G : Token P → Type 0) where
 
     empty_good : (c : Option (Located P (List ℕ))) → Maybe S.note c → GoodLine S (empty_line c)
     unfolding empty_line
-    empty_good none h = tt
-    empty_good (some c) h = h
+    empty_good None h = tt
+    empty_good (Some c) h = h
 
     finished_good : (p : P) (c : Option (Located P (List ℕ))) (r : Result P (Item P)) → Maybe S.note c → Good (GoodItem S) r → GoodLine S (finished p c r)
     unfolding finished

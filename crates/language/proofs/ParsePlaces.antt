@@ -2,7 +2,7 @@
 use Prim.Native.Nat.{ℕ, zero, suc}
 use mathlib.Core.Bool.{Bool, true, false}
 use mathlib.Core.List.{List, [], ◌∷◌, map, map-map}
-use mathlib.Core.Option.{Option, none, some}
+use Rattle.std.specs.Prelude.{Option, None, Some}
 use mathlib.Core.Path.{◌≡◌, refl, ap, ◌∙◌, sym}
 use lib.ListN.{length, length-map}
 use Rattle.lexer.specs.Tokens.{TokenKind, Token, tokens}
@@ -76,8 +76,8 @@ module _ {P Q : Type 0} (f : P → Q) where
   module _ (stop : P) where
     taken_natural : {A : Type 0} (o : Option A) (bad : TokenKind → ℕ) (t : Token P) (ts : List (Token P)) → on_result on_loc (taken o bad t ts) ≡ taken o bad (on_token t) (map on_token ts)
     unfolding taken
-    taken_natural none bad t ts = refl
-    taken_natural (some a) bad t ts = refl
+    taken_natural None bad t ts = refl
+    taken_natural (Some a) bad t ts = refl
 
     one_nat : {A : Type 0} (view : TokenKind → Option A) (bad : TokenKind → ℕ) (ts : List (Token P)) → on_result on_loc (one stop view bad ts) ≡ one (f stop) view bad (map on_token ts)
     unfolding one
@@ -90,8 +90,8 @@ module _ {P Q : Type 0} (f : P → Q) where
     branch_natural : {A B : Type 0} {g : A → B} {p p' : Parser P A} {q q' : Parser Q B} (o : Option Bool) → Natural g p q → Natural g p' q'
         → (t : Token P) (ts : List (Token P)) → on_result g (branch o p p' t ts) ≡ branch o q q' (on_token t) (map on_token ts)
     unfolding branch
-    branch_natural none d e t ts = e.natural (t ∷ ts)
-    branch_natural (some b) d e t ts = d.natural ts
+    branch_natural None d e t ts = e.natural (t ∷ ts)
+    branch_natural (Some b) d e t ts = d.natural ts
 
     opened_nat : {A B : Type 0} {g : A → B} {p p' : Parser P A} {q q' : Parser Q B} (c : ℕ) → Natural g p q → Natural g p' q'
         → (ts : List (Token P)) → on_result g (opened stop c p p' ts) ≡ opened (f stop) c q q' (map on_token ts)
@@ -137,8 +137,8 @@ module _ {P Q : Type 0} (f : P → Q) where
 
     string_taken_lem : (o : Option (List ℕ)) (t : Token P) (ts : List (Token P)) → on_result on_text (string_taken o t ts) ≡ string_taken o (on_token t) (map on_token ts)
     unfolding string_taken
-    string_taken_lem none t ts = refl
-    string_taken_lem (some s) t ts = refl
+    string_taken_lem None t ts = refl
+    string_taken_lem (Some s) t ts = refl
 
     string_nat : (ts : List (Token P)) → on_result on_text (string stop ts) ≡ string (f stop) (map on_token ts)
     unfolding string
@@ -229,8 +229,8 @@ module _ {P Q : Type 0} (f : P → Q) where
 
   empty_natural : (c : Option (Located P (List ℕ))) → on_line (empty_line c) ≡ empty_line (map_option on_loc c)
   unfolding empty_line
-  empty_natural none = refl
-  empty_natural (some c) = refl
+  empty_natural None = refl
+  empty_natural (Some c) = refl
 
 -- ---- without places
 

@@ -2,7 +2,7 @@
 use Prim.Native.Nat.{ℕ, suc, ◌+◌, ◌*◌, ◌≤◌, ◌<◌}
 use mathlib.Core.Bool.{Bool, true, false, ◌||◌, false≢true}
 use mathlib.Core.List.{List, [], ◌∷◌, ◌++◌, map, map-map, append-nil, append_assoc}
-use mathlib.Core.Option.{Option, none, some}
+use Rattle.std.specs.Prelude.{Option, None, Some, unwrap_or}
 use mathlib.Core.Path.{◌≡◌, refl, ap, ap₂, ◌∙◌, sym, subst}
 use native.Mathlib.Omega.{arith}
 use borrow.Author.Tests.{eq-eqb, ne_eqb, le-leb}
@@ -13,7 +13,8 @@ use Rattle.language.specs.Content.{ActionContent, RuleContent, Content, optional
 use Rattle.language.specs.Parser.{when}
 use Rattle.language.specs.Lines.{glyph, RawTransition, Item, machine_item, input_item, kind_item, output_item, tapes_item, states_item, final_item, input_alphabet_item, tape_alphabet_item, blank_item, start_item, transition_item, Line, blank_line}
 use Rattle.language.specs.Assembly as A
-use Rattle.language.specs.Assembly.{Parts, parts, items, first, found, or_else, blank_of, states_in, finals_in, RuleLine, Body, add_header, add_rule, attach, body_of, combinations, expands, verdict, kept, choices, actions, rule_of, dressed, expand, expand_all, line_errors, is_number, declared_at, tapes_error, declaration_error, declaration_errors, listed_at, unknown_error, final_error, final_errors, rule_errors, diagnostics_of}
+use Rattle.language.specs.Assembly.{items, first, found, blank_of, states_in, finals_in, RuleLine, Body, add_header, add_rule, attach, body_of, combinations, expands, verdict, kept, choices, actions, rule_of, dressed, expand, expand_all, line_errors, is_number, declared_at, tapes_error, declaration_error, declaration_errors, listed_at, unknown_error, final_error, final_errors, rule_errors, diagnostics_of}
+use Rattle.language.proofs.Columns.{Parts, parts, select}
 use Rattle.language.specs.Infer.{member, fresh, nothing}
 use Rattle.language.specs.Plain.{final_names}
 use Rattle.language.proofs.Every.{by_test, or_left, or_right, and_both, Every, every_impl, every_append}
@@ -75,51 +76,51 @@ items-plain m =
 -- ---- the first item with a part
 
 module _ {A : Type 0} (part : Parts U → Option A) where
-  pass : (b : Bool) (i : Item U) (is : List (Located U (Item U))) → part (parts i) ≡ none → first part (only_item b i is) ≡ first part is
+  pass : (b : Bool) (i : Item U) (is : List (Located U (Item U))) → part (parts i) ≡ None → first (select part) (only_item b i is) ≡ first (select part) is
   unfolding first
-  pass true i is e = rw e
+  pass true i is e = rw (e, first)
   pass false i is e = refl
 
-  stop : (b : Bool) (i : Item U) (is : List (Located U (Item U))) (a : A) → part (parts i) ≡ some a → first part is ≡ none → found (first part (only_item b i is)) ≡ when b a
+  stop : (b : Bool) (i : Item U) (is : List (Located U (Item U))) (a : A) → part (parts i) ≡ Some a → first (select part) is ≡ None → found (first (select part) (only_item b i is)) ≡ when b a
   unfolding first found
-  stop true i is a e h = rw e
+  stop true i is a e h = rw (e, first)
   stop false i is a e h = rw h
 
-  no_rule : ((r : RawTransition U) → part (parts (transition_item r)) ≡ none) → (l : List RuleContent) → first part (rule_items l) ≡ none
+  no_rule : ((r : RawTransition U) → part (parts (transition_item r)) ≡ None) → (l : List RuleContent) → first (select part) (rule_items l) ≡ None
   unfolding first
   no_rule e [] = refl
-  no_rule e (r ∷ l) = rw (e (raw_of r)) (no_rule e l)
+  no_rule e (r ∷ l) = rw (e (raw_of r), first) (no_rule e l)
 
 module _ (m : Content) where
-  declared-states : found (first (λ p. p.states) (plain_items m)) ≡ when m.declared.states (map loc (map (λ s. s.name) m.states))
-  unfolding plain_items first parts
+  declared-states : found (first (select λ p. p.states) (plain_items m)) ≡ when m.declared.states (map loc (map (λ s. s.name) m.states))
+  unfolding plain_items first
   declared-states = stop (λ p. p.states) m.declared.states _ _ _ refl
       (pass (λ p. p.states) m.declared.input_alphabet _ _ refl ∙ (pass (λ p. p.states) m.declared.tape_alphabet _ _ refl ∙ (pass (λ p. p.states) m.declared.blank _ _ refl
       ∙ (pass (λ p. p.states) m.declared.start _ _ refl ∙ no_rule (λ p. p.states) (λ r. refl) m.rules))))
 
-  declared-sigma : found (first (λ p. p.sigma) (plain_items m)) ≡ when m.declared.input_alphabet (map (λ c. loc (glyph c)) m.sigma)
-  unfolding plain_items first parts
+  declared-sigma : found (first (select λ p. p.sigma) (plain_items m)) ≡ when m.declared.input_alphabet (map (λ c. loc (glyph c)) m.sigma)
+  unfolding plain_items first
   declared-sigma = ap found (pass (λ p. p.sigma) m.declared.states _ _ refl) ∙ stop (λ p. p.sigma) m.declared.input_alphabet _ _ _ refl
       (pass (λ p. p.sigma) m.declared.tape_alphabet _ _ refl ∙ (pass (λ p. p.sigma) m.declared.blank _ _ refl ∙ (pass (λ p. p.sigma) m.declared.start _ _ refl ∙ no_rule (λ p. p.sigma) (λ r. refl) m.rules)))
 
-  declared_gamma_lem : found (first (λ p. p.gamma) (plain_items m)) ≡ when m.declared.tape_alphabet (map (λ c. loc (glyph c)) m.gamma)
-  unfolding plain_items first parts
+  declared_gamma_lem : found (first (select λ p. p.gamma) (plain_items m)) ≡ when m.declared.tape_alphabet (map (λ c. loc (glyph c)) m.gamma)
+  unfolding plain_items first
   declared_gamma_lem = ap found (pass (λ p. p.gamma) m.declared.states _ _ refl ∙ pass (λ p. p.gamma) m.declared.input_alphabet _ _ refl) ∙ stop (λ p. p.gamma) m.declared.tape_alphabet _ _ _ refl
       (pass (λ p. p.gamma) m.declared.blank _ _ refl ∙ (pass (λ p. p.gamma) m.declared.start _ _ refl ∙ no_rule (λ p. p.gamma) (λ r. refl) m.rules))
 
-  declared_blank : found (first (λ p. p.blank) (plain_items m)) ≡ when m.declared.blank (glyph m.blank)
-  unfolding plain_items first parts
+  declared_blank : found (first (select λ p. p.blank) (plain_items m)) ≡ when m.declared.blank (glyph m.blank)
+  unfolding plain_items first
   declared_blank = ap found (pass (λ p. p.blank) m.declared.states _ _ refl ∙ (pass (λ p. p.blank) m.declared.input_alphabet _ _ refl ∙ pass (λ p. p.blank) m.declared.tape_alphabet _ _ refl))
       ∙ stop (λ p. p.blank) m.declared.blank _ _ _ refl (pass (λ p. p.blank) m.declared.start _ _ refl ∙ no_rule (λ p. p.blank) (λ r. refl) m.rules)
 
-  declared-start : found (first (λ p. p.start) (plain_items m)) ≡ when m.declared.start (loc m.start)
-  unfolding plain_items first parts
+  declared-start : found (first (select λ p. p.start) (plain_items m)) ≡ when m.declared.start (loc m.start)
+  unfolding plain_items first
   declared-start = ap found (pass (λ p. p.start) m.declared.states _ _ refl ∙ (pass (λ p. p.start) m.declared.input_alphabet _ _ refl ∙ (pass (λ p. p.start) m.declared.tape_alphabet _ _ refl
       ∙ pass (λ p. p.start) m.declared.blank _ _ refl))) ∙ stop (λ p. p.start) m.declared.start _ _ _ refl (no_rule (λ p. p.start) (λ r. refl) m.rules)
 
   declared-finals : finals_in (plain_items m) ≡ map loc (final_names m.states)
-  unfolding plain_items first parts finals_in
-  declared-finals = ap (λ o. or_else (found o) []) (pass (λ p. p.finals) m.declared.states _ _ refl ∙ (pass (λ p. p.finals) m.declared.input_alphabet _ _ refl ∙ (pass (λ p. p.finals) m.declared.tape_alphabet _ _ refl
+  unfolding plain_items first finals_in
+  declared-finals = ap (λ o. unwrap_or (found o) []) (pass (λ p. p.finals) m.declared.states _ _ refl ∙ (pass (λ p. p.finals) m.declared.input_alphabet _ _ refl ∙ (pass (λ p. p.finals) m.declared.tape_alphabet _ _ refl
       ∙ (pass (λ p. p.finals) m.declared.blank _ _ refl ∙ pass (λ p. p.finals) m.declared.start _ _ refl))))
 
 -- ---- comments and rules
@@ -138,7 +139,7 @@ unfolding attach comment_lines
 attach-comments seen old block [] ls = ap (λ t. attach seen old t ls) (sym (append-nil block))
 attach-comments seen old block (s ∷ l) ls = attach-comments seen old (block ++ loc s ∷ []) l ls ∙ ap (λ t. attach seen old t ls) (append_assoc block (loc s ∷ []) (map loc l))
 
-attach-only : (b : Bool) (i : Item U) (ls : List (Line U)) → (parts i).rule ≡ none → attach true [] [] (only_line b (declaration i) ls) ≡ attach true [] [] ls
+attach-only : (b : Bool) (i : Item U) (ls : List (Line U)) → (parts i).rule ≡ None → attach true [] [] (only_line b (declaration i) ls) ≡ attach true [] [] ls
 unfolding attach
 attach-only true i ls e = rw e
 attach-only false i ls e = refl
@@ -178,7 +179,7 @@ reads-one r = one_each r.actions
 verdict-one : (n : ℕ) (r : RuleContent) → suc n ≤ 262144 → verdict n (raw_of r) ≡ expands
 unfolding verdict raw_of
 verdict-one n r h =
-    let w : length (map (λ a. loc (some (glyph a.write))) r.actions) ≡ length (map (λ a. loc (glyph a.read) ∷ []) r.actions) = length-map r.actions _ ∙ sym (length-map r.actions _) in
+    let w : length (map (λ a. loc (Some (glyph a.write))) r.actions) ≡ length (map (λ a. loc (glyph a.read) ∷ []) r.actions) = length-map r.actions _ ∙ sym (length-map r.actions _) in
     let d : length (map (λ a. loc a.dir) r.actions) ≡ length (map (λ a. loc (glyph a.read) ∷ []) r.actions) = length-map r.actions _ ∙ sym (length-map r.actions _) in
     rw (and_both _ _ (eq-eqb _ _ w) (eq-eqb _ _ d), verdict) (rw (one_each r.actions) (rw (le-leb (n + 1) 262144 (omega arith))))
 
@@ -199,15 +200,15 @@ choices-one [] = refl
 choices-one (a ∷ l) = ap (λ t. map (λ r. loc (glyph a.read) ∷ r) t ++ []) (choices-one l)
 
 actions_back : (b : ℕ) (l : List ActionContent)
-    → map (λ a. record { read = a.read.value; write = a.write.value; dir = a.dir }) (actions b (map (λ a. loc (glyph a.read)) l) (map (λ a. loc (some (glyph a.write))) l) (map (λ a. loc a.dir) l)) ≡ l
+    → map (λ a. record { read = a.read.value; write = a.write.value; dir = a.dir }) (actions b (map (λ a. loc (glyph a.read)) l) (map (λ a. loc (Some (glyph a.write))) l) (map (λ a. loc a.dir) l)) ≡ l
 unfolding actions
 actions_back b [] = refl
 actions_back b (a ∷ l) = ap (λ t. a ∷ t) (actions_back b l)
 
 optional_back : (o : Option (List ℕ)) → optional (maybe_loc o) ≡ o
 unfolding optional
-optional_back none = refl
-optional_back (some s) = refl
+optional_back None = refl
+optional_back (Some s) = refl
 
 expand_back : (b : ℕ) (r : RuleContent) → map rule_content (expand b (attached r)) ≡ r ∷ []
 unfolding expand raw_of dressed rule_of rule_content
@@ -223,7 +224,7 @@ expand_all_lem b (r ∷ l) = map-append rule_content (expand b (attached r)) (ex
 -- ---- what the lines say
 
 when-values : {A B C : Type 0} (f : B → C) (g : A → B) (h : A → C) → ((a : A) → f (g a) ≡ h a) → (b : Bool) (a : A) → map_option f (when b (g a)) ≡ when b (h a)
-when-values f g h e true a = ap some (e a)
+when-values f g h e true a = ap Some (e a)
 when-values f g h e false a = refl
 
 glyph_values : (l : List ℕ) → values (map (λ c. loc (glyph c)) l) ≡ map glyph l
@@ -231,13 +232,13 @@ unfolding values
 glyph_values l = map-map (λ x. x.value) (λ c. loc (glyph c)) l
 
 fields : (m : Content) → length m.rules ≤ 262144 → facts_from (plain_items m) (record { header = map loc m.header; rules = map attached m.rules; trailing = map loc m.trailing }) ≡ plain_facts m
-unfolding facts_from plain_facts plain_items first parts states_in
+unfolding facts_from plain_facts plain_items first states_in
 fields m h = λ i. record {
-  name = some m.name;
-  input = some m.input;
-  kind = some m.kind;
-  output = some (raw_decoder m.output);
-  tapes = some m.tapes;
+  name = Some m.name;
+  input = Some m.input;
+  kind = Some m.kind;
+  output = Some (raw_decoder m.output);
+  tapes = Some m.tapes;
   states = (ap (map_option values) (declared-states m) ∙ when-values values (map loc) (λ l. l) values_back m.declared.states (map (λ s. s.name) m.states)) i;
   finals = (ap values (declared-finals m) ∙ values_back (final_names m.states)) i;
   sigma = (ap (map_option values) (declared-sigma m) ∙ when-values values (map (λ c. loc (glyph c))) (map glyph) glyph_values m.declared.input_alphabet m.sigma) i;
@@ -280,21 +281,21 @@ quiet_lines m =
 -- ---- no name is declared twice: the numbers of the names ascend
 
 abbrev Under : ℕ → Option ℕ → Type 0
-Under n none = Unit {0}
-Under n (some k) = k < n
+Under n None = Unit {0}
+Under n (Some k) = k < n
 
 abbrev AllUnder : ℕ → List (Located U (Item U)) → Type 0
 AllUnder n is = Every (λ i. Under n (A.declaration i.value)) is
 
 under_number : (n : ℕ) (o : Option ℕ) → Under n o → is_number n o ≡ false
-under_number n none h = refl
-under_number n (some k) h = ne_eqb k n (λ e. omega arith)
+under_number n None h = refl
+under_number n (Some k) h = ne_eqb k n (λ e. omega arith)
 
 under_more : (n : ℕ) (o : Option ℕ) → Under n o → Under (suc n) o
-under_more n none h = tt
-under_more n (some k) h = omega arith
+under_more n None h = tt
+under_more n (Some k) h = omega arith
 
-not-declared : (n : ℕ) (before : List (Located U (Item U))) → AllUnder n before → declared_at n before ≡ none
+not-declared : (n : ℕ) (before : List (Located U (Item U))) → AllUnder n before → declared_at n before ≡ None
 unfolding declared_at
 not-declared n [] h = refl
 not-declared n (i ∷ is) h = rw (under_number n (A.declaration i.value) h.0, declared_at) (not-declared n is h.1)
@@ -303,14 +304,14 @@ not-declared n (i ∷ is) h = rw (under_number n (A.declaration i.value) h.0, de
 abbrev Quiet : ℕ → List (Located U (Item U)) → Type 0
 Quiet n is = (before : List (Located U (Item U))) → AllUnder n before → declaration_errors before is ≡ []
 
-under_last : (n k : ℕ) (i : Item U) → A.declaration i ≡ some k → k < n → Under n (A.declaration i)
+under_last : (n k : ℕ) (i : Item U) → A.declaration i ≡ Some k → k < n → Under n (A.declaration i)
 under_last n k i e h = subst (Under n) (sym e) h
 
-error-none : (n : ℕ) (i : Item U) (before : List (Located U (Item U))) → A.declaration i ≡ some n → tapes_error (parts i).tapes ≡ [] → AllUnder n before → declaration_error before (item i) ≡ []
+error-none : (n : ℕ) (i : Item U) (before : List (Located U (Item U))) → A.declaration i ≡ Some n → tapes_error (parts i).tapes ≡ [] → AllUnder n before → declaration_error before (item i) ≡ []
 unfolding declaration_error
 error-none n i before e t h = rw (e, declaration_error) (rw (not-declared n before h) t)
 
-quiet_put : (n : ℕ) (i : Item U) (is : List (Located U (Item U))) → A.declaration i ≡ some n → tapes_error (parts i).tapes ≡ [] → Quiet (suc n) is → Quiet n (item i ∷ is)
+quiet_put : (n : ℕ) (i : Item U) (is : List (Located U (Item U))) → A.declaration i ≡ Some n → tapes_error (parts i).tapes ≡ [] → Quiet (suc n) is → Quiet n (item i ∷ is)
 unfolding declaration_errors
 quiet_put n i is e t q before h =
     ap₂ (λ x y. x ++ y) (error-none n i before e t h)
@@ -318,7 +319,7 @@ quiet_put n i is e t q before h =
     (every_impl (λ i. Under n (A.declaration i.value)) (λ i. Under (suc n) (A.declaration i.value)) (λ i g. under_more n (A.declaration i.value) g) before h)
     (under_last (suc n) n i e (omega arith), tt)))
 
-quiet_only : (b : Bool) (n : ℕ) (i : Item U) (is : List (Located U (Item U))) → A.declaration i ≡ some n → tapes_error (parts i).tapes ≡ [] → Quiet (suc n) is → Quiet n (only_item b i is)
+quiet_only : (b : Bool) (n : ℕ) (i : Item U) (is : List (Located U (Item U))) → A.declaration i ≡ Some n → tapes_error (parts i).tapes ≡ [] → Quiet (suc n) is → Quiet n (only_item b i is)
 quiet_only true n i is e t q before h = quiet_put n i is e t q before h
 quiet_only false n i is e t q before h = q before (every_impl (λ i. Under n (A.declaration i.value)) (λ i. Under (suc n) (A.declaration i.value)) (λ i g. under_more n (A.declaration i.value) g) before h)
 
@@ -327,12 +328,12 @@ unfolding declaration_errors A.declaration
 quiet_rule_items n [] before h = refl
 quiet_rule_items n (r ∷ l) before h = quiet_rule_items n l (before ++ item (transition_item (raw_of r)) ∷ []) (every_append (λ i. Under n (A.declaration i.value)) before (item (transition_item (raw_of r)) ∷ []) h (tt, tt))
 
-few_tapes : (n : ℕ) → n < 256 → tapes_error {P = U} (some (loc n)) ≡ []
+few_tapes : (n : ℕ) → n < 256 → tapes_error {P = U} (Some (loc n)) ≡ []
 unfolding tapes_error
 few_tapes n h = rw (le-leb n 255 (omega arith), tapes_error)
 
 quiet_declarations : (m : Content) → m.tapes < 256 → declaration_errors [] (plain_items m) ≡ []
-unfolding plain_items A.declaration parts tapes_error
+unfolding plain_items A.declaration tapes_error
 quiet_declarations m h =
     quiet_put 0 _ _ refl refl (quiet_put 1 _ _ refl refl (quiet_put 2 _ _ refl refl (quiet_put 3 _ _ refl refl (quiet_put 4 _ _ refl (few_tapes m.tapes h)
     (quiet_only m.declared.states 5 _ _ refl refl (quiet_only m.declared.input_alphabet 6 _ _ refl refl (quiet_only m.declared.tape_alphabet 7 _ _ refl refl
@@ -341,14 +342,14 @@ quiet_declarations m h =
 
 -- ---- F repeats no name and lists none outside Q
 
-unlisted : (known : List ℕ → Bool) (x : List ℕ) → known x ≡ false → (l : List (Located U (List ℕ))) → Every (λ y. known y.value ≡ true) l → listed_at x l ≡ none
+unlisted : (known : List ℕ → Bool) (x : List ℕ) → known x ≡ false → (l : List (Located U (List ℕ))) → Every (λ y. known y.value ≡ true) l → listed_at x l ≡ None
 unfolding listed_at
 unlisted known x e [] h = refl
 unlisted known x e (y ∷ l) h = by_test (same y.value x)
     (λ t. absurd (false≢true (sym (ap known (same-eq y.value x t) ∙ e) ∙ h.0)))
     (λ t. rw (t, listed_at) (unlisted known x e l h.1))
 
-known_name : (names : List (List ℕ)) (x : List ℕ) → member same names x ≡ true → unknown_error {P = U} (some (map loc names)) (loc x) ≡ []
+known_name : (names : List (List ℕ)) (x : List ℕ) → member same names x ≡ true → unknown_error {P = U} (Some (map loc names)) (loc x) ≡ []
 unfolding unknown_error member
 known_name [] x e = absurd (false≢true e)
 known_name (y ∷ l) x e = by_test (same y x) (λ t. rw (t, unknown_error)) (λ t. rw (t, unknown_error) (known_name l x (rw t at e)))
@@ -358,7 +359,7 @@ unfolding unknown_error
 in_Q true names x e = known_name names x e
 in_Q false names x e = refl
 
-one_name : (q : Option (List (Located U (List ℕ)))) (x : List ℕ) (before : List (Located U (List ℕ))) → listed_at x before ≡ none → unknown_error q (loc x) ≡ [] → final_error q before (loc x) ≡ []
+one_name : (q : Option (List (Located U (List ℕ)))) (x : List ℕ) (before : List (Located U (List ℕ))) → listed_at x before ≡ None → unknown_error q (loc x) ≡ [] → final_error q before (loc x) ≡ []
 unfolding final_error
 one_name q x before e u = rw (e, final_error) u
 

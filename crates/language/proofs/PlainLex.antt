@@ -2,7 +2,7 @@
 use Prim.Native.Nat.{ℕ, zero, suc, ◌+◌}
 use mathlib.Core.Bool.{Bool, true, false, not, false≢true}
 use mathlib.Core.List.{List, [], ◌∷◌, ◌++◌}
-use mathlib.Core.Option.{Option, none, some}
+use Rattle.std.specs.Prelude.{Option, None, Some}
 use mathlib.Core.Path.{◌≡◌, refl, ap, ap₂, ◌∙◌, sym, subst}
 use borrow.Author.Tests.{eqb-true, not-true}
 use lib.Dec.{eqb}
@@ -13,7 +13,8 @@ use Rattle.chars.specs.Class.{class_of}
 use Rattle.chars.specs.declared.Class.{Class}
 use Rattle.chars.specs.declared.Class.TheVariants.{Letter, Digit, Space, Sign, Other}
 use Rattle.lexer.specs.Tokens as T
-use Rattle.lexer.specs.Tokens.{TokenKind, word, quoted, str, sign, newline, tok, is_letter, is_word_start, is_word_continue, run, line, trim_cons, trim_end, comment_text, indent, escape, ends, stands, inner_of, closed, put, pass, inside, word_step, string_step, quoted_step, step}
+use Rattle.lexer.specs.Tokens.{TokenKind, word, quoted, str, sign, newline, tok, is_letter, is_word_continue, run, line, trim_cons, trim_end, comment_text, indent, escape, ends, stands, inner_of, closed, put, pass, inside, word_step, string_step, quoted_step, step}
+use Rattle.lexer.specs.Starts.{is_word_start}
 use Rattle.language.specs.Machine.{Dir, left, right, stay}
 use Rattle.language.specs.Plain.{Piece, say, verbatim, end, commas, symbol, dir_code, direction, escaped, escaped_text, string, comment, own_comment}
 use Rattle.language.proofs.Every.{by_test, or_else, Every, All, Maybe}
@@ -150,22 +151,22 @@ comment-kinds (c ∷ s) h r = comment-front (0x20 ∷ c ∷ s) r (refl, h.one_li
 
 -- a rule's own comment, or none
 abbrev pub own_t : Option (List ℕ) → List TokenKind → List TokenKind
-own_t none rest = rest
-own_t (some s) rest = T.comment s ∷ rest
+own_t None rest = rest
+own_t (Some s) rest = T.comment s ∷ rest
 
 pub own_kinds : (o : Option (List ℕ)) → Maybe IsComment o → (r : List ℕ) → kinds (own_comment o (10 ∷ r)) ≡ own_t o (newline ∷ kinds r)
 unfolding kinds
-own_kinds none h r = refl
-own_kinds (some s) h r = comment-kinds s h r
+own_kinds None h r = refl
+own_kinds (Some s) h r = comment-kinds s h r
 
 -- ---- strings
 
 -- how a character stands in a string, and that it is read so
 data Shown (c : ℕ) : Type 0 where
-  bare : escaped c ≡ none → inner_of c ≡ stands → Shown c
-  behind : (e : ℕ) → escaped c ≡ some e → escape e ≡ some c → Shown c
+  bare : escaped c ≡ None → inner_of c ≡ stands → Shown c
+  behind : (e : ℕ) → escaped c ≡ Some e → escape e ≡ Some c → Shown c
 
-at_literal : (k e : ℕ) → escaped k ≡ some e → escape e ≡ some k → (c : ℕ) → eqb c k ≡ true → Shown c
+at_literal : (k e : ℕ) → escaped k ≡ Some e → escape e ≡ Some k → (c : ℕ) → eqb c k ≡ true → Shown c
 at_literal k e p q c t = subst Shown (sym (eqb-true c k t)) (behind e p q)
 
 shown : (c : ℕ) → Shown c
@@ -183,7 +184,7 @@ shown c = go (eqb c 0x22) (eqb c 0x5C) (eqb c 10) (eqb c 9) refl refl refl refl
 abbrev Closes : List ℕ → List ℕ → Type 0
 Closes s r = (n : ℕ) × (inside false (escaped_text s (0x22 ∷ r)) ≡ closed s (suc n)) × (drop n (escaped_text s (0x22 ∷ r)) ≡ 0x22 ∷ r)
 
-escape-read : (e c : ℕ) (r : List ℕ) → escape e ≡ some c → inside true (e ∷ r) ≡ put c (pass (inside false r))
+escape-read : (e c : ℕ) (r : List ℕ) → escape e ≡ Some c → inside true (e ∷ r) ≡ put c (pass (inside false r))
 unfolding inside
 escape-read e c r q = rw (q, inside)
 

@@ -2,7 +2,7 @@
 use Prim.Native.Nat.{ℕ, zero, suc, ◌+◌, ◌≤◌, ◌<◌, min}
 use mathlib.Core.Bool.{Bool, true, false}
 use mathlib.Core.List.{List, [], ◌∷◌, ◌++◌, map}
-use mathlib.Core.Option.{Option, none, some}
+use Rattle.std.specs.Prelude.{Option, None, Some}
 use mathlib.Core.Path.{◌≡◌, refl, ap, ap₂, ◌∙◌}
 use native.Mathlib.Omega.{arith}
 use native.Mathlib.Nat.{min-eq_left}
@@ -10,7 +10,12 @@ use lib.ListN.{length, length-map}
 use Rattle.lexer.specs.Text.{codes, same}
 use Rattle.lexer.specs.Tokens.{TokenKind, word, quoted, sign, newline, Token}
 use Rattle.lexer.specs.Words.{value}
-use Rattle.language.specs.Machine.{Located, Kind, acceptor, transducer, enumerator, beaver, lsb, msb, Decoder, as_word, as_unary, as_binary, Dir, left, right, stay}
+use Rattle.machine.specs.declared.Kind.{Kind}
+use Rattle.machine.specs.declared.Kind.TheVariants.{Acceptor, Transducer, Enumerator, Beaver}
+use Rattle.machine.specs.declared.BitOrder.TheVariants.{Lsb, Msb}
+use Rattle.machine.specs.declared.Decoder.{Decoder}
+use Rattle.machine.specs.declared.Decoder.TheVariants.{Word, Unary, Binary}
+use Rattle.language.specs.Machine.{Located, Dir, left, right, stay}
 use Rattle.language.specs.Content.{RuleContent, Content}
 use Rattle.language.specs.Parser.{Result, ok, Parser, then, give, is_sign, goes_on, branch, one, at_most, entries, tuple, set}
 use Rattle.language.specs.Lines.{glyph, RawDecoder, raw_word, raw_unary, raw_binary, RawTransition, Item, machine_item, input_item, kind_item, output_item, tapes_item, states_item, final_item, input_alphabet_item, tape_alphabet_item, blank_item, start_item, transition_item, Line, blank_line, comment_line, item_line, state_in, state, symbol, direction, read_entry, write_entry, transition, output, goes_by, ending_of, in_front, rows, finished, line_from, line_of, lines}
@@ -34,8 +39,8 @@ abbrev pub loc : {A : Type 0} → A → Located U A
 loc a = record { value = a; place = tt }
 
 abbrev pub maybe_loc : {A : Type 0} → Option A → Option (Located U A)
-maybe_loc none = none
-maybe_loc (some a) = some (loc a)
+maybe_loc None = None
+maybe_loc (Some a) = Some (loc a)
 
 abbrev pub nowhere : U → U → U
 nowhere a b = tt
@@ -55,7 +60,7 @@ pub record Reads {A B : Type 0} (good : A → Type 0) (f : A → TokenKind) (g :
 
 -- the sign c ends a list
 record Closes (c : ℕ) : Type 0 where
-  closes : goes_on c (sign c) ≡ some false
+  closes : goes_on c (sign c) ≡ Some false
 
 at_most_read : {A B : Type 0} {good : A → Type 0} {f : A → TokenKind} {g : A → B} {p : Parser U B} → Reads good f g p → {c : ℕ} → Closes c
     → (a : A) (l : List A) → Every good (a ∷ l) → (n : ℕ) → length (a ∷ l) ≤ n → (rest : List TokenKind)
@@ -120,7 +125,7 @@ read-read : Reads Any action_read (λ a. loc (glyph a.read) ∷ []) (read_entry 
 unfolding read_entry
 read-read = record { reads = λ a h ts. refl }
 
-write_read : Reads Any action_write (λ a. loc (some (glyph a.write))) (write_entry tt)
+write_read : Reads Any action_write (λ a. loc (Some (glyph a.write))) (write_entry tt)
 unfolding write_entry
 write_read = record { reads = λ a h ts. refl }
 
@@ -141,7 +146,7 @@ raw_of r = record {
   from = loc r.from;
   read = map (λ a. loc (glyph a.read) ∷ []) r.actions;
   to = loc r.to;
-  write = map (λ a. loc (some (glyph a.write))) r.actions;
+  write = map (λ a. loc (Some (glyph a.write))) r.actions;
   dir = map (λ a. loc a.dir) r.actions;
 }
 
@@ -173,8 +178,8 @@ GoesBy k = ending_of k ≡ goes_by
 row_front : (ks : List TokenKind) → Every GoesBy ks → (o : Option (List ℕ)) (rest : List TokenKind)
     → rows (map bare (ks ++ own_t o (newline ∷ rest))) ≡ record { body = map bare ks; stop = tt; comment = maybe_loc o } ∷ rows (map bare rest)
 unfolding rows
-row_front [] h none rest = refl
-row_front [] h (some s) rest = refl
+row_front [] h None rest = refl
+row_front [] h (Some s) rest = refl
 row_front (k ∷ ks) h o rest = rw h.0 (ap (in_front goes_by (bare k)) (row_front ks h.1 o rest))
 
 -- the rows parse to the lines; the text's end is one more, blank
@@ -188,7 +193,7 @@ parses_lines last = refl
 parses_lines (next {r = r} {rs = rs} g e p) = ap (map (line_of nowhere)) (row_front r.body g r.own (flat_rows rs)) ∙ ap₂ (λ x y. x ∷ y) e (parses_lines p)
 
 abbrev pub declaration : Item U → Line U
-declaration i = item_line i tt none
+declaration i = item_line i tt None
 
 -- a line that stands there only if b
 abbrev pub only_line : Bool → Line U → List (Line U) → List (Line U)
@@ -199,9 +204,9 @@ only_line false l ls = ls
 
 -- an output as its plain form writes it
 abbrev pub raw_decoder : Decoder → RawDecoder
-raw_decoder as_word = raw_word
-raw_decoder (as_unary c) = raw_unary (glyph c)
-raw_decoder (as_binary b) = raw_binary b
+raw_decoder Word = raw_word
+raw_decoder (Unary c) = raw_unary (glyph c)
+raw_decoder (Binary b) = raw_binary b
 
 commas_t_goes : {A : Type 0} (f : A → TokenKind) → ((a : A) → GoesBy (f a)) → (l : List A) (rest : List TokenKind) → Every GoesBy rest → Every GoesBy (commas_t f l rest)
 unfolding commas_t ending_of
@@ -209,7 +214,7 @@ commas_t_goes f e [] rest h = h
 commas_t_goes f e (x ∷ []) rest h = (e x, h)
 commas_t_goes f e (x ∷ y ∷ l) rest h = (e x, (refl, commas_t_goes f e (y ∷ l) rest h))
 
-set-read : {A B : Type 0} {good : A → Type 0} {f : A → TokenKind} {g : A → B} {p : Parser U B} → Reads good f g p → ((a : A) → is_sign 0x7D (f a) ≡ none)
+set-read : {A B : Type 0} {good : A → Type 0} {f : A → TokenKind} {g : A → B} {p : Parser U B} → Reads good f g p → ((a : A) → is_sign 0x7D (f a) ≡ None)
     → (l : List A) → Every good l → set tt p (bare (sign 0x7B) ∷ map bare (commas_t f l (sign 0x7D ∷ []))) ≡ ok (map g l) []
 unfolding set commas_t
 set-read R n [] h = refl
@@ -237,17 +242,17 @@ module _ {rs : List Row} {ls : List (Line U)} (h : Parses rs ls) where
 
   kind_parses : (k : Kind) → Parses (kind_row k ∷ rs) (declaration (kind_item k) ∷ ls)
   unfolding row_line ending_of
-  kind_parses acceptor = put (kind_row acceptor) _ (refl, (refl, tt)) refl
-  kind_parses transducer = put (kind_row transducer) _ (refl, (refl, tt)) refl
-  kind_parses enumerator = put (kind_row enumerator) _ (refl, (refl, tt)) refl
-  kind_parses beaver = put (kind_row beaver) _ (refl, (refl, tt)) refl
+  kind_parses Acceptor = put (kind_row Acceptor) _ (refl, (refl, tt)) refl
+  kind_parses Transducer = put (kind_row Transducer) _ (refl, (refl, tt)) refl
+  kind_parses Enumerator = put (kind_row Enumerator) _ (refl, (refl, tt)) refl
+  kind_parses Beaver = put (kind_row Beaver) _ (refl, (refl, tt)) refl
 
   output_parses : (d : Decoder) → Parses (output_row d ∷ rs) (declaration (output_item (raw_decoder d)) ∷ ls)
   unfolding row_line ending_of
-  output_parses as_word = put (output_row as_word) _ (refl, (refl, tt)) refl
-  output_parses (as_unary c) = put (output_row (as_unary c)) _ (refl, (refl, (refl, tt))) refl
-  output_parses (as_binary lsb) = put (output_row (as_binary lsb)) _ (refl, (refl, (refl, tt))) refl
-  output_parses (as_binary msb) = put (output_row (as_binary msb)) _ (refl, (refl, (refl, tt))) refl
+  output_parses Word = put (output_row Word) _ (refl, (refl, tt)) refl
+  output_parses (Unary c) = put (output_row (Unary c)) _ (refl, (refl, (refl, tt))) refl
+  output_parses (Binary Lsb) = put (output_row (Binary Lsb)) _ (refl, (refl, (refl, tt))) refl
+  output_parses (Binary Msb) = put (output_row (Binary Msb)) _ (refl, (refl, (refl, tt))) refl
 
   tapes_parses : (n : ℕ) → n < 256 → Parses (tapes_row n ∷ rs) (declaration (tapes_item (loc n)) ∷ ls)
   unfolding row_line ending_of
@@ -259,27 +264,27 @@ module _ {rs : List Row} {ls : List (Line U)} (h : Parses rs ls) where
 
   start_parses : (w : List ℕ) → NotBlank w → Parses (start_row w ∷ rs) (declaration (start_item (loc w)) ∷ ls)
   unfolding row_line ending_of
-  start_parses w g = put (start_row w) _ (refl, (refl, (refl, tt))) (ap (λ p. finished tt none (then p (λ q. give (start_item q)))) (state-read w g []))
+  start_parses w g = put (start_row w) _ (refl, (refl, (refl, tt))) (ap (λ p. finished tt None (then p (λ q. give (start_item q)))) (state-read w g []))
 
   states_parses : (l : List (List ℕ)) → Every NotBlank l → Parses (set_row (codes "Q") word l ∷ rs) (declaration (states_item (map loc l)) ∷ ls)
   unfolding row_line ending_of set_row
   states_parses l g = put (set_row (codes "Q") word l) _ (refl, (refl, (refl, commas_t_goes word (λ a. refl) l (sign 0x7D ∷ []) (refl, tt))))
-      (ap (λ p. finished tt none (then p (λ q. give (states_item q)))) (set-read states-read (λ a. refl) l g))
+      (ap (λ p. finished tt None (then p (λ q. give (states_item q)))) (set-read states-read (λ a. refl) l g))
 
   finals_parses : (l : List (List ℕ)) → Every NotBlank l → Parses (set_row (codes "F") word l ∷ rs) (declaration (final_item (map loc l)) ∷ ls)
   unfolding row_line ending_of set_row
   finals_parses l g = put (set_row (codes "F") word l) _ (refl, (refl, (refl, commas_t_goes word (λ a. refl) l (sign 0x7D ∷ []) (refl, tt))))
-      (ap (λ p. finished tt none (then p (λ q. give (final_item q)))) (set-read states-read (λ a. refl) l g))
+      (ap (λ p. finished tt None (then p (λ q. give (final_item q)))) (set-read states-read (λ a. refl) l g))
 
   sigma_parses : (l : List ℕ) → Parses (set_row (codes "Σ") quoted l ∷ rs) (declaration (input_alphabet_item (map (λ c. loc (glyph c)) l)) ∷ ls)
   unfolding row_line ending_of set_row
   sigma_parses l = put (set_row (codes "Σ") quoted l) _ (refl, (refl, (refl, commas_t_goes quoted (λ a. refl) l (sign 0x7D ∷ []) (refl, tt))))
-      (ap (λ p. finished tt none (then p (λ q. give (input_alphabet_item q)))) (set-read symbols-read (λ a. refl) l (any l)))
+      (ap (λ p. finished tt None (then p (λ q. give (input_alphabet_item q)))) (set-read symbols-read (λ a. refl) l (any l)))
 
   gamma_parses : (l : List ℕ) → Parses (set_row (codes "Γ") quoted l ∷ rs) (declaration (tape_alphabet_item (map (λ c. loc (glyph c)) l)) ∷ ls)
   unfolding row_line ending_of set_row
   gamma_parses l = put (set_row (codes "Γ") quoted l) _ (refl, (refl, (refl, commas_t_goes quoted (λ a. refl) l (sign 0x7D ∷ []) (refl, tt))))
-      (ap (λ p. finished tt none (then p (λ q. give (tape_alphabet_item q)))) (set-read symbols-read (λ a. refl) l (any l)))
+      (ap (λ p. finished tt None (then p (λ q. give (tape_alphabet_item q)))) (set-read symbols-read (λ a. refl) l (any l)))
 
   only_parses : (b : Bool) (r : Row) (l : Line U) → (b ≡ true → Parses (r ∷ rs) (l ∷ ls)) → Parses (only_row b r rs) (only_line b l ls)
   only_parses true r l f = f refl

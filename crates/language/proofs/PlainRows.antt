@@ -2,12 +2,16 @@
 use Prim.Native.Nat.{ℕ, ◌+◌, ◌<◌}
 use mathlib.Core.Bool.{Bool, true, false}
 use mathlib.Core.List.{List, [], ◌∷◌, ◌++◌, map}
-use mathlib.Core.Option.{Option, none, some}
+use Rattle.std.specs.Prelude.{Option, None, Some}
 use mathlib.Core.Path.{◌≡◌, refl, ap, ◌∙◌}
 use Rattle.lexer.specs.Text.{codes}
 use Rattle.lexer.specs.Tokens as T
 use Rattle.lexer.specs.Tokens.{TokenKind, word, number, quoted, str, sign, newline, is_word_continue, is_ascii_digit}
-use Rattle.language.specs.Machine.{Kind, acceptor, transducer, enumerator, beaver, lsb, msb, Decoder, as_word, as_unary, as_binary}
+use Rattle.machine.specs.declared.Kind.{Kind}
+use Rattle.machine.specs.declared.Kind.TheVariants.{Acceptor, Transducer, Enumerator, Beaver}
+use Rattle.machine.specs.declared.BitOrder.TheVariants.{Lsb, Msb}
+use Rattle.machine.specs.declared.Decoder.{Decoder}
+use Rattle.machine.specs.declared.Decoder.TheVariants.{Word, Unary, Binary}
 use Rattle.language.specs.Content.{StateContent, ActionContent, RuleContent, Content}
 use Rattle.language.specs.Plain.{Piece, ◌⨾◌, say, verbatim, end, only, each, commas, symbol, direction, string, decimal, comment, comment_line, own_comment, kind_name, decoder, name_set, symbol_set, final_names, rule, rule_lines, pieces, plain}
 use Rattle.language.proofs.Every.{by_test, Every, Maybe, every_map}
@@ -23,10 +27,10 @@ pub record Row : Type 0 where
   pub own : Option (List ℕ)
 
 abbrev pub row : List TokenKind → Row
-row b = record { body = b; own = none }
+row b = record { body = b; own = None }
 
 abbrev pub comment_row : List ℕ → Row
-comment_row s = record { body = []; own = some s }
+comment_row s = record { body = []; own = Some s }
 
 -- the tokens of rows, each with its line's end; the text's end is one more
 unfoldable pub flat_rows : List Row → List TokenKind
@@ -48,10 +52,10 @@ comment_rows [] rs = rs
 comment_rows (s ∷ l) rs = comment_row s ∷ comment_rows l rs
 
 abbrev pub decoder_t : Decoder → List TokenKind
-decoder_t as_word = word (codes "word") ∷ []
-decoder_t (as_unary c) = word (codes "unary") ∷ quoted c ∷ []
-decoder_t (as_binary lsb) = word (codes "binary") ∷ word (codes "lsb") ∷ []
-decoder_t (as_binary msb) = word (codes "binary") ∷ word (codes "msb") ∷ []
+decoder_t Word = word (codes "word") ∷ []
+decoder_t (Unary c) = word (codes "unary") ∷ quoted c ∷ []
+decoder_t (Binary Lsb) = word (codes "binary") ∷ word (codes "lsb") ∷ []
+decoder_t (Binary Msb) = word (codes "binary") ∷ word (codes "msb") ∷ []
 
 -- the lines of one value
 abbrev pub machine_row : List ℕ → Row
@@ -130,9 +134,9 @@ plain_rows m =
 
 -- the symbol of a unary output can be quoted
 abbrev pub IsDecoder : Decoder → Type 0
-IsDecoder as_word = Unit {0}
-IsDecoder (as_unary c) = IsSymbol c
-IsDecoder (as_binary b) = Unit {0}
+IsDecoder Word = Unit {0}
+IsDecoder (Unary c) = IsSymbol c
+IsDecoder (Binary b) = Unit {0}
 
 module _ {rest : List ℕ} {rs : List Row} (h : Lexes rest rs) where
   comment_lexes : (s : List ℕ) → IsComment s → Lexes (comment_line s rest) (comment_row s ∷ rs)
@@ -149,17 +153,17 @@ module _ {rest : List ℕ} {rs : List Row} (h : Lexes rest rs) where
 
   kind_lexes : (k : Kind) → Lexes ((say "kind " ⨾ say (kind_name k) ⨾ end) rest) (kind_row k ∷ rs)
   unfolding flat_rows kinds
-  kind_lexes acceptor = record { lexes = ap (λ l. word (codes "kind") ∷ word (codes "acceptor") ∷ newline ∷ l) h.lexes }
-  kind_lexes transducer = record { lexes = ap (λ l. word (codes "kind") ∷ word (codes "transducer") ∷ newline ∷ l) h.lexes }
-  kind_lexes enumerator = record { lexes = ap (λ l. word (codes "kind") ∷ word (codes "enumerator") ∷ newline ∷ l) h.lexes }
-  kind_lexes beaver = record { lexes = ap (λ l. word (codes "kind") ∷ word (codes "beaver") ∷ newline ∷ l) h.lexes }
+  kind_lexes Acceptor = record { lexes = ap (λ l. word (codes "kind") ∷ word (codes "acceptor") ∷ newline ∷ l) h.lexes }
+  kind_lexes Transducer = record { lexes = ap (λ l. word (codes "kind") ∷ word (codes "transducer") ∷ newline ∷ l) h.lexes }
+  kind_lexes Enumerator = record { lexes = ap (λ l. word (codes "kind") ∷ word (codes "enumerator") ∷ newline ∷ l) h.lexes }
+  kind_lexes Beaver = record { lexes = ap (λ l. word (codes "kind") ∷ word (codes "beaver") ∷ newline ∷ l) h.lexes }
 
   output_lexes : (d : Decoder) → IsDecoder d → Lexes ((say "output " ⨾ decoder d ⨾ end) rest) (output_row d ∷ rs)
   unfolding flat_rows kinds
-  output_lexes as_word g = record { lexes = ap (λ l. word (codes "output") ∷ word (codes "word") ∷ newline ∷ l) h.lexes }
-  output_lexes (as_unary c) g = record { lexes = ap (λ l. word (codes "output") ∷ word (codes "unary") ∷ l) (symbol-kinds c g (10 ∷ rest) ∙ ap (λ l. quoted c ∷ newline ∷ l) h.lexes) }
-  output_lexes (as_binary lsb) g = record { lexes = ap (λ l. word (codes "output") ∷ word (codes "binary") ∷ word (codes "lsb") ∷ newline ∷ l) h.lexes }
-  output_lexes (as_binary msb) g = record { lexes = ap (λ l. word (codes "output") ∷ word (codes "binary") ∷ word (codes "msb") ∷ newline ∷ l) h.lexes }
+  output_lexes Word g = record { lexes = ap (λ l. word (codes "output") ∷ word (codes "word") ∷ newline ∷ l) h.lexes }
+  output_lexes (Unary c) g = record { lexes = ap (λ l. word (codes "output") ∷ word (codes "unary") ∷ l) (symbol-kinds c g (10 ∷ rest) ∙ ap (λ l. quoted c ∷ newline ∷ l) h.lexes) }
+  output_lexes (Binary Lsb) g = record { lexes = ap (λ l. word (codes "output") ∷ word (codes "binary") ∷ word (codes "lsb") ∷ newline ∷ l) h.lexes }
+  output_lexes (Binary Msb) g = record { lexes = ap (λ l. word (codes "output") ∷ word (codes "binary") ∷ word (codes "msb") ∷ newline ∷ l) h.lexes }
 
   tapes_lexes : (n : ℕ) → n < 256 → Lexes ((say "tapes = " ⨾ decimal n ⨾ end) rest) (tapes_row n ∷ rs)
   unfolding flat_rows kinds is_ascii_digit

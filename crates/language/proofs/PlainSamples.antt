@@ -1,10 +1,12 @@
 -- Plain forms of two machines, computed: one with every kind of line, and the machine of the empty text.
 use mathlib.Core.Bool.{true, false}
 use mathlib.Core.List.{[], ◌∷◌}
-use mathlib.Core.Option.{none, some}
+use Rattle.std.specs.Prelude.{None, Some}
 use mathlib.Core.Path.{◌≡◌, refl}
 use Rattle.lexer.specs.Text.{codes}
-use Rattle.language.specs.Machine.{acceptor, transducer, as_word, as_unary, left, right, stay}
+use Rattle.machine.specs.declared.Kind.TheVariants.{Acceptor, Transducer}
+use Rattle.machine.specs.declared.Decoder.TheVariants.{Word, Unary}
+use Rattle.language.specs.Machine.{left, right, stay}
 use Rattle.language.specs.Content.{Content}
 use Rattle.language.specs.Plain.{plain}
 
@@ -12,8 +14,8 @@ every : Content
 every = record {
   name = codes "a \"b\" \\ c";
   input = codes "0\n\t1";
-  kind = acceptor;
-  output = as_unary 0x31;
+  kind = Acceptor;
+  output = Unary 0x31;
   tapes = 205;
   blank = 0x27;
   declared = record { states = true; input_alphabet = true; tape_alphabet = true; start = true; blank = true };
@@ -26,12 +28,12 @@ every = record {
   rules = record {
     from = codes "a";
     to = codes "b'";
-    comment = some (codes "go");
+    comment = Some (codes "go");
     leading = codes "lead" ∷ [] ∷ [];
     actions = record { read = 0x30; write = 0x31; dir = right } ∷ record { read = 0x27; write = 0x3B; dir = left } ∷ [];
   }
-      ∷ record { from = codes "a"; to = codes "a"; comment = some []; leading = []; actions = record { read = 0x5F; write = 0x2423; dir = stay } ∷ [] }
-      ∷ record { from = codes "c"; to = codes "a"; comment = none; leading = []; actions = record { read = 0x20; write = 0x2A; dir = stay } ∷ [] }
+      ∷ record { from = codes "a"; to = codes "a"; comment = Some []; leading = []; actions = record { read = 0x5F; write = 0x2423; dir = stay } ∷ [] }
+      ∷ record { from = codes "c"; to = codes "a"; comment = None; leading = []; actions = record { read = 0x20; write = 0x2A; dir = stay } ∷ [] }
       ∷ [];
 }
 
@@ -44,8 +46,8 @@ empty : Content
 empty = record {
   name = [];
   input = [];
-  kind = transducer;
-  output = as_word;
+  kind = Transducer;
+  output = Word;
   tapes = 1;
   blank = 0x2423;
   declared = record { states = false; input_alphabet = false; tape_alphabet = false; start = false; blank = false };

@@ -13,7 +13,7 @@ use Rattle.language.specs.Assembly.{items, blank_of, RuleLine, body_of, combinat
 use Rattle.language.specs.Infer.{machine_of}
 use Rattle.language.specs.Layout.{sheet_words, sheet_length}
 use Rattle.language.proofs.Every.{by_test, Every, Filled, every_any, every_impl}
-use Rattle.language.proofs.ParseHolds.{Any, any_maybe, Goods, GoodEnding, Some, lines_good}
+use Rattle.language.proofs.ParseHolds.{Any, any_maybe, Goods, GoodEnding, EachOfSome, lines_good}
 use Rattle.language.proofs.AssemblyHolds.{GoodRuleLine, body_good}
 use Rattle.language.proofs.Counts.{Chosen, by_verdict, kept_every, kept_fits, rule_count, rules-length, sheet_length_lem}
 
@@ -38,7 +38,7 @@ any_ending (remark s) = tt
 -- the read sets of every rule that is read have members
 pub read_chosen : {P : Type 0} (◌⋯◌ : P → P → P) (ts : List (Token P)) → Every Chosen (body_of (lines ◌⋯◌ ts)).rules
 read_chosen ◌⋯◌ ts =
-    every_impl (GoodRuleLine free) Chosen (λ l g. every_impl (Some Any) Filled (λ s h. h.0) l.raw.read g.raw_good.read_good.1) (body_of (lines ◌⋯◌ ts)).rules
+    every_impl (GoodRuleLine free) Chosen (λ l g. every_impl (EachOfSome Any) Filled (λ s h. h.0) l.raw.read g.raw_good.read_good.1) (body_of (lines ◌⋯◌ ts)).rules
     (body_good free (lines ◌⋯◌ ts) (lines_good Any free (λ t _. any_maybe (state_in t.kind)) (λ t _. any_maybe (symbol_in t.kind)) (λ t _. any_maybe (string_in t.kind)) (λ t _. any_ending (ending_of t.kind)) ◌⋯◌ ts (every_any Any (λ t. tt) ts))).rules_good
 
 -- ---- the limit

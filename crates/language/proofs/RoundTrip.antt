@@ -3,16 +3,16 @@ use Prim.Native.Nat.{ℕ, ◌+◌, ◌≤◌, ◌<◌}
 use mathlib.Core.Bool.{Bool, true, false, ◌&&◌, false≢true}
 use mathlib.Core.List.{List, [], ◌∷◌, map}
 use mathlib.Core.Logic.{◌↔◌}
-use mathlib.Core.Option.{Option, none, some}
 use mathlib.Core.Path.{◌≡◌, refl, ap, ◌∙◌, sym, subst}
 use native.Mathlib.Omega.{arith}
 use borrow.Author.Tests.{leb-true, le-ltb, lt-ltb}
 use lib.Dec.{ltb, leb}
 use lib.ListN.{length}
 use Rattle.chars.specs.Ranges.{within}
-use Rattle.chars.specs.Utf8.{scalars, size, decode, encode, valid_up_to}
+use Rattle.chars.specs.Utf8.{size, decode, encode, valid_up_to}
+use Rattle.chars.specs.Decoded.{scalars}
 use Rattle.chars.specs.Class.{outside_from, first_outside}
-use Rattle.std.specs.Prelude.{Option as Perhaps, Some, None}
+use Rattle.std.specs.Prelude.{Option as Perhaps, Some, None, Option}
 use Rattle.chars.proofs.Theorems.{decode-encode, encode_valid}
 use Rattle.lexer.specs.Tokens.{Span}
 use Rattle.language.specs.Content.{Content, content_of}
@@ -70,10 +70,10 @@ nowhere_fine o (c ∷ cs) e = by_test (fine c) (λ h. (h, nowhere_fine (o + size
 abbrev gate : Bool → Bool → Bool → ℕ → Perhaps ℕ → Bool
 gate long short invalid n o = elim (
     elim long as (λ _. Option Refusal) [
-      | true ↦ some text_too_long
-      | false ↦ elim short [ true ↦ some work_too_short | false ↦ elim invalid [ true ↦ some (invalid_utf8 n) | false ↦ elim o [ Some p ↦ some (outside_set p) | None ↦ none ] ] ]
+      | true ↦ Some text_too_long
+      | false ↦ elim short [ true ↦ Some work_too_short | false ↦ elim invalid [ true ↦ Some (invalid_utf8 n) | false ↦ elim o [ Some p ↦ Some (outside_set p) | None ↦ None ] ] ]
     ]
-    ) [ none ↦ true | some r ↦ false ]
+    ) [ None ↦ true | Some r ↦ false ]
 
 gate_open : (long short invalid : Bool) (n : ℕ) (o : Perhaps ℕ) → gate long short invalid n o ≡ true → o ≡ None
 gate_open true short invalid n o e = absurd (false≢true e)

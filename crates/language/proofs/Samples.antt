@@ -11,7 +11,8 @@ use Rattle.language.specs.Lines.{read_lines}
 use Rattle.language.specs.Assembly.{diagnostics}
 use Rattle.language.specs.Infer.{machine_of}
 use Rattle.language.specs.Layout.{head_of, sheet_words}
-use Rattle.language.specs.Outcome.{reply_words, work_needed, zeros, ReadOutcome, read_outcome, write_words, WriteOutcome, write_outcome, state_name}
+use Rattle.language.specs.Outcome.{reply_words, work_needed, zeros, ReadOutcome, read_outcome, write_words, WriteOutcome, write_outcome}
+use Rattle.language.specs.StateName.{state_name}
 use Rattle.language.specs.Agreement.{content_of_answer}
 
 -- the word of which two say that there is no place
@@ -24,7 +25,7 @@ pub record Flat : Type 0 where
   pub log : List ℕ
   pub sheet : List ℕ
 
-unfoldable pub flatten : ReadOutcome → Flat
+unfoldable pub flatten : ReadOutcome (List ℕ) → Flat
 unfolding reply_words
 flatten o = record { reply = reply_words o.reply; log = o.log; sheet = o.sheet }
 
@@ -522,7 +523,7 @@ record FlatWrite : Type 0 where
   sheet : List ℕ
   output : List ℕ
 
-flatten_write : WriteOutcome → FlatWrite
+flatten_write : WriteOutcome (List ℕ) → FlatWrite
 flatten_write o = record { reply = write_words o.reply; log = o.log; sheet = o.sheet; output = o.output }
 
 -- a text, and the bytes of output lent for it

@@ -3,13 +3,14 @@ use Prim.Native.Nat.{ℕ, zero, suc, ◌+◌, ◌-◌}
 use native.Mathlib.Omega.{arith}
 use mathlib.Core.Bool.{Bool, true, false, ◌&&◌, not}
 use mathlib.Core.List.{List, [], ◌∷◌, ◌++◌, append_assoc}
-use mathlib.Core.Option.{Option, none, some}
+use Rattle.std.specs.Prelude.{Option, None, Some}
 use mathlib.Core.Path.{◌≡◌, refl, ap, ◌∙◌, sym}
 use borrow.Author.Tests.{eqb-true}
 use lib.Dec.{eqb}
 use lib.ListN.{length, take, drop, length-append}
 use lib.Seq.{take_at, drop_at}
-use Rattle.chars.specs.Utf8.{scalar, scalars, size, sizes, encode, decode}
+use Rattle.chars.specs.Utf8.{scalar, size, sizes, encode, decode}
+use Rattle.chars.specs.Decoded.{scalars}
 use Rattle.chars.specs.Class.{class_of}
 use Rattle.chars.specs.declared.Class.{Class}
 use Rattle.chars.specs.declared.Class.TheVariants.{Letter, Digit, Space, Sign, Other}
@@ -134,7 +135,7 @@ stand_closing c r (closed v n) e h = record {
   again = λ more. rw (e, inside) (ap (λ i. put c (pass i)) (h.again more));
 }
 
-escaped_closing : (d u : ℕ) (r : List ℕ) (x : Inside) → escape d ≡ some u → Closing false r x → Closing true (d ∷ r) (put u (pass x))
+escaped_closing : (d u : ℕ) (r : List ℕ) (x : Inside) → escape d ≡ Some u → Closing false r x → Closing true (d ∷ r) (put u (pass x))
 unfolding put pass inside
 escaped_closing d u r unclosed e h = tt
 escaped_closing d u r (closed v n) e h = record {
@@ -145,7 +146,7 @@ escaped_closing d u r (closed v n) e h = record {
   again = λ more. rw (e, inside) (ap (λ i. put u (pass i)) (h.again more));
 }
 
-plain_closing : (d : ℕ) (r : List ℕ) (x : Inside) → escape d ≡ none → eqb d 10 ≡ false → Closing false r x → Closing true (d ∷ r) (put 0x5C (put d (pass x)))
+plain_closing : (d : ℕ) (r : List ℕ) (x : Inside) → escape d ≡ None → eqb d 10 ≡ false → Closing false r x → Closing true (d ∷ r) (put 0x5C (put d (pass x)))
 unfolding put pass inside
 plain_closing d r unclosed e f h = tt
 plain_closing d r (closed v n) e f h = record {
@@ -162,9 +163,9 @@ by_inner breaks a b c d = b refl
 by_inner escapes a b c d = c refl
 by_inner stands a b c d = d refl
 
-by_option : {A X : Type 0} (o : Option A) → ((a : A) → o ≡ some a → X) → (o ≡ none → X) → X
-by_option none f g = g refl
-by_option (some a) f g = f a refl
+by_option : {A X : Type 0} (o : Option A) → ((a : A) → o ≡ Some a → X) → (o ≡ None → X) → X
+by_option None f g = g refl
+by_option (Some a) f g = f a refl
 
 closes : (b : Bool) (r : List ℕ) → Closing b r (inside b r)
 unfolding inside

@@ -1,14 +1,13 @@
 -- Paper 01, "Plain form": what the answer of a reading call stands for, from its head, its sheet and the text, as a caller has them.
-use Rattle.std.specs.Prelude.{ℕ, zero, suc, ◌+◌, ◌-◌, ◌*◌, ◌&&◌, ◌≡◌, get_or, take, drop}
+use Rattle.std.specs.Prelude.{ℕ, zero, suc, ◌+◌, ◌-◌, ◌*◌, ◌&&◌, ◌≡◌, get_or, take, drop, Option, None, Some}
 use Rattle.std.proofs.Math.Bool.{true, false}
 use mathlib.Core.List.{List, [], ◌∷◌, map}
-use Rattle.std.proofs.Math.Option.{Option, none, some}
 use Rattle.std.proofs.Math.Dec.{eqb}
 use Rattle.chars.specs.Utf8.{decode}
 use Rattle.lexer.specs.Tokens.{Span, span, unescape}
+use Rattle.machine.specs.declared.Head.{Head}
 use Rattle.language.specs.Machine.{Dir, left, right, stay}
 use Rattle.language.specs.Content.{StateContent, ActionContent, RuleContent, Content}
-use Rattle.language.specs.Layout.{Head}
 
 -- an answer: the head that was returned, the words of the sheet, and the bytes of the text
 pub record Answer : Type 0 where
@@ -59,7 +58,7 @@ module _ (text : List ℕ) where
   -- a comment, or none
   unfoldable pub comment_at : Span → Option (List ℕ)
   unfolding characters_at
-  comment_at p = elim (eqb p.start 4294967295 && eqb p.end 4294967295) [ true ↦ none | false ↦ some (characters_at p) ]
+  comment_at p = elim (eqb p.start 4294967295 && eqb p.end 4294967295) [ true ↦ None | false ↦ Some (characters_at p) ]
 
   -- a state from its words
   unfoldable pub state_in : List ℕ → StateContent

@@ -1,72 +1,25 @@
 -- Paper 01, "parser.rs, assembly": lines become declarations, rules with their comments, and diagnostics.
-use Rattle.std.specs.Prelude.{ℕ, ◌+◌, ◌*◌, Bool, true, false, ◌&&◌, List, [], ◌∷◌, ◌++◌, map, eqb, leb, length}
-use Rattle.std.proofs.Math.Option.{Option, none, some}
+use Rattle.std.specs.Prelude.{ℕ, ◌+◌, ◌*◌, Bool, true, false, ◌&&◌, List, [], ◌∷◌, ◌++◌, map, flat_map, eqb, leb, length, Option, None, Some, unwrap_or, option_to_list, option_map, filter_map}
 use Rattle.lexer.specs.Text.{same}
 use Rattle.lexer.specs.Tokens.{Span}
-use Rattle.language.specs.Machine.{Located, Kind, Dir, Action, Rule}
+use Rattle.machine.specs.declared.Kind.{Kind}
+use Rattle.language.specs.Machine.{Located, Dir, Action, Rule}
 use Rattle.language.specs.Lines.{RawSymbol, raw_blank, glyph, RawDecoder, RawTransition, Text, Item, machine_item, input_item, kind_item, output_item, tapes_item, states_item, final_item, input_alphabet_item, tape_alphabet_item, blank_item, start_item, transition_item, Line, blank_line, comment_line, item_line, error_line}
 
 -- ---- declarations
 
--- an item in columns: what it declares, or the rule that it is
-pub record Parts (P : Type 0) : Type 0 where
-  pub machine : Option (Text P)
-  pub kind : Option Kind
-  pub input : Option (Text P)
-  pub output : Option RawDecoder
-  pub tapes : Option (Located P ℕ)
-  pub states : Option (List (Located P (List ℕ)))
-  pub sigma : Option (List (Located P RawSymbol))
-  pub gamma : Option (List (Located P RawSymbol))
-  pub blank : Option RawSymbol
-  pub start : Option (Located P (List ℕ))
-  pub finals : Option (List (Located P (List ℕ)))
-  pub rule : Option (RawTransition P)
-
--- the columns, in their order
-abbrev pub columns : {P : Type 0} → Option (Text P) → Option Kind → Option (Text P) → Option RawDecoder → Option (Located P ℕ) → Option (List (Located P (List ℕ)))
-    → Option (List (Located P RawSymbol)) → Option (List (Located P RawSymbol)) → Option RawSymbol → Option (Located P (List ℕ))
-    → Option (List (Located P (List ℕ))) → Option (RawTransition P) → Parts P
-columns m k i o t q s g b st f r = record { machine = m; kind = k; input = i; output = o; tapes = t; states = q; sigma = s; gamma = g; blank = b; start = st; finals = f; rule = r }
-
--- each item fills one column
-unfoldable pub parts : {P : Type 0} → Item P → Parts P
-parts (machine_item x) = columns (some x) none none none none none none none none none none none
-parts (kind_item x) = columns none (some x) none none none none none none none none none none
-parts (input_item x) = columns none none (some x) none none none none none none none none none
-parts (output_item x) = columns none none none (some x) none none none none none none none none
-parts (tapes_item x) = columns none none none none (some x) none none none none none none none
-parts (states_item x) = columns none none none none none (some x) none none none none none none
-parts (input_alphabet_item x) = columns none none none none none none (some x) none none none none none
-parts (tape_alphabet_item x) = columns none none none none none none none (some x) none none none none
-parts (blank_item x) = columns none none none none none none none none (some x) none none none
-parts (start_item x) = columns none none none none none none none none none (some x) none none
-parts (final_item x) = columns none none none none none none none none none none (some x) none
-parts (transition_item x) = columns none none none none none none none none none none none (some x)
-
 -- the items of a list of lines, each with its line's place
 unfoldable pub items : {P : Type 0} → List (Line P) → List (Located P (Item P))
-items [] = []
-items (blank_line ∷ ls) = items ls
-items (comment_line c ∷ ls) = items ls
-items (error_line n p ∷ ls) = items ls
-items (item_line i p c ∷ ls) = record { value = i; place = p } ∷ items ls
+items ls = filter_map (λ l. elim l [ item_line i p c ↦ Some (record { value = i; place = p }) | _ ↦ None ]) ls
 
--- the first item that has a part, with its line's place: a later declaration of the same name is ignored
-unfoldable pub first : {P A : Type 0} → (Parts P → Option A) → List (Located P (Item P)) → Option (Located P A)
-unfolding parts
-first part [] = none
-first part (i ∷ is) = elim (part (parts i.value)) [ some a ↦ some (record { value = a; place = i.place }) | none ↦ first part is ]
+-- what `part` finds in the first item where it finds anything, with the line's place: a later declaration of a name is ignored
+unfoldable pub first : {P A : Type 0} → (Item P → Option A) → List (Located P (Item P)) → Option (Located P A)
+first part [] = None
+first part (i ∷ is) = elim (part i.value) [ Some a ↦ Some (record { value = a; place = i.place }) | None ↦ first part is ]
 
 -- the value that was found
 unfoldable pub found : {P A : Type 0} → Option (Located P A) → Option A
-found none = none
-found (some l) = some l.value
-
--- what is there, or a where nothing is
-unfoldable pub or_else : {A : Type 0} → Option A → A → A
-or_else none a = a
-or_else (some b) a = b
+found o = option_map (λ l. l.value) o
 
 -- a symbol as written stands for a character once the blank is known
 unfoldable pub resolve : ℕ → RawSymbol → ℕ
@@ -75,18 +28,18 @@ resolve b (glyph c) = c
 
 -- the blank: U+2423 unless declared; `blank = _` gives U+2423
 unfoldable pub blank_of : {P : Type 0} → List (Located P (Item P)) → ℕ
-unfolding first found or_else resolve
-blank_of is = resolve 0x2423 (or_else (found (first (λ p. p.blank) is)) raw_blank)
+unfolding first found resolve
+blank_of is = resolve 0x2423 (unwrap_or (found (first (λ i. elim i [ blank_item b ↦ Some b | _ ↦ None ]) is)) raw_blank)
 
 -- the names that Q declares
 unfoldable pub states_in : {P : Type 0} → List (Located P (Item P)) → Option (List (Located P (List ℕ)))
 unfolding first found
-states_in is = found (first (λ p. p.states) is)
+states_in is = found (first (λ i. elim i [ states_item q ↦ Some q | _ ↦ None ]) is)
 
--- those that F lists
+-- the names that F lists
 unfoldable pub finals_in : {P : Type 0} → List (Located P (Item P)) → List (Located P (List ℕ))
-unfolding first found or_else
-finals_in is = or_else (found (first (λ p. p.finals) is)) []
+unfolding first found
+finals_in is = unwrap_or (found (first (λ i. elim i [ final_item q ↦ Some q | _ ↦ None ]) is)) []
 
 -- ---- rules and comments
 
@@ -102,11 +55,6 @@ pub record Body (P : Type 0) : Type 0 where
   pub header : List (Located P (List ℕ))
   pub rules : List (RuleLine P)
   pub trailing : List (Located P (List ℕ))
-
--- what is there, as a list
-unfoldable pub of_option : {A : Type 0} → Option A → List A
-of_option none = []
-of_option (some a) = a ∷ []
 
 -- header comments before the rest
 unfoldable pub add_header : {P : Type 0} → List (Located P (List ℕ)) → Body P → Body P
@@ -126,25 +74,26 @@ unfoldable pub leads : {A : Type 0} → Bool → List A → List A → List A
 leads true old block = old ++ block
 leads false old block = block
 
--- and the rest are header
+-- the pending comments that do not lead the rule: they are header
 unfoldable pub unled : {A : Type 0} → Bool → List A → List A
 unled true old = []
 unled false old = old
 
 -- an item's comments, before the rest of the text
 unfoldable pub attach_item : {P : Type 0} → Option (RawTransition P) → Bool → List (Located P (List ℕ)) → List (Located P (List ℕ)) → P → Option (Located P (List ℕ)) → Body P → Body P
-unfolding add_header add_rule of_option leads unled
-attach_item none seen old block p c b = add_header (old ++ block ++ of_option c) b
-attach_item (some r) seen old block p c b = add_header (unled seen old) (add_rule (record { raw = r; line = p; comment = c; leading = leads seen old block }) b)
+unfolding add_header add_rule leads unled
+attach_item None seen old block p c b = add_header (old ++ block ++ option_to_list c) b
+attach_item (Some r) seen old block p c b = add_header (unled seen old) (add_rule (record { raw = r; line = p; comment = c; leading = leads seen old block }) b)
 
 -- seen: an item or failed line came earlier; old: pending comments of blocks that have ended; block: those of the block that goes on
 unfoldable pub attach : {P : Type 0} → Bool → List (Located P (List ℕ)) → List (Located P (List ℕ)) → List (Line P) → Body P
-unfolding at_end parts attach_item
+unfolding at_end attach_item
 attach seen old block [] = at_end seen (old ++ block)
 attach seen old block (blank_line ∷ ls) = attach seen (old ++ block) [] ls
 attach seen old block (comment_line c ∷ ls) = attach seen old (block ++ c ∷ []) ls
 attach seen old block (error_line n p ∷ ls) = attach true [] [] ls
-attach seen old block (item_line i p c ∷ ls) = attach_item (parts i).rule seen old block p c (attach true [] [] ls)
+attach seen old block (item_line i p c ∷ ls) =
+    attach_item (elim i [ transition_item r ↦ Some r | _ ↦ None ]) seen old block p c (attach true [] [] ls)
 
 -- the rules and comments of a list of lines
 unfoldable pub body_of : {P : Type 0} → List (Line P) → Body P
@@ -180,7 +129,7 @@ unfoldable pub each_front : {A : Type 0} → List A → List (List A) → List (
 each_front [] ls = []
 each_front (a ∷ r) ls = map (λ l. a ∷ l) ls ++ each_front r ls
 
--- and from all lists
+-- every choice of one entry from each of all lists
 unfoldable pub choices : {A : Type 0} → List (List A) → List (List A)
 unfolding each_front
 choices [] = [] ∷ []
@@ -189,20 +138,17 @@ choices (s ∷ ss) = each_front s (choices ss)
 -- what is written where r is read: `*` writes it back
 unfoldable pub written : ℕ → RawSymbol → Option RawSymbol → ℕ
 unfolding resolve
-written b r none = resolve b r
-written b r (some w) = resolve b w
+written b r w = resolve b (unwrap_or w r)
 
 -- the actions of a choice of symbols read
 unfoldable pub actions : {P : Type 0} → ℕ → List (Located P RawSymbol) → List (Located P (Option RawSymbol)) → List (Located P Dir) → List (Action P)
 unfolding resolve written
-actions b [] ws ds = []
-actions b (r ∷ rs) [] ds = []
-actions b (r ∷ rs) (w ∷ ws) [] = []
 actions b (r ∷ rs) (w ∷ ws) (d ∷ ds) = record {
   read = record { value = resolve b r.value; place = r.place };
   write = record { value = written b r.value w.value; place = w.place };
   dir = d.value;
 } ∷ actions b rs ws ds
+actions b _ _ _ = []
 
 -- the rule of a choice
 unfoldable pub rule_of : {P : Type 0} → ℕ → RuleLine P → Option (Located P (List ℕ)) → List (Located P (List ℕ)) → List (Located P RawSymbol) → Rule P
@@ -213,7 +159,7 @@ rule_of b l c cs rs = record { from = l.raw.from; to = l.raw.to; line = l.line; 
 unfoldable pub dressed : {P : Type 0} → ℕ → RuleLine P → List (List (Located P RawSymbol)) → List (Rule P)
 unfolding rule_of
 dressed b l [] = []
-dressed b l (rs ∷ more) = rule_of b l l.comment l.leading rs ∷ map (rule_of b l none []) more
+dressed b l (rs ∷ more) = rule_of b l l.comment l.leading rs ∷ map (rule_of b l None []) more
 
 -- the rules that a line stands for
 unfoldable pub expand : {P : Type 0} → ℕ → RuleLine P → List (Rule P)
@@ -223,8 +169,7 @@ expand b l = dressed b l (choices l.raw.read)
 -- the rules of a list of lines
 unfoldable pub expand_all : {P : Type 0} → ℕ → List (RuleLine P) → List (Rule P)
 unfolding expand
-expand_all b [] = []
-expand_all b (l ∷ ls) = expand b l ++ expand_all b ls
+expand_all b ls = flat_map (expand b) ls
 
 -- ---- diagnostics
 
@@ -240,56 +185,55 @@ diagnostic n p q = record { code = n; place = p; related = q }
 
 -- the failed lines
 unfoldable pub line_errors : {P : Type 0} → List (Line P) → List (Diagnostic P)
-line_errors [] = []
-line_errors (blank_line ∷ ls) = line_errors ls
-line_errors (comment_line c ∷ ls) = line_errors ls
-line_errors (item_line i p c ∷ ls) = line_errors ls
-line_errors (error_line n p ∷ ls) = diagnostic n p none ∷ line_errors ls
+line_errors ls = filter_map (λ l. elim l [ error_line n p ↦ Some (diagnostic n p None) | _ ↦ None ]) ls
 
 -- the number of the name that an item declares
 unfoldable pub declaration : {P : Type 0} → Item P → Option ℕ
-declaration (machine_item x) = some 0
-declaration (kind_item x) = some 1
-declaration (input_item x) = some 2
-declaration (output_item x) = some 3
-declaration (tapes_item x) = some 4
-declaration (states_item x) = some 5
-declaration (input_alphabet_item x) = some 6
-declaration (tape_alphabet_item x) = some 7
-declaration (blank_item x) = some 8
-declaration (start_item x) = some 9
-declaration (final_item x) = some 10
-declaration (transition_item x) = none
+declaration (machine_item x) = Some 0
+declaration (kind_item x) = Some 1
+declaration (input_item x) = Some 2
+declaration (output_item x) = Some 3
+declaration (tapes_item x) = Some 4
+declaration (states_item x) = Some 5
+declaration (input_alphabet_item x) = Some 6
+declaration (tape_alphabet_item x) = Some 7
+declaration (blank_item x) = Some 8
+declaration (start_item x) = Some 9
+declaration (final_item x) = Some 10
+declaration (transition_item x) = None
 
 -- the name n is declared
 abbrev pub is_number : ℕ → Option ℕ → Bool
-is_number n none = false
-is_number n (some m) = eqb m n
+is_number n None = false
+is_number n (Some m) = eqb m n
 
 -- the place of the first declaration of the name n
 unfoldable pub declared_at : {P : Type 0} → ℕ → List (Located P (Item P)) → Option P
 unfolding declaration
-declared_at n [] = none
-declared_at n (i ∷ is) = elim (is_number n (declaration i.value)) [ true ↦ some i.place | false ↦ declared_at n is ]
+declared_at n [] = None
+declared_at n (i ∷ is) = elim (is_number n (declaration i.value)) [ true ↦ Some i.place | false ↦ declared_at n is ]
 
 -- the place of the first declaration of an item's name
 unfoldable pub earlier : {P : Type 0} → Option ℕ → List (Located P (Item P)) → Option P
 unfolding declared_at
-earlier none before = none
-earlier (some n) before = declared_at n before
+earlier None before = None
+earlier (Some n) before = declared_at n before
 
 -- tapes above 255: E009 at the value
 unfoldable pub tapes_error : {P : Type 0} → Option (Located P ℕ) → List (Diagnostic P)
-tapes_error none = []
-tapes_error (some n) = elim (leb n.value 255) [ true ↦ [] | false ↦ diagnostic 9 n.place none ∷ [] ]
+tapes_error None = []
+tapes_error (Some n) = elim (leb n.value 255) [ true ↦ [] | false ↦ diagnostic 9 n.place None ∷ [] ]
 
 -- a second declaration: E011, related to the first, and nothing else is looked at
 unfoldable pub declaration_error : {P : Type 0} → List (Located P (Item P)) → Located P (Item P) → List (Diagnostic P)
-unfolding parts declaration earlier tapes_error
+unfolding declaration earlier tapes_error
 declaration_error before i =
-    elim (earlier (declaration i.value) before) [ some p ↦ diagnostic 11 i.place (some p) ∷ [] | none ↦ tapes_error (parts i.value).tapes ]
+    elim (earlier (declaration i.value) before) [
+      | Some p ↦ diagnostic 11 i.place (Some p) ∷ []
+      | None ↦ tapes_error (elim i.value [ tapes_item n ↦ Some n | _ ↦ None ])
+    ]
 
--- those of all declarations; `before` are those that came earlier
+-- the diagnostics of all declarations; `before` are those that came earlier
 unfoldable pub declaration_errors : {P : Type 0} → List (Located P (Item P)) → List (Located P (Item P)) → List (Diagnostic P)
 unfolding declaration_error
 declaration_errors before [] = []
@@ -297,21 +241,21 @@ declaration_errors before (i ∷ is) = declaration_error before i ++ declaration
 
 -- the place of the first entry of a name
 unfoldable pub listed_at : {P : Type 0} → List ℕ → List (Located P (List ℕ)) → Option P
-listed_at w [] = none
-listed_at w (l ∷ ls) = elim (same l.value w) [ true ↦ some l.place | false ↦ listed_at w ls ]
+listed_at w [] = None
+listed_at w (l ∷ ls) = elim (same l.value w) [ true ↦ Some l.place | false ↦ listed_at w ls ]
 
 -- a name absent from a declared Q: E003
 unfoldable pub unknown_error : {P : Type 0} → Option (List (Located P (List ℕ))) → Located P (List ℕ) → List (Diagnostic P)
 unfolding listed_at
-unknown_error none f = []
-unknown_error (some q) f = elim (listed_at f.value q) [ some p ↦ [] | none ↦ diagnostic 3 f.place none ∷ [] ]
+unknown_error None f = []
+unknown_error (Some q) f = elim (listed_at f.value q) [ Some p ↦ [] | None ↦ diagnostic 3 f.place None ∷ [] ]
 
 -- F: a repeat is E011, related to its first listing
 unfoldable pub final_error : {P : Type 0} → Option (List (Located P (List ℕ))) → List (Located P (List ℕ)) → Located P (List ℕ) → List (Diagnostic P)
 unfolding listed_at unknown_error
-final_error q before f = elim (listed_at f.value before) [ some p ↦ diagnostic 11 f.place (some p) ∷ [] | none ↦ unknown_error q f ]
+final_error q before f = elim (listed_at f.value before) [ Some p ↦ diagnostic 11 f.place (Some p) ∷ [] | None ↦ unknown_error q f ]
 
--- those of all that F lists; `before` are those listed earlier
+-- the diagnostics of all that F lists; `before` are those listed earlier
 unfoldable pub final_errors : {P : Type 0} → Option (List (Located P (List ℕ))) → List (Located P (List ℕ)) → List (Located P (List ℕ)) → List (Diagnostic P)
 unfolding final_error
 final_errors q before [] = []
@@ -323,8 +267,8 @@ unfolding verdict combinations
 rule_errors n cut [] = []
 rule_errors n cut (r ∷ rs) = elim (verdict n r.raw) [
   | expands ↦ rule_errors (n + combinations r.raw.read) cut rs
-  | wrong_arity ↦ diagnostic 10 r.line none ∷ rule_errors n cut rs
-  | too_many ↦ elim cut [ true ↦ rule_errors n true rs | false ↦ diagnostic 9 r.line none ∷ rule_errors n true rs ]
+  | wrong_arity ↦ diagnostic 10 r.line None ∷ rule_errors n cut rs
+  | too_many ↦ elim cut [ true ↦ rule_errors n true rs | false ↦ diagnostic 9 r.line None ∷ rule_errors n true rs ]
 ]
 
 -- all diagnostics in the order in which they are found

@@ -1,7 +1,9 @@
 -- What two machines that agree have in common (paper 01, "Plain form"): everything but places.
-use Rattle.std.specs.Prelude.{ℕ, Bool, List, [], map}
-use Rattle.std.proofs.Math.Option.{Option, none, some}
-use Rattle.language.specs.Machine.{Located, Kind, Decoder, Dir, Rule, Declared, Machine}
+use Rattle.std.specs.Prelude.{ℕ, Bool, List, [], map, Option, option_map, unwrap_or}
+use Rattle.machine.specs.declared.Kind.{Kind}
+use Rattle.machine.specs.declared.Decoder.{Decoder}
+use Rattle.machine.specs.declared.Declared.{Declared}
+use Rattle.language.specs.Machine.{Located, Dir, Rule, Machine}
 
 -- a state's name, and whether it is final
 pub record StateContent : Type 0 where
@@ -41,13 +43,11 @@ pub record Content : Type 0 where
 
 -- the value of a located list, empty where there is none
 unfoldable pub value_or : {P : Type 0} → Option (Located P (List ℕ)) → List ℕ
-value_or none = []
-value_or (some l) = l.value
+value_or o = unwrap_or (option_map (λ l. l.value) o) []
 
 -- an optional value without its place
 unfoldable pub optional : {P : Type 0} → Option (Located P (List ℕ)) → Option (List ℕ)
-optional none = none
-optional (some l) = some l.value
+optional o = option_map (λ l. l.value) o
 
 -- the values of a list
 unfoldable pub values : {P A : Type 0} → List (Located P A) → List A

@@ -1,8 +1,16 @@
 -- Paper 01, "The records": a machine as a head and a sheet of words, diagnostics as the words of a log.
-use Rattle.std.specs.Prelude.{ℕ, ◌+◌, ◌*◌, Bool, true, false, List, [], ◌∷◌, ◌++◌, length}
-use Rattle.std.proofs.Math.Option.{Option, none, some}
+use Rattle.std.specs.Prelude.{ℕ, ◌+◌, ◌*◌, Bool, true, false, List, [], ◌∷◌, ◌++◌, map, length, Option, None, Some, unwrap_or, option_map}
+use Rattle.diag.specs.declared.Diagnostic as Record
+use Rattle.diag.specs.Records as Records
 use Rattle.lexer.specs.Tokens.{Span, span}
-use Rattle.language.specs.Machine.{Located, Kind, acceptor, transducer, enumerator, beaver, lsb, msb, Decoder, as_word, as_unary, as_binary, Dir, left, right, stay, State, Action, Rule, Symbol, Declared, Machine}
+use Rattle.machine.specs.Numbers.{kind_number}
+use Rattle.machine.specs.declared.BitOrder.TheVariants.{Lsb, Msb}
+use Rattle.machine.specs.declared.Decoder.{Decoder}
+use Rattle.machine.specs.declared.Decoder.TheVariants.{Word, Unary, Binary}
+use Rattle.machine.specs.declared.Declared.{Declared}
+use Rattle.machine.specs.declared.Counts.{Counts}
+use Rattle.machine.specs.declared.Head.{Head}
+use Rattle.language.specs.Machine.{Located, Dir, left, right, stay, State, Action, Rule, Symbol, Machine}
 use Rattle.language.specs.Assembly.{RuleLine, combinations, Diagnostic}
 
 -- ---- places
@@ -13,13 +21,11 @@ no_place = span 4294967295 4294967295
 
 -- a place, or that there is none
 unfoldable pub or_none : Option Span → Span
-or_none none = no_place
-or_none (some p) = p
+or_none o = unwrap_or o no_place
 
 -- the place of a value, if there is one
 unfoldable pub place_or_none : {A : Type 0} → Option (Located Span A) → Span
-place_or_none none = no_place
-place_or_none (some l) = l.place
+place_or_none o = unwrap_or (option_map (λ l. l.place) o) no_place
 
 -- a place in two words
 abbrev pub place_words : Span → List ℕ
@@ -36,34 +42,7 @@ located_words l = place_words l.place
 
 -- ---- the head
 
--- how many members each section of the sheet has
-pub record Counts : Type 0 where
-  pub states : ℕ
-  pub sigma : ℕ
-  pub gamma : ℕ
-  pub finals : ℕ
-  pub header : ℕ
-  pub trailing : ℕ
-  pub rules : ℕ
-
 -- the head of a machine; name and input are places between their quotes
-pub record Head : Type 0 where
-  pub name : Span
-  pub input : Span
-  pub kind : Kind
-  pub output : Decoder
-  pub tapes : ℕ
-  pub blank : ℕ
-  pub declared : Declared
-  pub start : Span
-  pub kind_place : Span
-  pub input_place : Span
-  pub tapes_place : Span
-  pub start_place : Span
-  pub states_place : Span
-  pub counts : Counts
-
--- the head of a machine
 unfoldable pub head_of : Machine Span → Head
 unfolding or_none place_or_none
 head_of m = record {
@@ -75,11 +54,13 @@ head_of m = record {
   blank = m.blank;
   declared = m.declared;
   start = place_or_none m.start;
-  kind_place = or_none m.map.kind;
-  input_place = or_none m.map.input;
-  tapes_place = or_none m.map.tapes;
-  start_place = or_none m.map.start;
-  states_place = or_none m.map.states;
+  map = record {
+    kind = or_none m.map.kind;
+    input = or_none m.map.input;
+    tapes = or_none m.map.tapes;
+    start = or_none m.map.start;
+    states = or_none m.map.states;
+  };
   counts = record {
     states = length m.states;
     sigma = length m.sigma;
@@ -96,19 +77,12 @@ abbrev pub flag : Bool → ℕ
 flag true = 1
 flag false = 0
 
--- the number of a kind
-abbrev pub kind_number : Kind → ℕ
-kind_number acceptor = 0
-kind_number transducer = 1
-kind_number enumerator = 2
-kind_number beaver = 3
-
 -- a decoder in two words
 abbrev pub decoder_words : Decoder → List ℕ
-decoder_words as_word = 0 ∷ 0 ∷ []
-decoder_words (as_unary c) = 1 ∷ c ∷ []
-decoder_words (as_binary lsb) = 2 ∷ 0 ∷ []
-decoder_words (as_binary msb) = 2 ∷ 1 ∷ []
+decoder_words Word = 0 ∷ 0 ∷ []
+decoder_words (Unary c) = 1 ∷ c ∷ []
+decoder_words (Binary Lsb) = 2 ∷ 0 ∷ []
+decoder_words (Binary Msb) = 2 ∷ 1 ∷ []
 
 -- the five flags
 abbrev pub declared_words : Declared → List ℕ
@@ -122,8 +96,8 @@ count_words n = n.states ∷ n.sigma ∷ n.gamma ∷ n.finals ∷ n.header ∷ n
 unfoldable pub head_words : Head → List ℕ
 head_words h =
     decoder_words h.output ++ place_words h.name ++ place_words h.input ++ kind_number h.kind ∷ h.tapes ∷ h.blank ∷ []
-    ++ declared_words h.declared ++ place_words h.start ++ place_words h.kind_place ++ place_words h.input_place ++ place_words h.tapes_place
-    ++ place_words h.start_place ++ place_words h.states_place ++ count_words h.counts
+    ++ declared_words h.declared ++ place_words h.start ++ place_words h.map.kind ++ place_words h.map.input ++ place_words h.map.tapes
+    ++ place_words h.map.start ++ place_words h.map.states ++ count_words h.counts
 
 -- ---- the sheet
 
@@ -133,7 +107,7 @@ state_words s = place_words s.name.place ++ flag s.final ∷ []
 
 -- a symbol: its code and its place, 0 0 if it is inferred
 unfoldable pub symbol_words : Symbol Span → List ℕ
-symbol_words s = s.code ∷ elim s.declared_at [ some p ↦ place_words p | none ↦ 0 ∷ 0 ∷ [] ]
+symbol_words s = s.code ∷ elim s.declared_at [ Some p ↦ place_words p | None ↦ 0 ∷ 0 ∷ [] ]
 
 -- the number of a direction
 abbrev pub dir_number : Dir → ℕ
@@ -184,12 +158,12 @@ sheet_length m rules =
 
 -- ---- the log
 
--- a diagnostic in five words: code, place, related place or none
-unfoldable pub diagnostic_words : Diagnostic Span → List ℕ
+-- the record of a diagnostic
+unfoldable pub record_of : Diagnostic Span → Record.Diagnostic
 unfolding or_none
-diagnostic_words d = d.code ∷ place_words d.place ++ place_words (or_none d.related)
+record_of d = record { code = d.code; span = d.place; related = or_none d.related }
 
 -- the words of a list of diagnostics
 unfoldable pub log_words : List (Diagnostic Span) → List ℕ
-unfolding flat diagnostic_words
-log_words ds = flat diagnostic_words ds
+unfolding record_of Records.flat
+log_words ds = Records.flat (map record_of ds)

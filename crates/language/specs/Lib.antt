@@ -9,3 +9,4 @@ pub mod Layout
 pub mod Outcome
 pub mod Agreement
 pub mod Claim
+pub mod StateName

@@ -1,11 +1,14 @@
 -- Paper 01, "parser.rs, lines": the tokens of a line become an item, or a diagnostic.
-use Rattle.std.specs.Prelude.{ℕ, min, Bool, true, false, ◌||◌, not, eqb}
+use Rattle.std.specs.Prelude.{ℕ, min, Bool, true, false, ◌||◌, not, eqb, Option, None, Some}
 use mathlib.Core.List.{List, [], ◌∷◌, map}
-use Rattle.std.proofs.Math.Option.{Option, none, some}
 use Rattle.lexer.specs.Text.{codes, same}
 use Rattle.lexer.specs.Words.{value}
 use Rattle.lexer.specs.Tokens.{TokenKind, word, number, quoted, str, sign, comment, newline, unterminated_string, unterminated_quote, Token, Span, span, tokens}
-use Rattle.language.specs.Machine.{Located, Kind, acceptor, transducer, enumerator, beaver, BitOrder, lsb, msb, Dir, left, right, stay}
+use Rattle.machine.specs.declared.Kind.{Kind}
+use Rattle.machine.specs.declared.Kind.TheVariants.{Acceptor, Transducer, Enumerator, Beaver}
+use Rattle.machine.specs.declared.BitOrder.{BitOrder}
+use Rattle.machine.specs.declared.BitOrder.TheVariants.{Lsb, Msb}
+use Rattle.language.specs.Machine.{Located, Dir, left, right, stay}
 use Rattle.language.specs.Parser.{Result, ok, fail, Parser, ◌>>=◌, give, when, unexpected, is_sign, one, expect, opened, entries, single, tuple, set}
 
 -- ---- what a line says
@@ -57,20 +60,12 @@ pub data Line (P : Type 0) : Type 0 where
 -- a state's name: a word but `_`
 unfoldable pub state_in : TokenKind → Option (List ℕ)
 state_in (word w) = when (not (same w (codes "_"))) w
-state_in (number w) = none
-state_in (quoted c) = none
-state_in (str s) = none
-state_in (sign c) = none
-state_in (comment s) = none
-state_in newline = none
-state_in unterminated_string = none
-state_in unterminated_quote = none
+state_in _ = None
 
 -- a word or number of one character
 unfoldable pub one_character : {A : Type 0} → (ℕ → A) → List ℕ → Option A
-one_character f [] = none
-one_character f (c ∷ []) = some (f c)
-one_character f (c ∷ d ∷ r) = none
+one_character f (c ∷ []) = Some (f c)
+one_character f _ = None
 
 -- a bare character: c stands for the blank, all others for themselves
 unfoldable pub bare : ℕ → ℕ → RawSymbol
@@ -85,37 +80,25 @@ unfoldable pub symbol_in : TokenKind → Option RawSymbol
 unfolding one_character bare bracket
 symbol_in (word w) = one_character (bare 0x5F) w
 symbol_in (number w) = one_character glyph w
-symbol_in (quoted c) = some (glyph c)
+symbol_in (quoted c) = Some (glyph c)
 symbol_in (sign c) = when (not (bracket c || eqb c 0x2A || eqb c 0x3B)) (bare 0x2423 c)
-symbol_in (str s) = none
-symbol_in (comment s) = none
-symbol_in newline = none
-symbol_in unterminated_string = none
-symbol_in unterminated_quote = none
+symbol_in _ = None
 
 -- what is written: bare `*` for the symbol read (none), or a symbol
 unfoldable pub write_in : TokenKind → Option (Option RawSymbol)
 unfolding is_sign symbol_in
-write_in k = elim (is_sign 0x2A k) [ some b ↦ some none | none ↦ elim (symbol_in k) [ some s ↦ some (some s) | none ↦ none ] ]
+write_in k = elim (is_sign 0x2A k) [ Some b ↦ Some None | None ↦ elim (symbol_in k) [ Some s ↦ Some (Some s) | None ↦ None ] ]
 
 -- L, R or N
 unfoldable pub from_char : ℕ → Option Dir
-from_char c = elim (eqb c 0x4C) [ true ↦ some left | false ↦ elim (eqb c 0x52) [ true ↦ some right | false ↦ when (eqb c 0x4E) stay ] ]
+from_char c = elim (eqb c 0x4C) [ true ↦ Some left | false ↦ elim (eqb c 0x52) [ true ↦ Some right | false ↦ when (eqb c 0x4E) stay ] ]
 
 -- a direction: a word or quoted character that is L, R or N
 unfoldable pub direction_in : TokenKind → Option Dir
 unfolding from_char
-direction_in (word []) = none
 direction_in (word (c ∷ [])) = from_char c
-direction_in (word (c ∷ d ∷ w)) = none
 direction_in (quoted c) = from_char c
-direction_in (number w) = none
-direction_in (str s) = none
-direction_in (sign c) = none
-direction_in (comment s) = none
-direction_in newline = none
-direction_in unterminated_string = none
-direction_in unterminated_quote = none
+direction_in _ = None
 
 -- the code where a direction is due: E008 for a word, number, quoted character, `*` or other sign
 unfoldable pub not_direction : TokenKind → ℕ
@@ -125,98 +108,65 @@ not_direction (number w) = 8
 not_direction (quoted c) = 8
 not_direction (sign c) = elim (bracket c) [ true ↦ 1 | false ↦ 8 ]
 not_direction unterminated_string = 2
-not_direction (str s) = 1
-not_direction (comment s) = 1
-not_direction newline = 1
-not_direction unterminated_quote = 1
+not_direction _ = 1
 
 -- a string's value
 unfoldable pub string_in : TokenKind → Option (List ℕ)
-string_in (str s) = some s
-string_in (word w) = none
-string_in (number w) = none
-string_in (quoted c) = none
-string_in (sign c) = none
-string_in (comment s) = none
-string_in newline = none
-string_in unterminated_string = none
-string_in unterminated_quote = none
+string_in (str s) = Some s
+string_in _ = None
 
 -- a number's value; digits above 64 bits count as 18446744073709551615
 unfoldable pub number_in : TokenKind → Option ℕ
 unfolding value
-number_in (number w) = some (min (value w) 18446744073709551615)
-number_in (word w) = none
-number_in (quoted c) = none
-number_in (str s) = none
-number_in (sign c) = none
-number_in (comment s) = none
-number_in newline = none
-number_in unterminated_string = none
-number_in unterminated_quote = none
+number_in (number w) = Some (min (value w) 18446744073709551615)
+number_in _ = None
 
--- a word and what it means
-pub record Spelled (A : Type 0) : Type 0 where
-  pub spelling : List ℕ
-  pub meaning : A
-
--- a row of a table
-abbrev pub means : {A : Type 0} → List ℕ → A → Spelled A
-means w a = record { spelling = w; meaning = a }
-
--- what a table says that a word means
-unfoldable pub meaning_of : {A : Type 0} → List (Spelled A) → List ℕ → Option A
-meaning_of [] w = none
-meaning_of (x ∷ l) w = elim (same x.spelling w) [ true ↦ some x.meaning | false ↦ meaning_of l w ]
+-- what a table of words, each with its meaning, says that a word means
+unfoldable pub meaning_of : {A : Type 0} → List (List ℕ × A) → List ℕ → Option A
+meaning_of [] w = None
+meaning_of (x ∷ l) w = elim (same x.0 w) [ true ↦ Some x.1 | false ↦ meaning_of l w ]
 
 -- a word of a table
-unfoldable pub word_in : {A : Type 0} → List (Spelled A) → TokenKind → Option A
+unfoldable pub word_in : {A : Type 0} → List (List ℕ × A) → TokenKind → Option A
 unfolding meaning_of
 word_in l (word w) = meaning_of l w
-word_in l (number w) = none
-word_in l (quoted c) = none
-word_in l (str s) = none
-word_in l (sign c) = none
-word_in l (comment s) = none
-word_in l newline = none
-word_in l unterminated_string = none
-word_in l unterminated_quote = none
+word_in l _ = None
 
 -- what a line begins with: a declaration's name, or a rule's δ
 pub data Keyword : Type 0 where
   machine_word kind_word input_word output_word tapes_word states_word sigma_word gamma_word blank_word start_word final_word delta_word : Keyword
 
 -- the words that a line begins with, in both spellings
-abbrev pub keywords : List (Spelled Keyword)
+abbrev pub keywords : List (List ℕ × Keyword)
 keywords =
-    means (codes "machine") machine_word ∷ means (codes "kind") kind_word ∷ means (codes "input") input_word ∷ means (codes "output") output_word ∷
-    means (codes "tapes") tapes_word ∷ means (codes "Q") states_word ∷ means (codes "Σ") sigma_word ∷ means (codes "Sigma") sigma_word ∷
-    means (codes "Γ") gamma_word ∷ means (codes "Gamma") gamma_word ∷ means (codes "blank") blank_word ∷ means (codes "start") start_word ∷
-    means (codes "F") final_word ∷ means (codes "δ") delta_word ∷ means (codes "delta") delta_word ∷ []
+    (codes "machine", machine_word) ∷ (codes "kind", kind_word) ∷ (codes "input", input_word) ∷ (codes "output", output_word) ∷
+    (codes "tapes", tapes_word) ∷ (codes "Q", states_word) ∷ (codes "Σ", sigma_word) ∷ (codes "Sigma", sigma_word) ∷
+    (codes "Γ", gamma_word) ∷ (codes "Gamma", gamma_word) ∷ (codes "blank", blank_word) ∷ (codes "start", start_word) ∷
+    (codes "F", final_word) ∷ (codes "δ", delta_word) ∷ (codes "delta", delta_word) ∷ []
 
 -- the kinds of machine
-abbrev pub kinds : List (Spelled Kind)
-kinds = means (codes "acceptor") acceptor ∷ means (codes "transducer") transducer ∷ means (codes "enumerator") enumerator ∷ means (codes "beaver") beaver ∷ []
+abbrev pub kinds : List (List ℕ × Kind)
+kinds = (codes "acceptor", Acceptor) ∷ (codes "transducer", Transducer) ∷ (codes "enumerator", Enumerator) ∷ (codes "beaver", Beaver) ∷ []
 
 -- how an output declaration begins
 pub data OutputWord : Type 0 where
   word_output unary_output binary_output : OutputWord
 
 -- the outputs
-abbrev pub outputs : List (Spelled OutputWord)
-outputs = means (codes "word") word_output ∷ means (codes "unary") unary_output ∷ means (codes "binary") binary_output ∷ []
+abbrev pub outputs : List (List ℕ × OutputWord)
+outputs = (codes "word", word_output) ∷ (codes "unary", unary_output) ∷ (codes "binary", binary_output) ∷ []
 
 -- the orders of bits
-abbrev pub orders : List (Spelled BitOrder)
-orders = means (codes "lsb") lsb ∷ means (codes "msb") msb ∷ []
+abbrev pub orders : List (List ℕ × BitOrder)
+orders = (codes "lsb", Lsb) ∷ (codes "msb", Msb) ∷ []
 
 -- ---- items
 
 -- the token t taken for a string, or refused
 unfoldable pub string_taken : {P : Type 0} → Option (List ℕ) → Token P → Parser P (Text P)
 unfolding unexpected
-string_taken (some s) t ts = ok (record { value = record { value = s; place = t.inner }; place = t.place }) ts
-string_taken none t ts = fail (unexpected t.kind) t.place
+string_taken (Some s) t ts = ok (record { value = record { value = s; place = t.inner }; place = t.place }) ts
+string_taken None t ts = fail (unexpected t.kind) t.place
 
 -- `stop` is the place of what ends the line's tokens: its comment or its line feed
 module _ {P : Type 0} (stop : P) where
@@ -232,7 +182,7 @@ module _ {P : Type 0} (stop : P) where
   numeral = one stop number_in unexpected
 
   -- a word of a table
-  unfoldable pub choice : {A : Type 0} → List (Spelled A) → Parser P (Located P A)
+  unfoldable pub choice : {A : Type 0} → List (List ℕ × A) → Parser P (Located P A)
   unfolding one word_in unexpected
   choice l = one stop (word_in l) unexpected
 
@@ -325,21 +275,15 @@ pub data Ending : Type 0 where
 unfoldable pub ending_of : TokenKind → Ending
 ending_of newline = line_feed
 ending_of (comment s) = remark s
-ending_of (word w) = goes_by
-ending_of (number w) = goes_by
-ending_of (quoted c) = goes_by
-ending_of (str s) = goes_by
-ending_of (sign c) = goes_by
-ending_of unterminated_string = goes_by
-ending_of unterminated_quote = goes_by
+ending_of _ = goes_by
 
 -- a token in front of rows: it joins the first of them, opens a new one, or is its comment, behind which no token stands
 unfoldable pub in_front : {P : Type 0} → Ending → Token P → List (Row P) → List (Row P)
-in_front line_feed t rs = record { body = []; stop = t.place; comment = none } ∷ rs
+in_front line_feed t rs = record { body = []; stop = t.place; comment = None } ∷ rs
 in_front goes_by t [] = []
 in_front goes_by t (r ∷ rs) = record { body = t ∷ r.body; stop = r.stop; comment = r.comment } ∷ rs
 in_front (remark s) t [] = []
-in_front (remark s) t (r ∷ rs) = record { body = []; stop = t.place; comment = some (record { value = s; place = t.inner }) } ∷ rs
+in_front (remark s) t (r ∷ rs) = record { body = []; stop = t.place; comment = Some (record { value = s; place = t.inner }) } ∷ rs
 
 -- the rows of a list of tokens
 unfoldable pub rows : {P : Type 0} → List (Token P) → List (Row P)
@@ -361,8 +305,8 @@ finished p c (fail n q) = error_line n q
 
 -- a row without tokens
 unfoldable pub empty_line : {P : Type 0} → Option (Located P (List ℕ)) → Line P
-empty_line none = blank_line
-empty_line (some c) = comment_line c
+empty_line None = blank_line
+empty_line (Some c) = comment_line c
 
 -- a row's line; `a ⋯ b` is the place from the start of a to the end of b
 module _ {P : Type 0} (◌⋯◌ : P → P → P) where

@@ -1,25 +1,13 @@
--- The machine that a description gives, each part with its place; P is the type of places.
-use Rattle.std.specs.Prelude.{ℕ, Bool, List}
-use Rattle.std.proofs.Math.Option.{Option}
+-- The machine that a description gives, each part with its place; P is the type of places. Its parts without a place have the code's own types.
+use Rattle.std.specs.Prelude.{ℕ, Bool, List, Option}
+use Rattle.machine.specs.declared.Kind.{Kind}
+use Rattle.machine.specs.declared.Decoder.{Decoder}
+use Rattle.machine.specs.declared.Declared.{Declared}
 
 -- a value with the place where it is written
 pub record Located (P A : Type 0) : Type 0 where
   pub value : A
   pub place : P
-
--- what a machine is used for
-pub data Kind : Type 0 where
-  acceptor transducer enumerator beaver : Kind
-
--- the order of bits of a binary output
-pub data BitOrder : Type 0 where
-  lsb msb : BitOrder
-
--- how the output is read: as a word, by counting a symbol, as a binary number
-pub data Decoder : Type 0 where
-  as_word : Decoder
-  as_unary : ℕ → Decoder
-  as_binary : BitOrder → Decoder
 
 -- a move of a head: L, R, N
 pub data Dir : Type 0 where
@@ -49,14 +37,6 @@ pub record Rule (P : Type 0) : Type 0 where
 pub record Symbol (P : Type 0) : Type 0 where
   pub code : ℕ
   pub declared_at : Option P
-
--- which parts were declared
-pub record Declared : Type 0 where
-  pub states : Bool
-  pub input_alphabet : Bool
-  pub tape_alphabet : Bool
-  pub start : Bool
-  pub blank : Bool
 
 -- the places of the source map: kind and Q the whole declaration, the others the value alone
 pub record SourceMap (P : Type 0) : Type 0 where

@@ -1,14 +1,15 @@
 -- Paper 01, "What a call returns": the whole outcome of a call, from what it was lent.
-use Rattle.std.specs.Prelude.{ℕ, ◌+◌, ◌-◌, ◌*◌, ◌/◌, ◌%◌, Bool, true, false, ◌&&◌, ◌||◌, List, [], ◌∷◌, ◌++◌, Some, None, leb, ltb, length, get_or, take, drop, replicate}
-use Rattle.std.proofs.Math.Option.{Option, none, some}
+use Rattle.std.specs.Prelude.{ℕ, ◌+◌, ◌-◌, ◌*◌, ◌/◌, ◌%◌, Bool, true, false, ◌||◌, List, [], ◌∷◌, ◌++◌, Some, None, eqb, nat_le, ltb, length, drop, replicate, Option}
 use Rattle.chars.specs.Utf8.{decode, encode, valid_up_to}
 use Rattle.chars.specs.Class.{first_outside}
 use Rattle.lexer.specs.Tokens.{Span}
+pub use Rattle.lexer.specs.Words.{max_bytes, work_needed}
+use Rattle.machine.specs.declared.Head.{Head}
 use Rattle.language.specs.Content.{content_of}
 use Rattle.language.specs.Lines.{Line, read_lines}
 use Rattle.language.specs.Assembly.{Diagnostic, diagnostics, body_of, kept}
 use Rattle.language.specs.Infer.{machine_of}
-use Rattle.language.specs.Layout.{Head, head_of, head_words, sheet_words, sheet_length, log_words}
+use Rattle.language.specs.Layout.{head_of, head_words, sheet_words, sheet_length, log_words}
 use Rattle.language.specs.Plain.{plain}
 
 -- ---- refusals
@@ -19,55 +20,39 @@ pub data Refusal : Type 0 where
   invalid_utf8 outside_set : ℕ → Refusal
   log_too_short sheet_too_short output_too_short : ℕ → Refusal
 
--- the number that is returned
+-- the number that is returned, and the value beside it: a place, a count, words or bytes needed
+abbrev pub refusal_numbers : Refusal → ℕ × ℕ
+refusal_numbers text_too_long = (1, 0)
+refusal_numbers work_too_short = (2, 0)
+refusal_numbers (invalid_utf8 o) = (3, o)
+refusal_numbers (outside_set o) = (4, o)
+refusal_numbers (log_too_short n) = (5, n)
+refusal_numbers (sheet_too_short n) = (6, n)
+refusal_numbers (output_too_short n) = (7, n)
+
+-- the number of a refusal
 abbrev pub refusal_number : Refusal → ℕ
-refusal_number text_too_long = 1
-refusal_number work_too_short = 2
-refusal_number (invalid_utf8 o) = 3
-refusal_number (outside_set o) = 4
-refusal_number (log_too_short n) = 5
-refusal_number (sheet_too_short n) = 6
-refusal_number (output_too_short n) = 7
+refusal_number r = (refusal_numbers r).0
 
--- and the value beside it: a place, a count, words or bytes needed
+-- the value of a refusal
 abbrev pub refusal_value : Refusal → ℕ
-refusal_value text_too_long = 0
-refusal_value work_too_short = 0
-refusal_value (invalid_utf8 o) = o
-refusal_value (outside_set o) = o
-refusal_value (log_too_short n) = n
-refusal_value (sheet_too_short n) = n
-refusal_value (output_too_short n) = n
+refusal_value r = (refusal_numbers r).1
 
--- whether work is untouched too: paper 01 leaves its contents to the program for every other answer
-abbrev pub leaves_work : Refusal → Bool
-leaves_work text_too_long = true
-leaves_work work_too_short = true
-leaves_work (invalid_utf8 o) = false
-leaves_work (outside_set o) = false
-leaves_work (log_too_short n) = false
-leaves_work (sheet_too_short n) = false
-leaves_work (output_too_short n) = false
-
--- the longest text and the longest plain form
-abbrev pub max_bytes : ℕ
-max_bytes = 4194304
-
--- the words of work that n bytes of text need
-abbrev pub work_needed : ℕ → ℕ
-work_needed n = 6 * n + 6
+-- the numbers that leave work untouched too, rows 1 and 2: paper 01 leaves its contents to the program for every other answer
+abbrev pub leaves_work_number : ℕ → Bool
+leaves_work_number n = eqb n 1 || eqb n 2
 
 -- rows 1 to 4, in their order: what a text and a length of work are refused for
 unfoldable pub refusal_of : List ℕ → ℕ → Option Refusal
 unfolding valid_up_to first_outside
 refusal_of t work =
     elim (ltb max_bytes (length t)) [
-      | true ↦ some text_too_long
+      | true ↦ Some text_too_long
       | false ↦ elim (ltb work (work_needed (length t))) [
-        | true ↦ some work_too_short
+        | true ↦ Some work_too_short
         | false ↦ elim (ltb (valid_up_to t) (length t)) [
-          | true ↦ some (invalid_utf8 (valid_up_to t))
-          | false ↦ elim (first_outside t) [ Some o ↦ some (outside_set o) | None ↦ none ]
+          | true ↦ Some (invalid_utf8 (valid_up_to t))
+          | false ↦ elim (first_outside t) [ Some o ↦ Some (outside_set o) | None ↦ None ]
         ]
       ]
     ]
@@ -75,7 +60,7 @@ refusal_of t work =
 -- a text is admitted: UTF-8, of at most 4,194,304 bytes, all characters in the set
 unfoldable pub admitted : List ℕ → Bool
 unfolding refusal_of
-admitted t = elim (refusal_of t (work_needed (length t))) [ none ↦ true | some r ↦ false ]
+admitted t = elim (refusal_of t (work_needed (length t))) [ None ↦ true | Some r ↦ false ]
 
 -- ---- reading
 
@@ -99,27 +84,39 @@ reply_number (machine h) = 0
 reply_number (diagnosed n) = diagnostics_number
 reply_number (refused r) = refusal_number r
 
--- and the value
+-- the value of a reply
 abbrev pub reply_value : Reply → ℕ
 reply_value (machine h) = 0
 reply_value (diagnosed n) = n
 reply_value (refused r) = refusal_value r
 
+-- the words of a head
+abbrev pub head_size : ℕ
+head_size = 33
+
 -- the head of a reply in words, zero where there is none
 abbrev pub reply_head : Reply → List ℕ
 reply_head (machine h) = head_words h
-reply_head (diagnosed n) = zeros 33
-reply_head (refused r) = zeros 33
+reply_head (diagnosed n) = zeros head_size
+reply_head (refused r) = zeros head_size
 
--- a reply in 36 words: number; value, low word first; head
+-- the words of an answer: its number, two of its value, and its head
+abbrev pub answer_size : ℕ
+answer_size = 3 + head_size
+
+-- an answer in words: its number; its value, low word first; its head
+abbrev pub words_of : ℕ → ℕ → List ℕ → List ℕ
+words_of number value head = number ∷ value % 4294967296 ∷ value / 4294967296 ∷ head
+
+-- a reply in words
 unfoldable pub reply_words : Reply → List ℕ
 unfolding head_words
-reply_words r = reply_number r ∷ reply_value r % 4294967296 ∷ reply_value r / 4294967296 ∷ reply_head r
+reply_words r = words_of (reply_number r) (reply_value r) (reply_head r)
 
--- what a reading call answers, and the log and the sheet as it leaves them
-pub record ReadOutcome : Type 0 where
+-- what a reading call answers, and the log (of words, or of records) and the sheet as it leaves them
+pub record ReadOutcome (L : Type 0) : Type 0 where
   pub reply : Reply
-  pub log : List ℕ
+  pub log : L
   pub sheet : List ℕ
 
 -- words at the front of n words, the rest zero
@@ -127,7 +124,7 @@ abbrev pub filled : List ℕ → ℕ → List ℕ
 filled ws n = ws ++ zeros (n - length ws)
 
 -- lines that hold diagnostics, and a log and a sheet of so many words: row 5
-unfoldable pub read_diagnostics : List (Diagnostic Span) → ℕ → ℕ → ReadOutcome
+unfoldable pub read_diagnostics : List (Diagnostic Span) → ℕ → ℕ → ReadOutcome (List ℕ)
 unfolding log_words
 read_diagnostics ds log sheet =
     elim (ltb (log / 5) (length ds)) [
@@ -141,7 +138,7 @@ unfolding machine_of body_of kept sheet_length
 words_needed ls = sheet_length (machine_of ls) (kept 0 (body_of ls).rules)
 
 -- lines without diagnostics: row 6
-unfoldable pub read_machine : List (Line Span) → ℕ → ℕ → ReadOutcome
+unfoldable pub read_machine : List (Line Span) → ℕ → ℕ → ReadOutcome (List ℕ)
 unfolding machine_of head_of sheet_words words_needed
 read_machine ls log sheet =
     let m = machine_of ls in
@@ -152,17 +149,17 @@ read_machine ls log sheet =
     ]
 
 -- lines with their diagnostics: with any there is no machine
-unfoldable pub read_with : List (Diagnostic Span) → List (Line Span) → ℕ → ℕ → ReadOutcome
+unfoldable pub read_with : List (Diagnostic Span) → List (Line Span) → ℕ → ℕ → ReadOutcome (List ℕ)
 unfolding read_diagnostics read_machine
 read_with [] ls log sheet = read_machine ls log sheet
 read_with (d ∷ ds) ls log sheet = read_diagnostics (d ∷ ds) log sheet
 
 -- a reading call: the text, how many words of work, and the log and the sheet at entry
-unfoldable pub read_outcome : List ℕ → ℕ → List ℕ → List ℕ → ReadOutcome
+unfoldable pub read_outcome : List ℕ → ℕ → List ℕ → List ℕ → ReadOutcome (List ℕ)
 unfolding refusal_of read_lines decode diagnostics read_with
 read_outcome t work log sheet = elim (refusal_of t work) [
-  | some r ↦ record { reply = refused r; log = log; sheet = sheet }
-  | none ↦ (let ls = read_lines (decode t) in read_with (diagnostics ls) ls (length log) (length sheet))
+  | Some r ↦ record { reply = refused r; log = log; sheet = sheet }
+  | None ↦ (let ls = read_lines (decode t) in read_with (diagnostics ls) ls (length log) (length sheet))
 ]
 
 -- ---- writing
@@ -179,20 +176,20 @@ write_number (written n) = 0
 write_number (not_written n) = diagnostics_number
 write_number (not_read r) = refusal_number r
 
--- and the value
+-- the value of a reply of writing
 abbrev pub write_value : WriteReply → ℕ
 write_value (written n) = n
 write_value (not_written n) = n
 write_value (not_read r) = refusal_value r
 
--- and in 36 words, the head's zero
+-- a reply in words, the head's zero
 abbrev pub write_words : WriteReply → List ℕ
-write_words r = write_number r ∷ write_value r % 4294967296 ∷ write_value r / 4294967296 ∷ zeros 33
+write_words r = words_of (write_number r) (write_value r) (zeros head_size)
 
 -- what a writing call answers, and the log, the sheet and the output as it leaves them
-pub record WriteOutcome : Type 0 where
+pub record WriteOutcome (L : Type 0) : Type 0 where
   pub reply : WriteReply
-  pub log : List ℕ
+  pub log : L
   pub sheet : List ℕ
   pub output : List ℕ
 
@@ -202,7 +199,7 @@ unfolding encode plain content_of machine_of read_lines decode
 form_of t = encode (plain (content_of (machine_of (read_lines (decode t)))))
 
 -- a form at the output's front: row 7
-unfoldable pub write_form : List ℕ → ReadOutcome → List ℕ → WriteOutcome
+unfoldable pub write_form : List ℕ → ReadOutcome (List ℕ) → List ℕ → WriteOutcome (List ℕ)
 write_form form r output =
     let n = length form in
     elim (ltb (length output) n || ltb max_bytes n) [
@@ -211,7 +208,7 @@ write_form form r output =
     ]
 
 -- behind a reading: only a machine's form is written
-unfoldable pub write_with : ReadOutcome → List ℕ → List ℕ → WriteOutcome
+unfoldable pub write_with : ReadOutcome (List ℕ) → List ℕ → List ℕ → WriteOutcome (List ℕ)
 unfolding write_form
 write_with r form output = elim r.reply [
   | machine h ↦ write_form form r output
@@ -220,17 +217,21 @@ write_with r form output = elim r.reply [
 ]
 
 -- a writing call: the text, how many words of work, and the log, the sheet and the output at entry
-unfoldable pub write_outcome : List ℕ → ℕ → List ℕ → List ℕ → List ℕ → WriteOutcome
+unfoldable pub write_outcome : List ℕ → ℕ → List ℕ → List ℕ → List ℕ → WriteOutcome (List ℕ)
 unfolding read_outcome form_of write_with
 write_outcome t work log sheet output = write_with (read_outcome t work log sheet) (form_of t) output
 
--- ---- the name of a state
+-- ---- what the exported calls give
 
--- the bytes from a to b of a text, where a ≤ b are places in it, else none
-unfoldable pub part : List ℕ → ℕ → ℕ → List ℕ
-part t a b = elim (leb a b && leb b (length t)) [ true ↦ take (b - a) (drop a t) | false ↦ [] ]
+-- the words of an answer at the front of a row that has room for all of them, else nothing changed
+abbrev pub at_front : List ℕ → List ℕ → List ℕ
+at_front words row = elim (nat_le answer_size (length row)) [ true ↦ words ++ drop answer_size row | false ↦ row ]
 
--- the name of state i, from a sheet and a text: empty if its words are outside the sheet or its place is not inside the text
-unfoldable pub state_name : List ℕ → List ℕ → ℕ → List ℕ
-unfolding part
-state_name sheet t i = elim (leb (3 * i + 3) (length sheet)) [ true ↦ part t (get_or sheet (3 * i) 0) (get_or sheet (3 * i + 1) 0) | false ↦ [] ]
+-- an exported reading call: the number that it returns, the row that is lent for the answer, the log and the sheet
+unfoldable pub read_given : {L : Type 0} → ReadOutcome L → List ℕ → ℕ × List ℕ × L × List ℕ
+unfolding reply_words
+read_given o row = (reply_number o.reply, at_front (reply_words o.reply) row, o.log, o.sheet)
+
+-- an exported writing call: the same, and the output
+unfoldable pub write_given : {L : Type 0} → WriteOutcome L → List ℕ → ℕ × List ℕ × L × List ℕ × List ℕ
+write_given o row = (write_number o.reply, at_front (write_words o.reply) row, o.log, o.sheet, o.output)

@@ -1,8 +1,7 @@
 -- Parsers of the tokens of a line, over places of any type P: Span when a text is read, Unit when places do not count.
 use Prim.Native.Nat.{ℕ, zero, suc}
-use Rattle.std.specs.Prelude.{Bool, true, false, eqb, length}
+use Rattle.std.specs.Prelude.{Bool, true, false, eqb, length, Option, None, Some}
 use mathlib.Core.List.{List, [], ◌∷◌}
-use Rattle.std.proofs.Math.Option.{Option, none, some}
 use Rattle.lexer.specs.Tokens.{TokenKind, word, number, quoted, str, sign, comment, newline, unterminated_string, unterminated_quote, Token}
 use Rattle.language.specs.Machine.{Located}
 
@@ -15,13 +14,13 @@ pub data Result (P A : Type 0) : Type 0 where
 abbrev pub Parser : Type 0 → Type 0 → Type 0
 Parser P A = List (Token P) → Result P A
 
--- one parser, and then another that may use its value
+-- a result, and then a parser that may use its value
 infixl 20 ◌>>=◌
 unfoldable pub then : {P A B : Type 0} → Result P A → (A → Parser P B) → Result P B
 then (ok a ts) f = f a ts
 then (fail n p) f = fail n p
 
--- the same for a parser
+-- a parser, and then another that may use its value
 unfoldable pub ◌>>=◌ : {P A B : Type 0} → Parser P A → (A → Parser P B) → Parser P B
 unfolding then
 ◌>>=◌ p f = λ ts. then (p ts) f
@@ -32,32 +31,18 @@ give a = λ ts. ok a ts
 
 -- a value where the test holds
 abbrev pub when : {A : Type 0} → Bool → A → Option A
-when true a = some a
-when false a = none
+when true a = Some a
+when false a = None
 
 -- the code for a token that does not fit: E002 for an unterminated string, else E001
 unfoldable pub unexpected : TokenKind → ℕ
 unexpected unterminated_string = 2
-unexpected (word w) = 1
-unexpected (number w) = 1
-unexpected (quoted c) = 1
-unexpected (str s) = 1
-unexpected (sign c) = 1
-unexpected (comment s) = 1
-unexpected newline = 1
-unexpected unterminated_quote = 1
+unexpected _ = 1
 
 -- what a sign says
 unfoldable pub sign_in : {A : Type 0} → (ℕ → Option A) → TokenKind → Option A
 sign_in f (sign c) = f c
-sign_in f (word w) = none
-sign_in f (number w) = none
-sign_in f (quoted c) = none
-sign_in f (str s) = none
-sign_in f (comment s) = none
-sign_in f newline = none
-sign_in f unterminated_string = none
-sign_in f unterminated_quote = none
+sign_in f _ = None
 
 -- the sign c
 unfoldable pub is_sign : ℕ → TokenKind → Option Bool
@@ -67,17 +52,17 @@ is_sign c = sign_in (λ d. when (eqb d c) true)
 -- behind an entry: a comma, and more follow, or the closing sign c
 unfoldable pub goes_on : ℕ → TokenKind → Option Bool
 unfolding sign_in
-goes_on c = sign_in (λ d. elim (eqb d 0x2C) [ true ↦ some true | false ↦ when (eqb d c) false ])
+goes_on c = sign_in (λ d. elim (eqb d 0x2C) [ true ↦ Some true | false ↦ when (eqb d c) false ])
 
 -- the token t taken for what its view says, or refused
 unfoldable pub taken : {P A : Type 0} → Option A → (TokenKind → ℕ) → Token P → Parser P (Located P A)
-taken (some a) bad t ts = ok (record { value = a; place = t.place }) ts
-taken none bad t ts = fail (bad t.kind) t.place
+taken (Some a) bad t ts = ok (record { value = a; place = t.place }) ts
+taken None bad t ts = fail (bad t.kind) t.place
 
 -- on behind the token t if it opened something, else from it
 unfoldable pub branch : {P A : Type 0} → Option Bool → Parser P A → Parser P A → Token P → Parser P A
-branch (some b) inner other t ts = inner ts
-branch none inner other t ts = other (t ∷ ts)
+branch (Some b) inner other t ts = inner ts
+branch None inner other t ts = other (t ∷ ts)
 
 -- an entry, with those that follow it if more do
 unfoldable pub go_on : {P A : Type 0} → Bool → Parser P (List A) → A → Parser P (List A)

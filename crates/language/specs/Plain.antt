@@ -1,9 +1,13 @@
 -- Paper 01, "Plain form": the one text that stands for a machine's content.
-use Rattle.std.specs.Prelude.{ℕ, zero, suc, ◌+◌, ◌/◌, ◌%◌, Bool, true, false, List, [], ◌∷◌, ◌++◌, map, eqb, ltb}
+use Rattle.std.specs.Prelude.{ℕ, zero, suc, ◌+◌, ◌/◌, ◌%◌, Bool, true, false, List, [], ◌∷◌, ◌++◌, map, eqb, ltb, Option, None, Some}
 use Prim.Native.Char.{code}
 use Prim.Native.String as S
-use Rattle.std.proofs.Math.Option.{Option, none, some}
-use Rattle.language.specs.Machine.{Kind, acceptor, transducer, enumerator, beaver, lsb, msb, Decoder, as_word, as_unary, as_binary, Dir, left, right, stay}
+use Rattle.machine.specs.declared.Kind.{Kind}
+use Rattle.machine.specs.declared.Kind.TheVariants.{Acceptor, Transducer, Enumerator, Beaver}
+use Rattle.machine.specs.declared.BitOrder.TheVariants.{Lsb, Msb}
+use Rattle.machine.specs.declared.Decoder.{Decoder}
+use Rattle.machine.specs.declared.Decoder.TheVariants.{Word, Unary, Binary}
+use Rattle.language.specs.Machine.{Dir, left, right, stay}
 use Rattle.language.specs.Content.{StateContent, RuleContent, Content}
 
 -- a piece of text, as code points, put in front of what follows
@@ -66,14 +70,14 @@ direction d = λ rest. dir_code d ∷ rest
 unfoldable pub escaped : ℕ → Option ℕ
 escaped c =
     elim (eqb c 0x22) [
-      | true ↦ some 0x22
-      | false ↦ elim (eqb c 0x5C) [ true ↦ some 0x5C | false ↦ elim (eqb c 10) [ true ↦ some 0x6E | false ↦ elim (eqb c 9) [ true ↦ some 0x74 | false ↦ none ] ] ]
+      | true ↦ Some 0x22
+      | false ↦ elim (eqb c 0x5C) [ true ↦ Some 0x5C | false ↦ elim (eqb c 10) [ true ↦ Some 0x6E | false ↦ elim (eqb c 9) [ true ↦ Some 0x74 | false ↦ None ] ] ]
     ]
 
 -- a character of a string, from its escape
 unfoldable pub in_string : Option ℕ → ℕ → Piece
-in_string none c = λ rest. c ∷ rest
-in_string (some e) c = λ rest. 0x5C ∷ e ∷ rest
+in_string None c = λ rest. c ∷ rest
+in_string (Some e) c = λ rest. 0x5C ∷ e ∷ rest
 
 -- the characters of a string, escaped
 unfoldable pub escaped_text : List ℕ → Piece
@@ -107,22 +111,22 @@ comment_line s = comment s ⨾ end
 
 -- a rule's own comment, if it has one
 abbrev pub own_comment : Option (List ℕ) → Piece
-own_comment none = nothing
-own_comment (some s) = say " " ⨾ comment s
+own_comment None = nothing
+own_comment (Some s) = say " " ⨾ comment s
 
 -- the word for a kind
 abbrev pub kind_name : Kind → S.String
-kind_name acceptor = "acceptor"
-kind_name transducer = "transducer"
-kind_name enumerator = "enumerator"
-kind_name beaver = "beaver"
+kind_name Acceptor = "acceptor"
+kind_name Transducer = "transducer"
+kind_name Enumerator = "enumerator"
+kind_name Beaver = "beaver"
 
 -- how the output is read
 abbrev pub decoder : Decoder → Piece
-decoder as_word = say "word"
-decoder (as_unary c) = say "unary " ⨾ symbol c
-decoder (as_binary lsb) = say "binary lsb"
-decoder (as_binary msb) = say "binary msb"
+decoder Word = say "word"
+decoder (Unary c) = say "unary " ⨾ symbol c
+decoder (Binary Lsb) = say "binary lsb"
+decoder (Binary Msb) = say "binary msb"
 
 -- a set of names
 unfoldable pub name_set : List (List ℕ) → Piece

@@ -13,7 +13,8 @@ use borrow.Author.Tests.{eq-eqb, eqb-true, eqb-false, le-leb, lt-leb}
 use Rattle.chars.proofs.Tests.{and_both, lt-or-ge}
 use Rattle.chars.proofs.Segments.{has, Not, no_none, no_more}
 use Rattle.lexer.specs.Text.{same}
-use Rattle.lexer.specs.Words.{keyword_bytes, position, numbered, keywords_of, number_in}
+use Rattle.lexer.specs.Words.{position}
+use Rattle.lexer.specs.Keywords.{keyword_bytes, numbered, keywords_of, number_in}
 use Rattle.lexer.specs.Places.{part, part_start}
 use Rattle.diag.proofs.Cases.{by_test_lem as by_test}
 
@@ -51,7 +52,7 @@ module _ (t : List ℕ) (a b : ℕ) where
   unfolding part_start
   start-inside n g h = rw (part_start, le-leb a b g, le-leb b (length t) h) (omega arith)
 
-  -- as the code finds it
+  -- the offsets lie outside the text, as the code finds it
   abbrev Outside : Type 0
   Outside = ((a ≤ b) × (length t < b)) ⊎ (b < a)
 
@@ -107,7 +108,7 @@ pub number_nowhere : (ks : List (ℕ × List ℕ)) (i : ℕ) (w : List ℕ) (n :
 unfolding number_in
 number_nowhere ks i w n inv h = sym (ap (λ (l : List (ℕ × List ℕ)). number_in l w) (drop_of_length-le ks h)) ∙ inv
 
--- of another length, a keyword is not the name
+-- the keywords of a name's length are enough: one of another length is not the name
 numbered_is : (ks : List (List ℕ)) (n : ℕ) (w : List ℕ) → number_in (numbered (length w) n ks) w ≡ position n ks w
 unfolding number_in numbered position
 numbered_is [] n w = refl

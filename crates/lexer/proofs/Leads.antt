@@ -20,7 +20,8 @@ use Rattle.std.proofs.lemmas.Bool.{not-true}
 use Rattle.chars.proofs.Laws.{decode-end}
 use Rattle.chars.proofs.Blocks.{ascii_decode}
 use Rattle.lexer.specs.Tokens.{sign, tok, is_digit, is_ascii_digit, is_word_continue, is_whitespace, run, word_step, number_step, step}
-use Rattle.lexer.specs.Words.{sign_number, position, keyword_bytes, value_from, value}
+use Rattle.lexer.specs.Words.{sign_number, position, value_from, value}
+use Rattle.lexer.specs.Keywords.{keyword_bytes}
 use Rattle.lexer.specs.Places.{part, Found, Tok, piece_of, piece}
 use Rattle.lexer.specs.Quick.{other_lead, lead_of, leads_from, leads, AsciiAt, EndsAt, WordAt, QuickAt, quick_value, quick_piece}
 use Rattle.diag.proofs.Cases.{by_test_lem as by_test}

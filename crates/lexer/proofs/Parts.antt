@@ -7,7 +7,8 @@ use mathlib.Core.List.{List, []}
 use lib.Dec.{leb, ltb, eqb}
 use lib.ListN.{length, get_or, take, drop, length-take}
 use borrow.Author.Tests.{leb-true, ltb-true, eqb-false}
-use Rattle.chars.specs.Utf8.{front, decode, decoded_at}
+use Rattle.chars.specs.Utf8.{front, decode}
+use Rattle.chars.specs.Decoded.{decoded_at}
 use Rattle.std.specs.Prelude.{Option as Perhaps, Some, None, unwrap_or}
 use Rattle.std.specs.Bool.{⊤}
 use Rattle.std.specs.List.{AllWithin, HoldsAt}

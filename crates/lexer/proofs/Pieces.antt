@@ -10,7 +10,8 @@ use lib.ListN.{length, get_or, take, drop, take-append-drop}
 use borrow.Author.Tests.{eq-eqb, ne_eqb, eqb-true}
 use mir.Syntax.{w32, w64}
 use mir.Val.{Fits}
-use Rattle.chars.specs.Utf8.{size, sizes, scalars, Front, one, bad, none, front, decoded_at, decode, encode}
+use Rattle.chars.specs.Utf8.{size, sizes, Front, one, bad, none, front, decode, encode}
+use Rattle.chars.specs.Decoded.{scalars, decoded_at}
 use Rattle.chars.specs.Class.{class_of}
 use Rattle.chars.specs.declared.Class.{Class}
 use Rattle.chars.specs.declared.Class.TheVariants.{Letter, Digit, Space, Sign, Other}
@@ -23,7 +24,8 @@ use Rattle.chars.proofs.Laws.{decode-end, decode_bad, decode-none, front-decode,
 use Rattle.chars.proofs.Theorems.{part_bytes, part-scalars, encode_injective}
 use Rattle.lexer.specs.Text.{same}
 use Rattle.lexer.specs.Tokens.{TokenKind, word, number, quoted, str, sign, comment, newline, unterminated_string, unterminated_quote, token_at, is_digit, is_ascii_digit, is_word_continue, is_whitespace, run, line, trim_cons, trim_end, indent, comment_text, Inside, closed, unclosed, inside, Step, gap, tok, word_step, number_step, string_step, quoted_step, comment_step, slash_step, other_step, step}
-use Rattle.lexer.specs.Words.{keywords, keyword_bytes, keyword, position, value, sign_number, kind_number, word_value, token_value}
+use Rattle.lexer.specs.Words.{keywords, keyword, position, value, sign_number, kind_number, word_value, token_value}
+use Rattle.lexer.specs.Keywords.{keyword_bytes}
 use Rattle.lexer.specs.Places.{starts_with, part, line_at, string_end, Found, Tok, Gap, End, piece_of, piece}
 use Rattle.lexer.specs.declared.Line.{Line}
 use Rattle.diag.proofs.Cases.{by_test_lem as by_test}
@@ -410,7 +412,7 @@ module _ (t : List ℕ) (at c next end v : ℕ) (m : next ≡ at + size c) (d : 
       (e ∙ ap (λ (l : List ℕ). min (value l) 256) (ap (run is_ascii_digit) d ∙ run_true is_ascii_digit c r p))
       (g ∙ ap (λ (l : List ℕ). next + sizes l) (sym (run_prefix is_ascii_digit r)))
 
-  -- the same by a scan from its first digit on
+  -- the piece of a number, by a scan from its first digit on
   pub number_at : end ≡ at + sizes (run is_ascii_digit (decode (drop at t))) → v ≡ min (value (run is_ascii_digit (decode (drop at t)))) 256
       → Tok 1 end v end ≡ piece_of at next (decode (drop next t)) (number_step c (decode (drop next t)))
   number_at g e =

@@ -6,7 +6,8 @@ use mathlib.Core.Bool.{true}
 use mathlib.Core.List.{List, [], ◌∷◌, ◌++◌}
 use lib.ListN.{length, get_or, take, drop, take-append-drop}
 use lib.Seq.{take-add}
-use Rattle.chars.specs.Utf8.{size, sizes, scalars, decode, encode}
+use Rattle.chars.specs.Utf8.{size, sizes, decode, encode}
+use Rattle.chars.specs.Decoded.{scalars}
 use Rattle.chars.proofs.Laws.{points_next, points_le}
 use Rattle.chars.proofs.Theorems.{sizes-append, decode-encode, part_bytes, part-scalars}
 use Rattle.lexer.specs.Text.{same}
@@ -152,7 +153,8 @@ placed_from (c ∷ r) (suc k) o t p l = placed_from r k (o + size c) t (points_n
 placed_from (c ∷ r) zero o t p l =
     emit_placed (step c r) t o (c ∷ r) _ p l (step_fits c r) (λ (n : ℕ). placed_from r n (o + size c) t (points_next t o c r p) (points_le t o c r p))
 
--- every token of a text stands in its place: words, numbers, quoted characters, signs and comments are the characters there, strings with their escapes undone
+-- every token of a text stands in its place: words, numbers, quoted characters, signs and comments are the characters
+-- there, strings with their escapes undone
 pub placed : (t : List ℕ) → All (Placed t) (tokens (decode t))
 unfolding tokens
 placed t = placed_from (decode t) 0 0 t refl (omega arith)

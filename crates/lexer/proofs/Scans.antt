@@ -4,18 +4,18 @@ use Prim.Native.Nat.{ℕ, ◌+◌, ◌-◌, ◌*◌, ◌≤◌, ◌<◌, min}
 use native.Mathlib.Omega.{arith}
 use mathlib.Core.Bool.{Bool, true, false, cond, ◌&&◌, ◌||◌}
 use mathlib.Core.List.{List, [], ◌∷◌}
-use mathlib.Core.Option.{Option, none, some}
 use mathlib.Core.Logic.{◌⊎◌, ⊎_elim}
 use denote.Enum.Bare.{sameb}
 use lib.Dec.{eqb, leb}
 use lib.ListN.{length, take, drop}
 use borrow.Author.Tests.{eq-eqb, ne_eqb, eqb-true, eqb-false, leb-true}
-use Rattle.chars.specs.Utf8.{size, sizes, front, decoded_at, decode}
+use Rattle.chars.specs.Utf8.{size, sizes, front, decode}
+use Rattle.chars.specs.Decoded.{decoded_at}
 use Rattle.chars.specs.Class.{class_of, classes}
 use Rattle.chars.specs.Ranges.{Entry, row, lookup}
 use Rattle.chars.specs.declared.Class.{Class}
 use Rattle.chars.specs.declared.Class.TheVariants.{Letter, Digit, Space, Sign, Other}
-use Rattle.std.specs.Prelude.{Option as Perhaps, Some, None, take_while}
+use Rattle.std.specs.Prelude.{Option as Perhaps, Some, None, take_while, Option}
 use Rattle.std.proofs.lemmas.List.Sums.{take_while-cons}
 use Rattle.chars.proofs.Short.{short_least}
 use Rattle.chars.specs.contracts.Class.{the_type}
@@ -24,7 +24,8 @@ use Rattle.chars.specs.Short.{is_short}
 use Rattle.chars.proofs.Laws.{char_next, char_falls, char_decode, none_decode, points_next}
 use Rattle.std.proofs.Math.Bool.{or-false}
 use Rattle.diag.proofs.Cases.{by_test_lem as by_test}
-use Rattle.lexer.specs.Tokens.{is_letter, is_digit, is_space, is_word_start, is_word_continue, is_ascii_digit, is_whitespace, run, line, trim_cons, trim_end, escape, Inside, closed, unclosed, put, pass, inside}
+use Rattle.lexer.specs.Tokens.{is_letter, is_digit, is_space, is_word_continue, is_ascii_digit, is_whitespace, run, line, trim_cons, trim_end, escape, Inside, closed, unclosed, put, pass, inside}
+use Rattle.lexer.specs.Starts.{is_word_start}
 use Rattle.lexer.specs.Words.{value_from, value}
 use Rattle.lexer.specs.Places.{line_at, trimmed_at, string_end}
 use Rattle.lexer.specs.declared.Line.{Line}
@@ -292,8 +293,8 @@ unfolding inside
 end-escaped i e r f = go (escape e) refl
   where
     go : (o : Option ℕ) → escape e ≡ o → end_of i (e ∷ r) (inside true (e ∷ r)) ≡ end_of (i + size e) r (inside false r)
-    go (some v) q = rw (q, inside) (end-put i v (e ∷ r) (pass (inside false r)) ∙ end-pass i e r (inside false r))
-    go none q =
+    go (Some v) q = rw (q, inside) (end-put i v (e ∷ r) (pass (inside false r)) ∙ end-pass i e r (inside false r))
+    go None q =
         rw (q, inside)
         (rw (ne_eqb e 10 f)
         (end-put i 0x5C (e ∷ r) (put e (pass (inside false r))) ∙ end-put i e (e ∷ r) (pass (inside false r)) ∙ end-pass i e r (inside false r)))
@@ -339,7 +340,7 @@ module _ (t : List ℕ) (at i : ℕ) (b : Bool) (r : Perhaps (ℕ × ℕ)) (s : 
         ap Some o ∙ sym (ap (λ (x : Bool). end_of i (c ∷ decode (drop n t)) (inside x (c ∷ decode (drop n t)))) p
         ∙ ap (end_of i (c ∷ decode (drop n t))) (inside_quote c (decode (drop n t)) q)) ∙ seen
 
-    -- the rest is at the place n
+    -- a string's end from the place i on is its end from the place n on
     moved : (x : Bool) → end_of (i + size c) (decode (drop n t)) (inside x (decode (drop n t))) ≡ v → string_end x n (decode (drop n t)) ≡ v
     moved x g = string_end_of x n (decode (drop n t)) ∙ ap (λ (m : ℕ). end_of m (decode (drop n t)) (inside x (decode (drop n t)))) (char_next t i r s c n e) ∙ g
 

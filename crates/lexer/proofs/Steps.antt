@@ -4,7 +4,7 @@ use Prim.Native.Nat.{ℕ, suc, ◌+◌, ◌-◌, ◌≤◌}
 use native.Mathlib.Omega.{arith}
 use mathlib.Core.Bool.{Bool, true, false, ◌&&◌, not}
 use mathlib.Core.List.{List, [], ◌∷◌, ◌++◌}
-use mathlib.Core.Option.{Option, none, some}
+use Rattle.std.specs.Prelude.{Option, None, Some}
 use lib.Dec.{eqb}
 use lib.ListN.{length, take, drop, length-take}
 use lib.Seq.{take-take}
@@ -63,7 +63,8 @@ Sides newline a b = (a ≡ 0) × (b ≡ 0)
 Sides unterminated_string a b = (a ≡ 0) × (b ≡ 0)
 Sides unterminated_quote a b = (a ≡ 0) × (b ≡ 0)
 
--- a token of w bytes at the front of cs, a bytes before its text and b behind it, n characters behind its first: how many characters it takes
+-- a token of w bytes at the front of cs, a bytes before its text and b behind it, n characters
+-- behind its first: how many characters it takes
 pub record Fit (t : TokenKind) (cs : List ℕ) (w a b n : ℕ) : Type 0 where
   -- characters up to its end, before its text, up to its text's end
   pub last : ℕ
@@ -157,11 +158,11 @@ module _ (b' b : Bool) (c : ℕ) (f : Inside → Inside) (on : (m : List ℕ) �
     alone = on (take (suc h.inner) r) ∙ ap f h.alone ∙ e;
   }
 
-inside-some : (c x : ℕ) (m : List ℕ) → escape c ≡ some x → inside true (c ∷ m) ≡ put x (pass (inside false m))
+inside-some : (c x : ℕ) (m : List ℕ) → escape c ≡ Some x → inside true (c ∷ m) ≡ put x (pass (inside false m))
 unfolding inside
 inside-some c x m e = rw (e, inside)
 
-inside-none : (c : ℕ) (m : List ℕ) → escape c ≡ none → eqb c 10 ≡ false → inside true (c ∷ m) ≡ put 0x5C (put c (pass (inside false m)))
+inside-none : (c : ℕ) (m : List ℕ) → escape c ≡ None → eqb c 10 ≡ false → inside true (c ∷ m) ≡ put 0x5C (put c (pass (inside false m)))
 unfolding inside
 inside-none c m e f = rw (e, inside) (rw f)
 
@@ -193,13 +194,13 @@ close false (c ∷ r) v k e =
 close true (c ∷ r) v k e = go (escape c) refl (λ (u : List ℕ) (j : ℕ) (q : inside false r ≡ closed u j). close false r u j q)
   where
     go : (o : Option ℕ) → escape c ≡ o → ((u : List ℕ) (j : ℕ) → inside false r ≡ closed u j → Close false r u j) → Close true (c ∷ r) v k
-    go (some x) p ih =
+    go (Some x) p ih =
         let on : (m : List ℕ) → inside true (c ∷ m) ≡ put x (pass (inside false m)) = λ (m : List ℕ). inside-some c x m p in
         let w = put_inv x (pass (inside false r)) v k (sym (on r) ∙ e) in
         let u = pass_inv (inside false r) w.0 k w.1 in
         close_more false true c (λ (y : Inside). put x (pass y)) on r v w.0 k u.0 (ih w.0 u.0 u.1)
         (ap (λ (y : Inside). put x (pass y)) (sym u.1) ∙ sym (on r) ∙ e) u.2
-    go none p ih =
+    go None p ih =
         by_test (eqb c 10)
         (λ f. absurd (not_closed (inside true (c ∷ r)) v k (rw (eqb-true c 10 f)) e))
         (λ f.

@@ -1,4 +1,4 @@
--- What begins with a character that the code has read.
+-- Describes the code: what begins with a character that it has read.
 use Rattle.std.specs.Prelude.{ℕ, List}
 use Rattle.lexer.specs.Tokens.{Step}
 use Rattle.lexer.specs.Places.{rest, Found, piece_of}

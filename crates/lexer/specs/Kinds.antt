@@ -1,4 +1,4 @@
--- The code's kinds of tokens as the words that stand in a row, and its pieces by them.
+-- Describes the code: its kinds of tokens as the words that stand in a row, and its pieces by them.
 use Rattle.std.specs.Prelude.{ℕ}
 use Rattle.lexer.specs.Places.{Found, Tok, Gap, End}
 use Rattle.lexer.specs.declared.Piece.{Piece}

@@ -1,8 +1,12 @@
 pub mod Text
 pub mod Tokens
 pub mod Words
+pub mod Keywords
+pub mod KeywordValues
+pub mod Starts
 pub mod Places
 pub mod Quick
 pub mod Blocks
 pub mod Kinds
+pub mod KindWords
 pub mod Heads

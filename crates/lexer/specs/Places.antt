@@ -18,7 +18,8 @@ starts_with c (x ∷ r) = eqb x c
 unfoldable pub part : List ℕ → ℕ → ℕ → List ℕ
 part t a b = cond (leb a b && leb b (length t)) (take (b - a) (drop a t)) []
 
--- where it begins: at the first offset, or at the text's front where the offsets do not lie inside it
+-- where the part of a text between two offsets begins: at the first offset, or at the text's
+-- front where the offsets do not lie inside it
 unfoldable pub part_start : List ℕ → ℕ → ℕ → ℕ
 part_start t a b = cond (leb a b && leb b (length t)) a 0
 
@@ -32,7 +33,8 @@ unfoldable pub line_at : ℕ → List ℕ → Line
 unfolding sizes line trim_end
 line_at at cs = record { trimmed = at + sizes (trim_end (line cs)); end = at + sizes (line cs) }
 
--- where a line that goes on with the characters cs at the place i ends without white space; `last` where nothing but white space follows
+-- where a line that goes on with the characters cs at the place i ends without white space;
+-- `last` where nothing but white space follows
 abbrev pub trimmed_at : ℕ → ℕ → List ℕ → ℕ
 trimmed_at last i [] = last
 trimmed_at last i (c ∷ r) = i + sizes (c ∷ r)
@@ -42,7 +44,8 @@ unfoldable pub string_end : Bool → ℕ → List ℕ → Option ℕ
 unfolding sizes inside
 string_end b at cs = elim (inside b cs) [ closed v n ↦ Some (at + sizes (take n cs)) | unclosed ↦ None ]
 
--- what stands at a place: a token, with its kind's number, its end, its value and the place to go on from; white space up to a place; no character
+-- what stands at a place: a token, with its kind's number, its end, its value and the place to go on
+-- from; white space up to a place; no character
 pub data Found : Type 0 where
   Tok : ℕ → ℕ → ℕ → ℕ → Found
   Gap : ℕ → Found

@@ -12,6 +12,5 @@ codes (c ∷ s) = L.◌∷◌ (code c) (codes s)
 -- two lists of code points are equal
 abbrev pub same : L.List ℕ → L.List ℕ → Bool
 same L.[] L.[] = true
-same L.[] (L.◌∷◌ y ys) = false
-same (L.◌∷◌ x xs) L.[] = false
 same (L.◌∷◌ x xs) (L.◌∷◌ y ys) = eqb x y && same xs ys
+same _ _ = false

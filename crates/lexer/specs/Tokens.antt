@@ -1,11 +1,10 @@
 -- Paper 01, "lexer.rs": a text, as code points, becomes tokens.
-use Rattle.std.specs.Prelude.{ℕ, zero, suc, ◌+◌, ◌-◌, Bool, true, false, ◌&&◌, ◌||◌, not, List, [], ◌∷◌, ◌++◌, eqb, length, take}
-use Rattle.std.proofs.Math.Option.{Option, none, some}
+use Rattle.std.specs.Prelude.{ℕ, zero, suc, ◌+◌, ◌-◌, Bool, true, false, ◌&&◌, ◌||◌, not, List, [], ◌∷◌, ◌++◌, eqb, length, take, Option, None, Some}
 use Rattle.chars.specs.Utf8.{size, sizes}
 use Rattle.chars.specs.Class.{class_of}
 use Rattle.chars.specs.declared.Class.{Class}
 use Rattle.chars.specs.declared.Class.TheVariants.{Letter, Digit, Space, Sign, Other}
-use Rattle.diag.specs.declared.Span as declared
+pub use Rattle.diag.specs.declared.Span.{Span}
 
 -- what a token is; words, numbers and comments with their characters, strings with their escapes undone
 pub data TokenKind : Type 0 where
@@ -17,14 +16,12 @@ pub data TokenKind : Type 0 where
   comment : List ℕ → TokenKind
   newline unterminated_string unterminated_quote : TokenKind
 
--- a half-open range of byte offsets (paper 01: place): the code's own type, with the fields start and end
-abbrev pub Span : Type 0
-Span = declared.Span
-
+-- the place from a to b (paper 01: place): a half-open range of byte offsets
 abbrev pub span : ℕ → ℕ → Span
 span a b = record { start = a; end = b }
 
--- a token with its place, and the place of its text: between a string's quotes, behind a comment's slashes and one space; P is the type of places
+-- a token with its place, and the place of its text: between a string's quotes, behind a comment's
+-- slashes and one space; P is the type of places
 pub record Token (P : Type 0) : Type 0 where
   pub kind : TokenKind
   pub place : P
@@ -33,41 +30,29 @@ pub record Token (P : Type 0) : Type 0 where
 -- letters
 abbrev pub is_letter : Class → Bool
 is_letter Letter = true
-is_letter Digit = false
-is_letter Space = false
-is_letter Sign = false
-is_letter Other = false
+is_letter _ = false
 
 -- ASCII digits
 abbrev pub is_digit : Class → Bool
 is_digit Digit = true
-is_digit Letter = false
-is_digit Space = false
-is_digit Sign = false
-is_digit Other = false
+is_digit _ = false
 
 -- white space, line feed included
 abbrev pub is_space : Class → Bool
 is_space Space = true
-is_space Letter = false
-is_space Digit = false
-is_space Sign = false
-is_space Other = false
+is_space _ = false
 
--- a word starts with a letter or `_`
-unfoldable pub is_word_start : ℕ → Bool
-unfolding class_of
-is_word_start c = is_letter (class_of c) || eqb c 0x5F
-
--- and goes on with letters, ASCII digits, `_` and `'`
+-- a word, which starts with a letter or `_`, goes on with letters, ASCII digits, `_` and `'`
 unfoldable pub is_word_continue : ℕ → Bool
 unfolding class_of
 is_word_continue c = is_letter (class_of c) || is_digit (class_of c) || eqb c 0x5F || eqb c 0x27
 
+-- an ASCII digit
 unfoldable pub is_ascii_digit : ℕ → Bool
 unfolding class_of
 is_ascii_digit c = is_digit (class_of c)
 
+-- white space, line feed included
 unfoldable pub is_whitespace : ℕ → Bool
 unfolding class_of
 is_whitespace c = is_space (class_of c)
@@ -108,14 +93,15 @@ comment_text (c ∷ r) = elim (eqb c 0x20) [ true ↦ r | false ↦ c ∷ r ]
 unfoldable pub escape : ℕ → Option ℕ
 escape e =
     elim (eqb e 0x22) [
-      | true ↦ some 0x22
-      | false ↦ elim (eqb e 0x5C) [ true ↦ some 0x5C | false ↦ elim (eqb e 0x6E) [ true ↦ some 10 | false ↦ elim (eqb e 0x74) [ true ↦ some 9 | false ↦ none ] ] ]
+      | true ↦ Some 0x22
+      | false ↦ elim (eqb e 0x5C) [ true ↦ Some 0x5C | false ↦ elim (eqb e 0x6E) [ true ↦ Some 10 | false ↦ elim (eqb e 0x74) [ true ↦ Some 9 | false ↦ None ] ] ]
     ]
 
 -- what a character is inside a string: its end, a line's end, a backslash, or itself
 pub data Inner : Type 0 where
   ends breaks escapes stands : Inner
 
+-- what the character c is inside a string
 unfoldable pub inner_of : ℕ → Inner
 inner_of c = elim (eqb c 0x22) [ true ↦ ends | false ↦ elim (eqb c 10) [ true ↦ breaks | false ↦ elim (eqb c 0x5C) [ true ↦ escapes | false ↦ stands ] ] ]
 
@@ -145,8 +131,8 @@ inside false (c ∷ r) = elim (inner_of c) [
   | stands ↦ put c (pass (inside false r))
 ]
 inside true (e ∷ r) = elim (escape e) [
-  | some v ↦ put v (pass (inside false r))
-  | none ↦ elim (eqb e 10) [ true ↦ unclosed | false ↦ put 0x5C (put e (pass (inside false r))) ]
+  | Some v ↦ put v (pass (inside false r))
+  | None ↦ elim (eqb e 10) [ true ↦ unclosed | false ↦ put 0x5C (put e (pass (inside false r))) ]
 ]
 
 -- what the characters between a string's quotes stand for
@@ -154,7 +140,8 @@ unfoldable pub unescape : List ℕ → List ℕ
 unfolding inside
 unescape cs = elim (inside false (cs ++ 0x22 ∷ [])) [ closed v n ↦ v | unclosed ↦ [] ]
 
--- what stands at the front of a text: white space; or a token, with its bytes, the bytes before and behind its text, and how many characters follow its first
+-- what stands at the front of a text: white space; or a token, with its bytes, the bytes before and behind its text,
+-- and how many characters follow its first
 pub data Step : Type 0 where
   gap : Step
   tok : TokenKind → ℕ → ℕ → ℕ → ℕ → Step

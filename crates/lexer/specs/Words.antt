@@ -1,6 +1,6 @@
 -- The tokens as the words that the code keeps of them: four words each.
-use Rattle.std.specs.Prelude.{ℕ, suc, ◌+◌, ◌-◌, ◌*◌, min, Bool, true, false, cond, ◌&&◌, List, [], ◌∷◌, ◌++◌, map, eqb, leb, length, drop}
-use Rattle.chars.specs.Utf8.{decode, encode}
+use Rattle.std.specs.Prelude.{ℕ, suc, ◌+◌, ◌-◌, ◌*◌, min, Bool, true, false, cond, ◌&&◌, List, [], ◌∷◌, ◌++◌, eqb, leb, length, drop}
+use Rattle.chars.specs.Utf8.{decode}
 use Rattle.lexer.specs.Text.{codes, same}
 use Rattle.lexer.specs.Tokens.{TokenKind, word, number, quoted, str, sign, comment, newline, unterminated_string, unterminated_quote, Span, Token, tokens}
 
@@ -20,26 +20,6 @@ position n (k ∷ ks) w = elim (same k w) [ true ↦ n | false ↦ position (suc
 unfoldable pub keyword : List ℕ → ℕ
 unfolding position
 keyword w = position 1 keywords w
-
--- the keywords as bytes
-unfoldable pub keyword_bytes : List (List ℕ)
-unfolding encode
-keyword_bytes = map encode keywords
-
--- the members of m bytes, each with its number, counted from n
-unfoldable pub numbered : ℕ → ℕ → List (List ℕ) → List (ℕ × List ℕ)
-numbered m n [] = []
-numbered m n (k ∷ ks) = cond (eqb (length k) m) ((n, k) ∷ numbered m (suc n) ks) (numbered m (suc n) ks)
-
--- the keywords of m bytes with their numbers
-unfoldable pub keywords_of : ℕ → List (ℕ × List ℕ)
-unfolding numbered keyword_bytes
-keywords_of m = numbered m 1 keyword_bytes
-
--- the number of the first of them that equals w; 0 if none does
-unfoldable pub number_in : List (ℕ × List ℕ) → List ℕ → ℕ
-number_in [] w = 0
-number_in (k ∷ ks) w = cond (same k.1 w) k.0 (number_in ks w)
 
 -- the value of a list of digits behind n
 unfoldable pub value_from : ℕ → List ℕ → ℕ
@@ -76,7 +56,8 @@ word_value [] = 0x110000
 word_value (c ∷ []) = c
 word_value (c ∷ d ∷ r) = 0x110000 + keyword (c ∷ d ∷ r)
 
--- the word that says the most of a token: a value as above, a number's value (256 for all above 255), a code, or how many bytes stand before the text
+-- the word that says the most of a token: a word's value, a number's value (256 for all above 255), a
+-- code, or how many bytes stand before the text
 unfoldable pub token_value : Token Span → ℕ
 unfolding word_value value
 token_value t = elim t.kind [
@@ -86,9 +67,7 @@ token_value t = elim t.kind [
   | sign c ↦ c
   | str s ↦ t.inner.start - t.place.start
   | comment s ↦ t.inner.start - t.place.start
-  | newline ↦ 0
-  | unterminated_string ↦ 0
-  | unterminated_quote ↦ 0
+  | _ ↦ 0
 ]
 
 -- kind, start, end, value
@@ -106,11 +85,20 @@ flat (t ∷ ts) = token_words t ++ flat ts
 unfoldable pub onto : List ℕ → List ℕ → List ℕ
 onto ws w = ws ++ drop (length ws) w
 
--- the text is at most 4,194,304 bytes long, and work has 6 words for each byte and 6 more (paper 01: refusals 1 and 2)
-unfoldable pub roomy : List ℕ → List ℕ → Bool
-roomy t w = leb (length t) 0x400000 && leb (6 * length t + 6) (length w)
+-- the longest text and the longest plain form, in bytes
+abbrev pub max_bytes : ℕ
+max_bytes = 4194304
 
--- the answer and work after a call of `pevzoncs_tokenize`: the number of tokens and their words at the front; or all ones, and nothing changed
+-- the words of work that n bytes of text need
+abbrev pub work_needed : ℕ → ℕ
+work_needed n = 6 * n + 6
+
+-- the text is short enough, and work is long enough (paper 01: refusals 1 and 2)
+unfoldable pub roomy : List ℕ → List ℕ → Bool
+roomy t w = leb (length t) max_bytes && leb (work_needed (length t)) (length w)
+
+-- the answer and work after a call of `pevzoncs_tokenize`: the number of tokens and their words at
+-- the front; or all ones, and nothing changed
 unfoldable pub tokenized : List ℕ → List ℕ → ℕ × List ℕ
 unfolding roomy onto flat tokens decode
 tokenized t w = cond (roomy t w) (length (tokens (decode t)), onto (flat (tokens (decode t))) w) (0xffff_ffff_ffff_ffff, w)

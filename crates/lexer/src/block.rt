@@ -15,7 +15,7 @@ fn is_plain(b: u8) -> bool
     matches!(b, 0x20..0x80)
 }
 
-// Whether it stands for itself inside a string.
+// Whether a byte is an ASCII character that stands for itself inside a string.
 #[tactic(auto, using(chars::proofs::Tests::tests), unfolding(crate::specs::Blocks::plain_byte, crate::specs::Blocks::inner_byte))]
 fn is_inner(b: u8) -> bool
     ensures { result ≡ inner_byte b }
@@ -42,7 +42,8 @@ fn is_line(block: &[u8; 8]) -> bool
     all_eight(block, is_plain) && (block[7] != 0x20 || block[6] != 0x20)
 }
 
-// A place on the line, and where the line up to it ends without white space: blocks whose last bytes are no two spaces are passed over.
+// A place on the line, and where the line up to it ends without white space: blocks whose last
+// bytes are no two spaces are passed over.
 pub(crate) fn line_part(text: &[u8], at: usize) -> Line
     ensures end { result.end + sizes (line (rest text.now result.end)) ≡ at + sizes (line (rest text.now at)) }
     ensures trimmed { trimmed_at result.trimmed result.end (trim_end (line (rest text.now result.end)))

@@ -1,4 +1,4 @@
-// The words with a meaning of their own, in the order of `keyword_bytes`, which numbers them from 1.
+// The words with a meaning of their own, in the order of `keywords`, which numbers them from 1.
 #[derive(Clone, Copy, Debug, PartialEq, Eq)]
 pub enum Keyword {
     Machine = 1,
@@ -27,10 +27,12 @@ pub enum Keyword {
     Msb,
 }
 
-// The value of a word of more characters than one: this and its number, or this alone if it is none of them. It lies above all codes of characters.
+// The value of a word of more characters than one: this and its number, or this alone if it is none of
+// them. It lies above all codes of characters.
 pub const LONGER: u32 = 0x11_0000;
 
-// The keywords' values as the rows of tokens have them: callers in C lend these rows, so that their words stay numbers. A word of one character has its code.
+// The keywords' values as the rows of tokens have them: callers in C lend these rows, so that their words stay
+// numbers. A word of one character has its code.
 pub const MACHINE: u32 = LONGER + Keyword::Machine as u32;
 
 pub const KIND: u32 = LONGER + Keyword::Kind as u32;

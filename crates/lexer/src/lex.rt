@@ -28,7 +28,8 @@ fn sign_kind(c: u32) -> TokenKind
     }
 }
 
-// The value of the word at a place that begins with an ASCII character, from where it ends. More than a conversion: a longer word is looked up.
+// The value of the word at a place that begins with an ASCII character, from where it ends. More than
+// a conversion: a longer word is looked up.
 #[tactic(auto, using(crate::proofs::Pieces::word_fits, crate::proofs::Leads::values))]
 pub(crate) fn word_value(text: &[u8], at: usize, end: usize) -> u32
     requires word { WordAt text.now at }
@@ -134,7 +135,8 @@ impl Head<'_> {
 
     // A character of no class that is no quote and no slash: an underscore, the beginning of a word; or a token of its own.
     fn other(&self) -> Piece
-        requires unquoted { (self.now.c ≡ 0x22 → ⊥) × (self.now.c ≡ 0x27 → ⊥) }
+        requires unquoted { (self.now.c ≡ 0x22 → ⊥)
+            × (self.now.c ≡ 0x27 → ⊥) }
         requires no_slash { self.now.c ≡ 0x2F → ⊥ }
         ensures { found result ≡ begins self.now other_step }
     {
@@ -147,7 +149,8 @@ impl Head<'_> {
 
     // What begins with a character that is no quote and no slash.
     fn unmarked(&self) -> Piece
-        requires unquoted { (self.now.c ≡ 0x22 → ⊥) × (self.now.c ≡ 0x27 → ⊥) }
+        requires unquoted { (self.now.c ≡ 0x22 → ⊥)
+            × (self.now.c ≡ 0x27 → ⊥) }
         requires no_slash { self.now.c ≡ 0x2F → ⊥ }
         ensures { found result ≡ begins self.now step }
     {

@@ -1,12 +1,13 @@
 // Tokens of the description language (the source's dsl/lexer.rs), as words in a lent row.
-// A text and a place in it are two parameters and no cursor: a scan answers a place alone, and with a cursor each contract would say too that the text is kept.
+// A text and a place in it are two parameters and no cursor: a scan answers a place alone, and with a cursor each
+// contract would say too that the text is kept.
 #![tactic(auto)]
 
 ghost use Rattle.std.specs.Prelude.{◌≡◌, ◌+◌, ◌*◌, ◌<◌, ◌≤◌, [], ◌∷◌, length};
 ghost use Rattle.std.proofs.lemmas.List.Edits.{sets};
 ghost use Rattle.chars.specs.Utf8.{decode};
 ghost use Rattle.lexer.specs.Tokens.{tokens};
-ghost use Rattle.lexer.specs.Words.{flat, onto, tokenized};
+ghost use Rattle.lexer.specs.Words.{flat, onto, max_bytes, tokenized};
 ghost use Rattle.lexer.specs.Kinds.{kind_word, found};
 ghost use Rattle.lexer.specs.Places.{Tok};
 ghost use Rattle.lexer.specs.Quick.{WordAt, comma_words, WordPut};
@@ -21,6 +22,18 @@ mod scan;
 
 use crate::kind::TokenKind;
 pub use diag::Span;
+
+// The longest text that is read, in bytes.
+pub const MAX_BYTES: usize = 4_194_304;
+
+// How many words of work each byte of a text needs; the text's end needs as many.
+pub const WORK_WORDS: usize = 6;
+
+// How many words a token is: its kind, start, end and value.
+pub const TOKEN_WORDS: usize = 4;
+
+// The most tapes that a machine may have. Numbers stand for tapes alone, so that the value of none is kept beyond one more.
+pub const MAX_TAPES: u32 = 255;
 
 // What stands at a place of the text.
 #[derive(Clone, Copy)]
@@ -80,13 +93,14 @@ pub struct Cursor {
     pub n: usize,
 }
 
-// Token number n, as four words of work. Each word is written by itself: `copy_from_slice` of the four takes twelve instructions more for a token.
+// Token number n, as four words of work. Each word is written by itself: `copy_from_slice` of the four
+// takes twelve instructions more for a token.
 // Work and the number of tokens are no struct: this asks for room for one token, `word` and `fill` for all of a text's.
 fn push(work: &mut [u32], n: usize, kind: u32, start: u32, end: u32, value: u32)
     requires { 4 * n + 4 ≤ length work.old }
     ensures { work.new ≡ sets work.old (4 * n) (kind ∷ start ∷ end ∷ value ∷ []) }
 {
-    let o = 4 * n;
+    let o = TOKEN_WORDS * n;
     work[o] = kind;
     work[o + 1] = start;
     work[o + 2] = end;
@@ -95,7 +109,8 @@ fn push(work: &mut [u32], n: usize, kind: u32, start: u32, end: u32, value: u32)
 
 // The comma at a place, if one stands there, as token number n; answers how many tokens that is.
 fn comma(text: &[u8], at: usize, work: &mut [u32], n: usize) -> usize
-    requires { (length text.now ≤ 0x400000) × (at < length text.now → 4 * n + 4 ≤ length work.old) }
+    requires { (length text.now ≤ max_bytes)
+        × (at < length text.now → 4 * n + 4 ≤ length work.old) }
     ensures { (result ≤ 1)
         × (4 * result ≡ length (comma_words text.now at))
         × (work.new ≡ sets work.old (4 * n) (comma_words text.now at)) }
@@ -110,7 +125,7 @@ fn comma(text: &[u8], at: usize, work: &mut [u32], n: usize) -> usize
 // The word at a place that begins with an ASCII character, as token number n, together with a comma behind it.
 #[tactic(auto, using(crate::proofs::Commas::fits))]
 fn word(text: &[u8], at: usize, work: &mut [u32], n: usize) -> Cursor
-    requires { (length text.now ≤ 0x400000)
+    requires { (length text.now ≤ max_bytes)
         × (4 * length text.now + 4 ≤ length work.old)
         × (n ≤ at)
         × WordAt text.now at }
@@ -127,11 +142,13 @@ fn word(text: &[u8], at: usize, work: &mut [u32], n: usize) -> Cursor
 }
 
 // The tokens of a text, at the front of work; answers their number. The rest of work stays as it was.
-// Those of one ASCII character go by the table, longer words that begin with one by their end, any other by what stands at the place; those of more than one
-// character together with a comma behind them.
+// Tokens of one ASCII character go by the table, longer words that begin with one by their end, any other by what stands at the
+// place. Those of more characters than one go together with a comma behind them.
 pub fn tokenize(text: &[u8], work: &mut [u32]) -> usize
-    requires { (length text.now ≤ 0x400000) × (4 * length text.now + 4 ≤ length work.old) }
-    ensures { (result ≡ length (tokens (decode text.now))) × (work.new ≡ onto (flat (tokens (decode text.now))) work.old) }
+    requires { (length text.now ≤ max_bytes)
+        × (4 * length text.now + 4 ≤ length work.old) }
+    ensures { (result ≡ length (tokens (decode text.now)))
+        × (work.new ≡ onto (flat (tokens (decode text.now))) work.old) }
 {
     let (mut at, mut n) = (0, 0);
     // How far a turn goes depends on what stands there, so that no `for` counts it.
@@ -169,16 +186,17 @@ pub fn tokenize(text: &[u8], work: &mut [u32]) -> usize
     }
 }
 
-// The same for callers in other languages; a text that is too long or work that is too short is left as it is, and the answer is all ones.
+// `tokenize` for callers in other languages. Where the text is too long or work too short, work is
+// left as it is, and the answer is all ones.
 #[unsafe(no_mangle)]
 #[tactic(auto, using(crate::proofs::Writes::refused_long, crate::proofs::Writes::refused_short, crate::proofs::Writes::answered))]
 pub extern "C" fn pevzoncs_tokenize(text: &[u8], work: &mut [u32]) -> usize
     ensures { (result, work.new) ≡ tokenized text.now work.old }
 {
-    if 0x400000 < text.len() {
+    if MAX_BYTES < text.len() {
         return usize::MAX;
     }
-    if work.len() < 6 * text.len() + 6 {
+    if work.len() < WORK_WORDS * text.len() + WORK_WORDS {
         return usize::MAX;
     }
     tokenize(text, work)

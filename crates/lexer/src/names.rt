@@ -1,6 +1,7 @@
 // Parts of the text: names, and their numbers among the keywords.
 ghost use Rattle.std.specs.Prelude.{◌≡◌, ◌+◌};
-ghost use Rattle.lexer.specs.Words.{position, keyword_bytes, keywords_of, number_in};
+ghost use Rattle.lexer.specs.Words.{position};
+ghost use Rattle.lexer.specs.Keywords.{keyword_bytes, keywords_of, number_in};
 ghost use Rattle.lexer.specs.Places.{part, part_start};
 
 use crate::keyword::Keyword;
@@ -77,8 +78,8 @@ const OF_TEN: [(u32, [u8; 10]); 2] = [
     (Keyword::Enumerator as u32, *b"enumerator"),
 ];
 
-// A word's number among the keywords, or 0: only those of its length are compared. It is no enum, since it goes into the value of a token, a word that C
-// lends.
+// A word's number among the keywords, or 0: only those of its length are compared. It is no enum, since it goes into
+// the value of a token, a word that C lends.
 pub(crate) fn keyword_of(name: &[u8]) -> u32
     ensures { result ≡ position 1 keyword_bytes name.now }
 {

@@ -1,19 +1,21 @@
 // Tokens of one ASCII character, told by a table and the byte behind them.
 ghost use Rattle.std.specs.Prelude.{◌≡◌, ◌<◌, IsTrue, IfSome, true};
-ghost use Rattle.lexer.specs.Quick.{lead_of, AsciiAt, EndsAt, WordAt, QuickAt, quick_value};
+ghost use Rattle.lexer.specs.Quick.{untold, long_word, lead_of, AsciiAt, EndsAt, WordAt, QuickAt, quick_value};
 
 use crate::kind;
 
-// What `lead_at` answers beside the kinds: white space, which the table has too; where the table does not tell; and a word that may go on.
-// These stay numbers: an enum of them, in three forms, took up to 8 in a hundred more instructions where a text is signs or quoted symbols.
+// What `lead_at` answers beside the kinds: white space, which the table has too; where the table
+// does not tell; and a word that may go on.
+// What `lead_at` answers stays a number: an enum of these, in three forms, took up to 8 in a hundred more instructions
+// where a text is signs or quoted symbols.
 pub(crate) const BLANK: u32 = 16;
 
 const UNTOLD: u32 = 17;
 
 pub(crate) const LONG_WORD: u32 = 18;
 
-// What each ASCII character begins: a word 0, a number 1, a quoted character 2, a sign its kind, a line feed 13, white space 16, a string or a comment
-// 17.
+// What each ASCII character begins: a word 0, a number 1, a quoted character 2, a sign its kind, a line feed 13,
+// white space 16, a string or a comment 17.
 const LEADS: &[u8; 128] =
     b"\x0B\x0B\x0B\x0B\x0B\x0B\x0B\x0B\x0B\x10\x0D\x10\x10\x10\x0B\x0B\x0B\x0B\x0B\x0B\x0B\x0B\x0B\x0B\x0B\x0B\x0B\x0B\x0B\x0B\x0B\x0B\x10\x0B\x11\x0B\x0B\x0B\x0B\x02\x04\x05\x0A\x0B\x08\x0B\x0B\x11\x01\x01\x01\x01\x01\x01\x01\x01\x01\x01\x0B\x0B\x0B\x09\x0B\x0B\x0B\x00\x00\x00\x00\x00\x00\x00\x00\x00\x00\x00\x00\x00\x00\x00\x00\x00\x00\x00\x00\x00\x00\x00\x00\x00\x00\x0B\x0B\x0B\x0B\x00\x0B\x00\x00\x00\x00\x00\x00\x00\x00\x00\x00\x00\x00\x00\x00\x00\x00\x00\x00\x00\x00\x00\x00\x00\x00\x00\x00\x06\x0B\x07\x0B\x0B";
 
@@ -43,10 +45,10 @@ fn ends_at<F: FnOnce(u32) -> bool>(text: &[u8], at: usize, ends: F) -> bool
     text.len() <= at || ascii_lead(text, at).is_some_and(ends)
 }
 
-// What stands at a place: the kind of a token of one ASCII character, or what is above.
+// What stands at a place: the kind of a token of one ASCII character, or BLANK, UNTOLD or LONG_WORD.
 pub(crate) fn lead_at(text: &[u8], at: usize) -> u32
-    ensures quick { result < 17 → QuickAt text.now at result }
-    ensures word { result ≡ 18 → WordAt text.now at }
+    ensures quick { result < untold → QuickAt text.now at result }
+    ensures word { result ≡ long_word → WordAt text.now at }
 {
     let Some(lead) = ascii_lead(text, at) else {
         return UNTOLD;
@@ -59,7 +61,7 @@ pub(crate) fn lead_at(text: &[u8], at: usize) -> u32
     }
 }
 
-// The value of such a token.
+// The value of a token that is one ASCII character, from what that begins.
 #[tactic(auto, using(crate::proofs::Leads::quick_values))]
 pub(crate) fn value_of(k: u32, b: u8) -> u32
     ensures { result ≡ quick_value k b }

@@ -5,7 +5,7 @@ ghost use Rattle.lexer.specs.Tokens.{is_word_continue, is_ascii_digit, is_whites
 ghost use Rattle.lexer.specs.Words.{value};
 ghost use Rattle.lexer.specs.Places.{rest, starts_with, line_at, string_end};
 
-use crate::{Line, block, kind, quick};
+use crate::{Line, MAX_TAPES, block, kind, quick};
 use chars::Class;
 
 // Whether c, which is above ASCII, can continue a word.
@@ -16,7 +16,8 @@ fn continues_above(c: u32) -> bool
     matches!(chars::class_of(c), Class::Letter | Class::Digit)
 }
 
-// Whether c can continue a word: ASCII by the table, whose leads up to a quoted character's are those of letters, the underscore, digits and the quote.
+// Whether c can continue a word: ASCII by the table, whose leads up to a quoted character's are those of
+// letters, the underscore, digits and the quote.
 pub(crate) fn is_word_continue(c: u32) -> bool
     ensures { result ≡ is_word_continue c }
 {
@@ -74,7 +75,7 @@ pub(crate) fn word_end(text: &[u8], at: usize) -> usize
     i
 }
 
-// Where the digits at a place end, and their value, 256 for all above 255.
+// Where the digits at a place end, and their value, one more than MAX_TAPES for all above it.
 pub(crate) fn digits(text: &[u8], at: usize) -> (usize, u32)
     ensures end { result.0 ≡ at + sizes (run is_ascii_digit (rest text.now at)) }
     ensures value { result.1 ≡ min (value (run is_ascii_digit (rest text.now at))) 256 }
@@ -85,7 +86,7 @@ pub(crate) fn digits(text: &[u8], at: usize) -> (usize, u32)
         if !is_ascii_digit(c) {
             return (i, v);
         }
-        v = (v * 10 + (c - 0x30)).min(256);
+        v = (v * 10 + (c - 0x30)).min(MAX_TAPES + 1);
         i = next;
     }
     (i, v)
@@ -112,8 +113,8 @@ pub(crate) fn line_end(text: &[u8], at: usize) -> Line
     Line { trimmed, end: i }
 }
 
-// Where a string ends, from behind its quote: the place behind the closing quote, or None where there is none on the line. Tests and no `match`, since
-// a state is asked between two of the character.
+// Where a string ends, from behind its quote: the place behind the closing quote, or None where there is none on the line. Tests
+// and no `match`, since a state is asked between two of the character.
 #[tactic(auto, using(crate::proofs::Scans::strings))]
 pub(crate) fn string_end(text: &[u8], at: usize) -> Option<usize>
     ensures { result ≡ string_end false at (rest text.now at) }

@@ -1,6 +1,6 @@
-// The list program on the cases that are stored in data/: the samples P1 to P11 of paper 01, every refusal that it can give, two tapes,
-// texts on both sides of 2,048 bytes and of 16,384 words, of 1,023 and of 1,024 diagnostics, which no text of 2,048 bytes exceeds,
-// and a listing above a megabyte.
+// The list program on the cases that are stored in data/: the samples P1 to P11 of paper 01, every refusal that it can give, two
+// tapes, texts on both sides of 2,048 bytes and of 16,384 words, of 1,023 and of 1,024 diagnostics, which no text of 2,048 bytes
+// exceeds, and a listing above a megabyte.
 // Its log and its work are long enough for every text of 2,048 bytes, so it never refuses with 2 or 5.
 #![tactic(auto)]
 
@@ -41,7 +41,7 @@ const CASES: [&str; 26] = [
 // The name of a case and its listing, neither where the case cannot be read.
 fn show<W: Write>(rt: &(impl Files + Print), out: &mut W, name: &str) -> io::Result<()> {
     let mut text = [0; 4096];
-    let n = input::fill(&mut fs::open(rt, name)?, &mut text)?;
+    let n = program_input::fill(&mut fs::open(rt, name)?, &mut text)?;
     println!(rt; "{name}")?;
     listing::print(out, &text[..n])
 }

@@ -8,14 +8,18 @@ use mathlib.Core.List.{List, [], ◌∷◌, ◌++◌}
 use lib.Dec.{eqb, ltb}
 use lib.ListN.{length, take, drop, length-append}
 use lib.Seq.{get_or-take, take-append_seam, drop-append_seam}
-use borrow.Author.Tests.{lt-ltb, ne_eqb}
+use borrow.Author.Tests.{lt-ltb}
+use Rattle.machine.specs.declared.Counts.{Counts}
 use Rattle.language.specs.Plain.{Piece, ◌⨾◌, only, each, direction, dir_code}
+use Rattle.language.specs.Machine.{Dir}
 use Rattle.language.specs.Agreement.{groups, records, at, place_at, dir_of}
+use Rattle.sheet_view.proofs.Records.{groups-next, groups-end, records-next, records-end}
 use Rattle.emit.specs.declared.Output.{Output}
 use Rattle.emit.specs.Appends.{Appends}
 use Rattle.list_lines.specs.Listing.{number, named, parted, names, codes, moves, diagnostic, transition}
 use Rattle.list_lines.specs.Puts.{Puts}
-use Rattle.list_lines.proofs.Chain.{said, ◌▹◌, Goes, goes_start, goes_on, goes_end}
+use Rattle.emit.proofs.Chain.{◌▹◌, goes_start, goes_on, goes_end}
+use Rattle.list_lines.proofs.Chain.{said, Goes}
 
 -- ---- members that are left of a list
 
@@ -54,32 +58,6 @@ list_on sep i p ps all e g u v = goes_on (λ rest. ap (λ l. more sep i l rest) 
 pub list_end : (sep i : ℕ) (ps : List Piece) {o o₀ : Output} {p₀ : Piece} → ps ≡ [] → Goes (more sep i ps) o p₀ o₀ → Puts p₀ o₀ o
 list_end sep i ps e g = goes_end (λ rest. ap (λ l. more sep i l rest) e ∙ more_none sep i rest) g
 
--- ---- records that are left
-
--- of n records of k words, those behind i
-pub groups-start : (k n : ℕ) (ws : List ℕ) → groups k (n - 0) ws ≡ groups k n ws
-groups-start k n ws = let e : n - 0 ≡ n = omega arith in rw e
-
-pub groups-next : (k n i : ℕ) (ws : List ℕ) → i < n → groups k (n - i) ws ≡ take k ws ∷ groups k (n - (i + 1)) (drop k ws)
-unfolding groups
-groups-next k n i ws h = let e : n - i ≡ suc (n - (i + 1)) = omega arith in rw e
-
-pub groups-end : (k n i : ℕ) (ws : List ℕ) → n ≤ i → groups k (n - i) ws ≡ []
-unfolding groups
-groups-end k n i ws h = let e : n - i ≡ 0 = omega arith in rw e
-
--- of n records that begin with their length, those behind i
-pub records-start : (n : ℕ) (ws : List ℕ) → records (n - 0) ws ≡ records n ws
-records-start n ws = let e : n - 0 ≡ n = omega arith in rw e
-
-pub records-next : (n i : ℕ) (ws : List ℕ) → i < n → records (n - i) ws ≡ take (at ws 0) ws ∷ records (n - (i + 1)) (drop (at ws 0) ws)
-unfolding records
-records-next n i ws h = let e : n - i ≡ suc (n - (i + 1)) = omega arith in rw e
-
-pub records-end : (n i : ℕ) (ws : List ℕ) → n ≤ i → records (n - i) ws ≡ []
-unfolding records
-records-end n i ws h = let e : n - i ≡ 0 = omega arith in rw e
-
 -- ---- codes and moves
 
 module _ (sep k o n i : ℕ) (ws : List ℕ) where
@@ -107,31 +85,18 @@ module _ (sep n i : ℕ) (ws : List ℕ) where
   moves-end h g = list_end sep i _ (ap moves (groups-end 7 n i ws h)) g
 
 -- a move
-pub moved : (d : ℕ) {b : ℕ} {o r : Output} → b ≡ dir_code (dir_of d) → Appends (b ∷ []) o r → Puts (direction (dir_of d)) o r
+pub moved : (d : Dir) {b : ℕ} {o r : Output} → b ≡ dir_code d → Appends (b ∷ []) o r → Puts (direction d) o r
 moved d e a = said (rw e at a)
-
--- its letter
-module _ (d b : ℕ) where
-  pub letter-left : d ≡ 0 → b ≡ 0x4C → b ≡ dir_code (dir_of d)
-  letter-left e f = rw e f
-
-  pub letter-right : d ≡ 1 → b ≡ 0x52 → b ≡ dir_code (dir_of d)
-  letter-right e f = rw e f
-
-pub letter-stay : (d b : ℕ) → (d ≡ 0 → ⊥) → (d ≡ 1 → ⊥) → b ≡ 0x4E → b ≡ dir_code (dir_of d)
-letter-stay zero b h k f = absurd (h refl)
-letter-stay (suc zero) b h k f = absurd (k refl)
-letter-stay (suc (suc d)) b h k f = f
 
 -- ---- names
 
 -- whether a name is due
-pub due_last : (all : Bool) (n : ℕ) → n ≡ 1 → (all || eqb n 1) ≡ true
-due_last true n e = refl
-due_last false n e = rw e
+pub due_last : (all b : Bool) → b ≡ true → (all || b) ≡ true
+due_last true b e = refl
+due_last false b e = e
 
-pub not_due : (all : Bool) (n : ℕ) → all ≡ false → (n ≡ 1 → ⊥) → (all || eqb n 1) ≡ false
-not_due all n e h = rw (e, ne_eqb n 1 h)
+pub not_due : (all b : Bool) → all ≡ false → b ≡ false → (all || b) ≡ false
+not_due all b e h = rw (e, h)
 
 module _ (text : List ℕ) (all : Bool) (n i printed : ℕ) (ws : List ℕ) where
   -- the name of the state that is next, and those behind it

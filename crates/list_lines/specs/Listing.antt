@@ -1,13 +1,16 @@
--- Paper 01, "The list program": what it prints, from the answer of the reading call as a caller has it: reply, words of the log and the sheet, and the text.
+-- Paper 01, "The list program": what it prints, from the answer of the reading call as a caller has it: reply, words of the log
+-- and the sheet, and the text.
 -- A piece is bytes here: all that is quoted is ASCII, and names are the text's bytes.
-use Rattle.std.specs.Prelude.{ℕ, ◌/◌, ◌*◌, ◌+◌, min, Bool, true, false, ◌&&◌, ◌||◌, List, [], ◌∷◌, map, eqb, ltb, length, drop}
+use Rattle.std.specs.Prelude.{ℕ, ◌/◌, ◌*◌, min, Bool, true, false, ◌&&◌, ◌||◌, List, [], ◌∷◌, map, eqb, ltb, length}
 use Rattle.lexer.specs.Tokens.{Span}
 use Rattle.lexer.specs.Places.{part}
-use Rattle.language.specs.Layout.{Counts}
+use Rattle.machine.specs.declared.Counts.{Counts}
 use Rattle.language.specs.Outcome.{refusal_number, refusal_value, machine, diagnosed, refused, work_needed, zeros, ReadOutcome, read_outcome}
 use Rattle.language.specs.Agreement.{groups, records, at, place_at, dir_of}
 use Rattle.language.specs.Plain.{Piece, ◌⨾◌, nothing, say, verbatim, end, each, direction}
 use Rattle.emit.specs.Decimal.{digits_from}
+use Rattle.sheet_view.specs.Sections.{sigma_from, gamma_from, rules_from}
+use Rattle.sheet_view.specs.Rules.{from_of, to_of, arity_of, actions_from}
 use Rattle.positions.specs.Positions.{line_column}
 
 -- ---- numbers, names and lists
@@ -77,8 +80,8 @@ diagnostic_lines text n log = say "diagnostics=" ⨾ number n ⨾ end ⨾ each (
 unfoldable pub transition : List ℕ → List ℕ → Piece
 unfolding named parted codes moves groups
 transition text r =
-    let actions = groups 7 (at r 9) (drop 11 r) in
-    say "transition=" ⨾ named text (place_at r 1) ⨾ say " " ⨾ parted 0x2C (codes 0 actions) ⨾ say " " ⨾ named text (place_at r 3)
+    let actions = groups 7 (arity_of r) (actions_from r) in
+    say "transition=" ⨾ named text (from_of r) ⨾ say " " ⨾ parted 0x2C (codes 0 actions) ⨾ say " " ⨾ named text (to_of r)
     ⨾ say " " ⨾ parted 0x2C (codes 3 actions) ⨾ say " " ⨾ parted 0x2C (moves actions) ⨾ end
 
 -- n states: all, the final ones, and the start
@@ -93,7 +96,7 @@ unfoldable pub symbol_lines : ℕ → List ℕ → ℕ → List ℕ → Piece
 unfolding codes parted groups
 symbol_lines n sigma m gamma = say "sigma=" ⨾ parted 0x20 (codes 0 (groups 3 n sigma)) ⨾ end ⨾ say "gamma=" ⨾ parted 0x20 (codes 0 (groups 3 m gamma)) ⨾ end
 
--- n transitions
+-- the lines of n transitions
 unfoldable pub transition_lines : List ℕ → ℕ → List ℕ → Piece
 unfolding number each transition records
 transition_lines text n rules = say "transitions=" ⨾ number n ⨾ end ⨾ each (transition text) (records n rules)
@@ -102,10 +105,8 @@ transition_lines text n rules = say "transitions=" ⨾ number n ⨾ end ⨾ each
 unfoldable pub machine_lines : List ℕ → Counts → Span → List ℕ → Piece
 unfolding state_lines symbol_lines transition_lines
 machine_lines text n start sheet =
-    let sigma = drop (3 * n.states) sheet in
-    let gamma = drop (3 * n.sigma) sigma in
-    let rules = drop (3 * n.gamma + 2 * n.finals + 2 * n.header + 2 * n.trailing) gamma in
-    say "diagnostics=0" ⨾ end ⨾ state_lines text n.states start sheet ⨾ symbol_lines n.sigma sigma n.gamma gamma ⨾ transition_lines text n.rules rules
+    say "diagnostics=0" ⨾ end ⨾ state_lines text n.states start sheet
+    ⨾ symbol_lines n.sigma (sigma_from n sheet) n.gamma (gamma_from n sheet) ⨾ transition_lines text n.rules (rules_from n sheet)
 
 -- ---- the whole
 
@@ -120,7 +121,7 @@ unfolding number
 bytes_line text = say "bytes=" ⨾ number (length text) ⨾ end
 
 -- what is printed for an answer, before what follows
-unfoldable pub lines : List ℕ → ReadOutcome → Piece
+unfoldable pub lines : List ℕ → ReadOutcome (List ℕ) → Piece
 unfolding refused_line bytes_line diagnostic_lines machine_lines
 lines text r = elim r.reply [
   | machine h ↦ bytes_line text ⨾ machine_lines text h.counts h.start r.sheet
@@ -129,7 +130,7 @@ lines text r = elim r.reply [
 ]
 
 -- what is printed for an answer
-unfoldable pub listing : List ℕ → ReadOutcome → List ℕ
+unfoldable pub listing : List ℕ → ReadOutcome (List ℕ) → List ℕ
 unfolding lines
 listing text r = lines text r []
 
@@ -143,7 +144,8 @@ max_records = 1024
 abbrev pub max_words : ℕ
 max_words = 16384
 
--- what the list program prints: a text above 2,048 bytes is refused as row 1 says; else a reading call has the work that such a text needs, and a log and a sheet of those sizes
+-- what the list program prints: a text above 2,048 bytes is refused as row 1 says; else a reading call has the work that such a
+-- text needs, and a log and a sheet of those sizes
 unfoldable pub listed : List ℕ → List ℕ
 unfolding refused_line listing read_outcome
 listed text = elim (ltb max_input (length text)) [

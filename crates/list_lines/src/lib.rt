@@ -1,23 +1,30 @@
 // The lines that the list program prints (paper 01), from what a reading call answered with, its log and sheet, and the text.
 // Each function appends a piece to an output: stored where there is room, counted in any case.
-// Text and output stay two parameters: of a struct with both, lent to be written, each contract would also say that its text stays, and each proof
-// would carry the text from piece to piece. The words beside them are another row for each: a section, a record or a log, and n its records.
+// Text and output stay two parameters: of a struct with both, lent to be written, each contract would also say that its text
+// stays, and each proof would carry the text from piece to piece. The words beside them are another row for each: a section, a
+// record or a log, and n its records.
 #![tactic(auto)]
 
-ghost use Rattle.std.specs.Prelude.{◌∷◌, ◌<◌, ltb};
+ghost use Rattle.std.specs.Prelude.{◌∷◌, ◌<◌, ◌≤◌, ltb, length};
 ghost use Rattle.language.specs.Plain.{◌⨾◌, only, direction};
-ghost use Rattle.language.specs.Agreement.{groups, dir_of};
-ghost use Rattle.machine.specs.Head.{counts_in};
+ghost use Rattle.language.specs.Agreement.{groups};
+ghost use Rattle.sheet_view.specs.Directions.{dir_in};
 ghost use Rattle.list_lines.specs.Listing.{named, parted, names, codes, moves, place, related, position, diagnostic, transition};
 ghost use Rattle.list_lines.specs.Listing.{diagnostic_lines, state_lines, symbol_lines, transition_lines, machine_lines};
 ghost use Rattle.list_lines.specs.Listing.{refused_line, bytes_line};
 ghost use Rattle.list_lines.specs.Puts.{Puts};
 
+use diag::{DIAGNOSTIC_WORDS, record_at};
 use emit::Output;
 use lexer::names::part_of;
 use machine::{Head, Span};
 use positions::line_column;
-use sheet_words::{after, place_at, record_at, word};
+use sheet_layout::{ACTION_WORDS, CODE, MOVE, READ, STATE_WORDS, SYMBOL_WORDS, WRITE};
+use sheet_view::direction::{Direction, direction_of};
+use sheet_view::rule::{Rule, rule_at};
+use sheet_view::sections::Sections;
+use sheet_view::state::state_at;
+use sheet_view::{after, word};
 
 // ---- names and lists
 
@@ -45,14 +52,15 @@ fn names(out: &mut Output, text: &[u8], states: &[u32], n: u32, all: bool)
 {
     let mut rest = states;
     let mut printed = 0;
-    // The rest is cut by `after`, and not into chunks: n records are listed also where the words end before, and what is lacking is empty or 0.
+    // The rest is cut by `after`, and not into chunks: n records are listed also where the words end before, and what is lacking
+    // is empty or 0.
     // The index has a name, here and in transition_lines, since what is left to print is told by it in the loop's invariant.
     for i in 0..n {
-        let state = rest;
-        rest = after(state, 3);
-        if all || word(state, 2) == 1 {
+        let state = state_at(rest, 0);
+        rest = after(rest, STATE_WORDS);
+        if all || state.is_final {
             separator(out, printed, b' ');
-            named(out, text, place_at(state, 0));
+            named(out, text, state.name);
             printed += 1;
         }
     }
@@ -71,26 +79,23 @@ fn codes(out: &mut Output, words: &[u32], k: usize, o: usize, n: u32, sep: u8)
     }
 }
 
-// The move of a head, by its number in the sheet, which C reads too. Crate form_parts' `direction` promises characters in UTF-8, and this one bytes.
-fn direction(out: &mut Output, d: u32)
-    ensures { Puts (direction (dir_of d)) out.old out.new }
+// The move of a head. Crate form_lists' `direction` promises characters in UTF-8, and this one bytes.
+fn direction(out: &mut Output, d: Direction)
+    ensures { Puts (direction (dir_in d)) out.old out.new }
 {
-    out.byte(match d {
-        0 => b'L',
-        1 => b'R',
-        _ => b'N',
-    });
+    out.byte(d.letter());
 }
 
-// The moves of n actions. One function for this and `codes` would take what prints a word, and its piece in the contract: it is no shorter than both.
+// The moves of n actions. One function for this and `codes` would take what prints a word, and its piece in the contract: it is
+// no shorter than both.
 fn directions(out: &mut Output, actions: &[u32], n: u32)
     ensures { Puts (parted 0x2C (moves (groups 7 n actions.now))) out.old out.new }
 {
     let mut rest = actions;
     for i in 0..n {
         separator(out, i, b',');
-        direction(out, word(rest, 6));
-        rest = after(rest, 7);
+        direction(out, direction_of(word(rest, MOVE)));
+        rest = after(rest, ACTION_WORDS);
     }
 }
 
@@ -127,17 +132,18 @@ fn related(out: &mut Output, at: Span)
 
 // A diagnostic, from the words of its record.
 fn diagnostic(out: &mut Output, text: &[u8], words: &[u32])
+    requires { 5 ≤ length words.now }
     ensures { Puts (diagnostic text.now words.now) out.old out.new }
 {
-    let at = place_at(words, 1);
+    let d = record_at(words, 0);
     out.bytes(b"diagnostic=");
-    out.decimal(word(words, 0).into());
+    out.decimal(d.code.into());
     out.bytes(b" ");
-    place(out, at);
+    place(out, d.span);
     out.bytes(b" ");
-    related(out, place_at(words, 3));
+    related(out, d.related);
     out.bytes(b" ");
-    position_of(out, text, at.start);
+    position_of(out, text, d.span.start);
     out.bytes(b"\n");
 }
 
@@ -148,27 +154,27 @@ fn diagnostic_lines(out: &mut Output, text: &[u8], n: usize, log: &[u32])
     out.bytes(b"diagnostics=");
     out.decimal(n as u64);
     out.bytes(b"\n");
-    for record in log.chunks_exact(5).take(n) {
+    for record in log.chunks_exact(DIAGNOSTIC_WORDS).take(n) {
         diagnostic(out, text, record);
     }
 }
 
 // ---- a machine
 
-// A transition, from the words of its record.
-fn transition(out: &mut Output, text: &[u8], words: &[u32])
-    ensures { Puts (transition text.now words.now) out.old out.new }
+// A transition, from its rule in the sheet.
+fn transition(out: &mut Output, text: &[u8], rule: &Rule<'_>)
+    ensures { Puts (transition text.now rule.now.words.now) out.old out.new }
 {
-    let actions = after(words, 11);
-    let n = word(words, 9);
+    let actions = rule.actions();
+    let n = rule.arity();
     out.bytes(b"transition=");
-    named(out, text, place_at(words, 1));
+    named(out, text, rule.from());
     out.bytes(b" ");
-    codes(out, actions, 7, 0, n, b',');
+    codes(out, actions, ACTION_WORDS, READ, n, b',');
     out.bytes(b" ");
-    named(out, text, place_at(words, 3));
+    named(out, text, rule.to());
     out.bytes(b" ");
-    codes(out, actions, 7, 3, n, b',');
+    codes(out, actions, ACTION_WORDS, WRITE, n, b',');
     out.bytes(b" ");
     directions(out, actions, n);
     out.bytes(b"\n");
@@ -194,9 +200,9 @@ fn symbol_lines(out: &mut Output, n: u32, sigma: &[u32], m: u32, gamma: &[u32])
     ensures { Puts (symbol_lines n sigma.now m gamma.now) out.old out.new }
 {
     out.bytes(b"sigma=");
-    codes(out, sigma, 3, 0, n, b' ');
+    codes(out, sigma, SYMBOL_WORDS, CODE, n, b' ');
     out.bytes(b"\ngamma=");
-    codes(out, gamma, 3, 0, m, b' ');
+    codes(out, gamma, SYMBOL_WORDS, CODE, m, b' ');
     out.bytes(b"\n");
 }
 
@@ -209,29 +215,25 @@ fn transition_lines(out: &mut Output, text: &[u8], n: u32, rules: &[u32])
     out.bytes(b"\n");
     let mut rest = rules;
     for i in 0..n {
-        transition(out, text, record_at(rest, 0));
-        rest = after(rest, word(rest, 0) as usize);
+        let rule = rule_at(rest, 0);
+        transition(out, text, &rule);
+        rest = after(rest, rule.length() as usize);
     }
 }
 
-// The lines of a machine, from the sections of its sheet. Crate form has their places as methods of a machine that is well formed, which nothing here asks.
+// The lines of a machine, from the sections of its sheet.
 fn machine_lines(out: &mut Output, text: &[u8], head: &Head, sheet: &[u32])
-    ensures { Puts (machine_lines text.now (counts_in head.now.counts) head.now.start sheet.now) out.old out.new }
+    ensures { Puts (machine_lines text.now head.now.counts head.now.start sheet.now) out.old out.new }
 {
     let n = head.counts;
-    let sigma = after(sheet, 3 * n.states as usize);
-    let gamma = after(sigma, 3 * n.sigma as usize);
-    let rules = after(
-        gamma,
-        3 * n.gamma as usize
-            + 2 * n.finals as usize
-            + 2 * n.header as usize
-            + 2 * n.trailing as usize,
-    );
+    let sections = Sections {
+        counts: n,
+        states: sheet,
+    };
     out.bytes(b"diagnostics=0\n");
     state_lines(out, text, n.states, head.start, sheet);
-    symbol_lines(out, n.sigma, sigma, n.gamma, gamma);
-    transition_lines(out, text, n.rules, rules);
+    symbol_lines(out, n.sigma, sections.sigma(), n.gamma, sections.gamma());
+    transition_lines(out, text, n.rules, sections.rules());
 }
 
 // ---- the whole
@@ -269,7 +271,7 @@ pub fn diagnosed(out: &mut Output, text: &[u8], n: usize, log: &[u32])
 // All that is printed for a machine.
 pub fn machine(out: &mut Output, text: &[u8], head: &Head, sheet: &[u32])
     ensures { Puts (bytes_line text.now
-        ⨾ machine_lines text.now (counts_in head.now.counts) head.now.start sheet.now) out.old out.new }
+        ⨾ machine_lines text.now head.now.counts head.now.start sheet.now) out.old out.new }
 {
     bytes_line(out, text);
     machine_lines(out, text, head, sheet);

@@ -6,17 +6,15 @@ use lib.ListN.{length, take, drop, replicate, length-replicate}
 use lib.Seq.{take_at}
 use native.Mathlib.Omega.{arith}
 use borrow.Author.Tests.{lt-ltb, le-ltb}
-use Rattle.language.specs.Outcome.{zeros, ReadOutcome, read_outcome}
+use Rattle.language.specs.Outcome.{refusal_number, refusal_value, zeros, ReadOutcome, read_outcome}
 use Rattle.language.specs.Plain.{◌⨾◌}
 use Rattle.machine.specs.declared.Head.{Head}
-use Rattle.machine.specs.Head.{counts_in}
-use Rattle.machine.specs.Meaning.{head_in}
 use Rattle.std.specs.Prelude.{Result, Ok, Err}
-use Rattle.answer.specs.declared.Refusal.{Refusal}
-use Rattle.answer.specs.declared.Refusal.TheVariants.{TextTooLong}
-use Rattle.answer.specs.declared.Answer.{Answer}
-use Rattle.answer.specs.declared.Answer.TheVariants.{Machine, Diagnostics}
-use Rattle.answer.specs.Answer.{refusal_number, refusal_value, read_in}
+use Rattle.reader_answer.specs.declared.Refusal.{Refusal}
+use Rattle.reader_answer.specs.declared.Refusal.TheVariants.{TextTooLong}
+use Rattle.reader_answer.specs.declared.Answer.{Answer}
+use Rattle.reader_answer.specs.declared.Answer.TheVariants.{Machine, Diagnostics}
+use Rattle.reader_answer.specs.Answer.{refusal_in, read_in}
 use Rattle.emit.specs.Output as O
 use Rattle.emit.specs.Output.{appended, counted}
 use Rattle.emit.specs.declared.Output.{Output}
@@ -24,29 +22,29 @@ use Rattle.emit.specs.Appends.{held}
 use Rattle.emit.proofs.Appends.{appended-nil, appended-front}
 use Rattle.list_lines.specs.Puts.{Puts}
 use Rattle.list_lines.proofs.Alone.{listing_alone}
-use Rattle.room.proofs.Listings.{room}
+use Rattle.list_room.proofs.Listings.{room}
 use Rattle.list_lines.specs.Listing.{lines, listing, listed, bytes_line, machine_lines, diagnostic_lines, refused_line}
 
 -- ---- by the answer's case
 
 module _ (a : Result Answer Refusal) (text log sheet : List ℕ) {o r : Output} where
-  pub machine-listed : (x : Answer) (h : Head) → a ≡ Ok x → x ≡ Machine h → Puts (bytes_line text ⨾ machine_lines text (counts_in h.counts) h.start sheet) o r
+  pub machine-listed : (x : Answer) (h : Head) → a ≡ Ok x → x ≡ Machine h → Puts (bytes_line text ⨾ machine_lines text h.counts h.start sheet) o r
       → Puts (lines text (read_in a log sheet)) o r
-  unfolding lines head_in
+  unfolding lines
   machine-listed x h e f w = rw (e, f) w
 
   pub diagnostics-listed : (x : Answer) (n : ℕ) → a ≡ Ok x → x ≡ Diagnostics n → Puts (bytes_line text ⨾ diagnostic_lines text n log) o r → Puts (lines text (read_in a log sheet)) o r
   unfolding lines
   diagnostics-listed x n e f w = rw (e, f) w
 
-  pub refused-listed : (x : Refusal) → a ≡ Err x → (n v : ℕ) → n ≡ refusal_number x → v ≡ refusal_value x → Puts (refused_line n v) o r → Puts (lines text (read_in a log sheet)) o r
+  pub refused-listed : (x : Refusal) → a ≡ Err x → (n v : ℕ) → n ≡ refusal_number (refusal_in x) → v ≡ refusal_value (refusal_in x) → Puts (refused_line n v) o r → Puts (lines text (read_in a log sheet)) o r
   unfolding lines
   refused-listed x e n v p q w = rw (e, ← p, ← q) w
 
 -- ---- the whole
 
 -- nothing follows
-pub whole : (text : List ℕ) (x : ReadOutcome) {o r : Output} → r.at < 18446744073709551616 → Puts (lines text x) o r → held r ≡ appended (held o) (listing text x)
+pub whole : (text : List ℕ) (x : ReadOutcome (List ℕ)) {o r : Output} → r.at < 18446744073709551616 → Puts (lines text x) o r → held r ≡ appended (held o) (listing text x)
 unfolding listing
 whole text x {o} {r} h w = sym (appended-nil (held r) h) ∙ w.put []
 
@@ -61,7 +59,7 @@ module _ (text : List ℕ) where
   unfolding listed listing lines
   too_long a log sheet h e = rw (e, listed, lt-ltb 2048 (length text) h)
 
-  pub text_listed : (work : ℕ) (sheet : List ℕ) (outcome : ReadOutcome) → length text ≤ 2048 → work ≡ 12294 → length sheet ≡ 16384
+  pub text_listed : (work : ℕ) (sheet : List ℕ) (outcome : ReadOutcome (List ℕ)) → length text ≤ 2048 → work ≡ 12294 → length sheet ≡ 16384
       → outcome ≡ read_outcome text work (replicate 5120 0) sheet → listing text outcome ≡ listed text
   unfolding listed
   text_listed work sheet outcome h m n e =

@@ -1,31 +1,51 @@
 // What the list program prints: a text is read, and the answer listed.
 #![tactic(auto)]
 
-ghost use Rattle.std.specs.Prelude.{◌≡◌, length, OnOk};
+ghost use Rattle.std.specs.Prelude.{◌≡◌, length, replicate, OnOk};
 ghost use Rattle.std.specs.Io.KnownBytes.{Appends};
-ghost use Rattle.answer.specs.Answer.{read_in};
+ghost use Rattle.language.specs.Outcome.{read_outcome};
+ghost use Rattle.reader_answer.specs.Answer.{read_in};
 ghost use Rattle.emit.specs.Output.{output, appended};
 ghost use Rattle.list_lines.specs.Listing.{lines, listed};
 ghost use Rattle.list_lines.specs.Puts.{Puts};
 
-use answer::{Answer, Refusal};
 use emit::Output;
+use reader_answer::{Answer, Refusal};
 use std::io::{self, Write};
 
 // The longest text that is taken.
 pub const MAX_INPUT: usize = 2048;
 
-// Words of work, which such a text needs.
+// Words of work that the longest text needs.
 const WORK_WORDS: usize = 12294;
 
-// Words of 1,024 records.
+// The number of records of a log.
+const RECORDS: usize = 1024;
+
+// Words of a log of so many records.
 const LOG_WORDS: usize = 5120;
 
 // Words of a sheet.
 const SHEET_WORDS: usize = 16384;
 
-// More bytes than any listing has (crate room).
+// More bytes than any listing has (crate list_room).
 const LISTING_BYTES: usize = 2097152;
+
+// Reads a text as `reader::read` does with a log of 5,120 zeros: the log's records are copied to `words`.
+fn read(
+    text: &[u8],
+    work: &mut [u32],
+    words: &mut [u32],
+    sheet: &mut [u32],
+) -> Result<Answer, Refusal>
+    requires { length words.old ≡ 5120 }
+    ensures { read_in result words.new sheet.new ≡ read_outcome text.now (length work.old) (replicate 5120 0) sheet.old }
+{
+    let mut log = [diag_records::UNUSED; RECORDS];
+    let answer = reader_records::read(text, work, &mut log, sheet);
+    diag_records::spill(&log, words, RECORDS);
+    answer
+}
 
 // Lists an answer with its log and sheet.
 fn list(out: &mut Output, answer: Result<Answer, Refusal>, text: &[u8], log: &[u32], sheet: &[u32])
@@ -54,7 +74,7 @@ fn list_in(
     let answer = if MAX_INPUT < text.len() {
         Err(Refusal::TextTooLong)
     } else {
-        worded::read(text, work, log, sheet)
+        read(text, work, log, sheet)
     };
     let mut listing = Output::new(out);
     list(&mut listing, answer, text, log, sheet);

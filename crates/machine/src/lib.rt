@@ -2,8 +2,7 @@
 #![tactic(auto)]
 
 ghost use Rattle.std.specs.Prelude.{◌≡◌};
-ghost use Rattle.language.specs.Layout.{kind_number};
-ghost use Rattle.machine.specs.Meaning.{kind_in};
+ghost use Rattle.machine.specs.Numbers.{kind_number};
 
 pub use diag::Span;
 
@@ -18,7 +17,7 @@ pub enum Kind {
 
 // Paper 01 numbers the kinds in the order of the enum. Assembler's `item_number` is this cast of another enum: a cast has nothing to share.
 impl From<Kind> for u32 {
-    ghost from_gives = { λ k n. n ≡ kind_number (kind_in k) };
+    ghost from_gives = { λ k n. n ≡ kind_number k };
 
     fn from(kind: Kind) -> u32 {
         kind as u32

@@ -16,7 +16,8 @@ use Rattle.parser.specs.declared.ItemKind.TheVariants.{Output, States, Blank, Tr
 abbrev first : List ℕ → Answer
 first t = line (tokens_in (flat (tokens t))) 0
 
--- an item of a kind: the indices of its value, of its end and of the line feed; the offsets of its end and of its value; its parts
+-- an item of a kind: the indices of its value, of its end and of the line feed; the
+-- offsets of its end and of its value; its parts
 abbrev item : ItemKind → ℕ → ℕ → ℕ → ℕ → ℕ → Parts → Answer
 item k v j n e s q = Read (record { kind = k; value = v; end = j; newline = n; span = span 0 e; value_span = span s e; parts = q })
 

@@ -1,22 +1,23 @@
 -- A line over the row means the language's line.
-use Rattle.std.specs.Prelude.{Err, Option as Optional}
+use Rattle.std.specs.Prelude.{Err, Option as Optional, Option, None, Some}
 use mathlib.Core.Path.{◌≡◌, refl, sym, ap, subst, ◌∙◌}
 use Prim.Native.Nat.{ℕ, ◌+◌, ◌-◌}
 use native.Mathlib.Omega.{arith}
 use mathlib.Core.Bool.{true, false}
 use mathlib.Core.Logic.{inl, inr}
 use mathlib.Core.List.{List, [], ◌∷◌, ◌++◌, append-nil, append_assoc}
-use mathlib.Core.Option.{Option, none, some}
 use lib.Dec.{eqb}
 use lib.ListN.{length, drop, length-append}
 use lib.Seq.{drop-drop}
 use borrow.Author.Tests.{eq-eqb, ne_eqb}
 use Rattle.lexer.specs.Tokens.{TokenKind, word, number, quoted, str, sign, comment, newline, unterminated_string, unterminated_quote, Span, Token}
 use Rattle.lexer.specs.Words.{sign_number, kind_number}
-use Rattle.language.specs.Machine.{Located, Kind, transducer}
+use Rattle.machine.specs.declared.Kind.{Kind}
+use Rattle.machine.specs.declared.Kind.TheVariants.{Transducer}
+use Rattle.language.specs.Machine.{Located}
 use Rattle.language.specs.Parser.{Result, ok, fail, Parser, unexpected, is_sign, taken, give, ◌>>=◌}
 use Rattle.language.specs.Parser.{then as bind, one as token, expect, set as braced}
-use Rattle.language.specs.Lines.{RawSymbol, raw_blank, RawTransition, Text, Item, machine_item, input_item, kind_item, output_item, tapes_item, states_item, final_item, input_alphabet_item, tape_alphabet_item, blank_item, start_item, transition_item, Line, item_line, error_line, state_in, symbol_in, number_in, Spelled, word_in, kinds, outputs, Keyword as Name, machine_word, kind_word, input_word, output_word, tapes_word, states_word, sigma_word, gamma_word, blank_word, start_word, final_word, delta_word, keywords, string, numeral, choice, state, symbol, output as decoder, transition as ruled, item_of as item_by, item as item_at, Ending, line_feed, goes_by, remark, ending_of, last_place, finished, empty_line, line_from, covering}
+use Rattle.language.specs.Lines.{RawSymbol, raw_blank, RawTransition, Text, Item, machine_item, input_item, kind_item, output_item, tapes_item, states_item, final_item, input_alphabet_item, tape_alphabet_item, blank_item, start_item, transition_item, Line, item_line, error_line, state_in, symbol_in, number_in, word_in, kinds, outputs, Keyword as Name, machine_word, kind_word, input_word, output_word, tapes_word, states_word, sigma_word, gamma_word, blank_word, start_word, final_word, delta_word, keywords, string, numeral, choice, state, symbol, output as decoder, transition as ruled, item_of as item_by, item as item_at, Ending, line_feed, goes_by, remark, ending_of, last_place, finished, empty_line, line_from, covering}
 use Rattle.parser.specs.Row.{peek}
 use Rattle.parser.specs.Views.{is_kind, is_choice, is_state, is_symbol, keyword_of, lead_of}
 use Rattle.parser.specs.Lines.{Parsed, Done, Answer, one, set, output, no_parts, then, plain, value, transition, spanning, newline_at, finish, value_at, item_of, item_from, item, is_comment, line}
@@ -69,7 +70,7 @@ bind_bind (ok a r) f g = refl
 bind_bind (fail c p) f g = refl
 
 -- a token that a table of words takes is a word
-word_number : {A : Type 0} (l : List (Spelled A)) (k : TokenKind) (a : A) → word_in l k ≡ some a → kind_number k ≡ 0
+word_number : {A : Type 0} (l : List (List ℕ × A)) (k : TokenKind) (a : A) → word_in l k ≡ Some a → kind_number k ≡ 0
 unfolding word_in kind_number
 word_number l (word w) a e = refl
 word_number l (number w) a e = true_false (sym (ap is_some e))
@@ -83,9 +84,9 @@ word_number l unterminated_quote a e = true_false (sym (ap is_some e))
 
 -- the comment that ends a line's tokens
 abbrev pub note_of : Ending → Span → Option (Located Span (List ℕ))
-note_of line_feed p = none
-note_of goes_by p = none
-note_of (remark s) p = some (record { value = s; place = p })
+note_of line_feed p = None
+note_of goes_by p = None
+note_of (remark s) p = Some (record { value = s; place = p })
 
 -- a line over the row means a line of the language
 pub record Means (ts : List (Token Span)) (x : Answer) (y : Line Span) : Type 0 where
@@ -255,7 +256,7 @@ module _ (ts : List (Token Span)) (junk : List Words) (z : Token Span) (more : L
         (λ v l f r a here e o. ap machine_item (text_means v l f r a here e o)) (λ x p. subst (λ (y : ItemKind). CountedAs ts y x) (sym p) tt)
     item_of-means kind_word w =
         bare-means KindOf (One (word_in kinds)) once (λ v. one (is_choice 0x110010 0x110013) ws v) (choice z.place kinds) (λ a. kind_item a.value) (kind_fits ts junk z more ends)
-        (λ v l f r a here e o. ap (λ (x : Located Span Kind). kind_item x.value) (located-at ts junk z more ends (word_in kinds) transducer v l f r a here e o)) (λ x p. subst (λ (y : ItemKind). CountedAs ts y x) (sym p) tt)
+        (λ v l f r a here e o. ap (λ (x : Located Span Kind). kind_item x.value) (located-at ts junk z more ends (word_in kinds) Transducer v l f r a here e o)) (λ x p. subst (λ (y : ItemKind). CountedAs ts y x) (sym p) tt)
     item_of-means input_word w =
         bare-means Input Texts once (λ v. one (is_kind 3) ws v) (string z.place) input_item (string_fits ts junk z more ends)
         (λ v l f r a here e o. ap input_item (text_means v l f r a here e o)) (λ x p. subst (λ (y : ItemKind). CountedAs ts y x) (sym p) tt)
@@ -296,10 +297,10 @@ module _ (ts : List (Token Span)) (junk : List Words) (z : Token Span) (more : L
         (go (word_in keywords t₀.kind) refl)
       where
         go : (o : Option Name) → word_in keywords t₀.kind ≡ o → Means ts (item_from (start_of o) ws i₀) (finished whole note (bind (taken o unexpected t₀ l₀) λ n. item_by z.place n.value))
-        go none e =
+        go None e =
             rw (at_first ts junk z more i₀ t₀ l₀ row₀).1
             (record { same = ap (λ (c : ℕ). error_line c t₀.place) (code_view t₀.kind t₀.place t₀.inner); counted = tt })
-        go (some n) e = item_of-means n (word_number keywords t₀.kind n e)
+        go (Some n) e = item_of-means n (word_number keywords t₀.kind n e)
 
     row_means : Means ts (line ws i₀) (line_from covering (t₀ ∷ l₀) z.place note)
     unfolding line line_from is_comment token_of

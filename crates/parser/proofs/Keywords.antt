@@ -1,18 +1,20 @@
 -- The words with a meaning: the values of their tokens are those of the tables of the language.
-use Rattle.std.specs.Prelude.{None, Option as Optional, Some}
+use Rattle.std.specs.Prelude.{None, Option as Optional, Some, Option}
 use mathlib.Core.Path.{◌≡◌, refl, sym, ap, ◌∙◌}
 use Prim.Native.Nat.{ℕ, suc, ◌+◌}
 use native.Mathlib.Omega.{arith}
 use mathlib.Core.Bool.{Bool, true, false, cond}
 use mathlib.Core.List.{List, [], ◌∷◌}
-use mathlib.Core.Option.{Option, none, some}
 use lib.Dec.{eqb, leb, ltb}
 use lib.ListN.{length}
 use borrow.Author.Tests.{eqb-true, eqb-false, leb-true, leb-false, lt-ltb, le-ltb, le-leb, lt-leb}
 use Rattle.lexer.specs.Tokens.{TokenKind, word, number, quoted, str, sign, comment, newline, unterminated_string, unterminated_quote, Span}
 use Rattle.lexer.specs.Words.{kind_number, word_value, token_value, keyword, position}
-use Rattle.language.specs.Machine.{Kind, acceptor, transducer, enumerator, beaver, BitOrder, lsb, msb}
-use Rattle.language.specs.Lines.{Spelled, keywords, Keyword as Name, meaning_of, word_in, kinds, outputs, orders, OutputWord, word_output, unary_output, binary_output, machine_word, kind_word, input_word, output_word, tapes_word, states_word, sigma_word, gamma_word, blank_word, start_word, final_word, delta_word}
+use Rattle.machine.specs.declared.Kind.{Kind}
+use Rattle.machine.specs.declared.Kind.TheVariants.{Acceptor, Transducer, Enumerator, Beaver}
+use Rattle.machine.specs.declared.BitOrder.{BitOrder}
+use Rattle.machine.specs.declared.BitOrder.TheVariants.{Lsb, Msb}
+use Rattle.language.specs.Lines.{keywords, Keyword as Name, meaning_of, word_in, kinds, outputs, orders, OutputWord, word_output, unary_output, binary_output, machine_word, kind_word, input_word, output_word, tapes_word, states_word, sigma_word, gamma_word, blank_word, start_word, final_word, delta_word}
 use Rattle.language.proofs.Every.{by_test}
 use Rattle.parser.specs.Views.{Row as Start, row as start, is_choice, lookup, keyword_of}
 use Rattle.parser.specs.Meaning.{token_of, SoundAs}
@@ -38,11 +40,11 @@ in_range {A} n (a ∷ l) v =
     let e : v ≡ n = eqb-true v n y in
     let p : leb n v ≡ true = le-leb n v (omega arith) in
     let q : ltb v (n + suc (length l)) ≡ true = lt-ltb v (n + suc (length l)) (omega arith) in
-    ap (λ (b : Bool). is_some {A = A} (elim b [ true ↦ some a | false ↦ find (rows_from (suc n) l) v ])) y ∙ rw (p, q))
+    ap (λ (b : Bool). is_some {A = A} (elim b [ true ↦ Some a | false ↦ find (rows_from (suc n) l) v ])) y ∙ rw (p, q))
     (λ y.
     let e : v ≡ n → ⊥ = eqb-false v n y in
     let s : suc n + length l ≡ n + suc (length l) = omega arith in
-    ap (λ (b : Bool). is_some {A = A} (elim b [ true ↦ some a | false ↦ find (rows_from (suc n) l) v ])) y ∙ in_range (suc n) l v ∙
+    ap (λ (b : Bool). is_some {A = A} (elim b [ true ↦ Some a | false ↦ find (rows_from (suc n) l) v ])) y ∙ in_range (suc n) l v ∙
     by_test (leb n v)
     (λ z. let p : leb (suc n) v ≡ true = le-leb (suc n) v (omega (arith, leb-true n v z)) in rw (p, z, s))
     (λ z. let p : leb (suc n) v ≡ false = lt-leb (suc n) v (omega (arith, leb-false n v z)) in rw (p, z)))
@@ -55,7 +57,7 @@ codes_of_lem (c ∷ []) p s = s
 codes_of_lem (c ∷ d ∷ w) p s = tt
 
 -- a table whose meanings have the values from first to last
-sees_choice : {A : Type 0} (l : List (Spelled A)) (first last : ℕ) (r : List (Row A)) → ((w : List ℕ) → Codes w → find r (word_value w) ≡ meaning_of l w)
+sees_choice : {A : Type 0} (l : List (List ℕ × A)) (first last : ℕ) (r : List (Row A)) → ((w : List ℕ) → Codes w → find r (word_value w) ≡ meaning_of l w)
     → ((v : ℕ) → is_some (find r v) ≡ cond (leb first v) (leb v last) false) → Sees (is_choice first last) (word_in l)
 unfolding is_choice token_of kind_number token_value word_in
 sees_choice l first last r rule range (word w) p q s = sym (range (word_value w)) ∙ ap is_some (rule w (codes_of_lem w p s))
@@ -74,14 +76,14 @@ below_next : (v n : ℕ) → ltb v (suc n) ≡ leb v n
 below_next v n = by_test (leb v n) (λ y. lt-ltb v (suc n) (omega (arith, leb-true v n y)) ∙ sym y) (λ y. le-ltb v (suc n) (omega (arith, leb-false v n y)) ∙ sym y)
 
 abbrev kind_rows : List (Row Kind)
-kind_rows = rows_from 0x110010 (acceptor ∷ transducer ∷ enumerator ∷ beaver ∷ [])
+kind_rows = rows_from 0x110010 (Acceptor ∷ Transducer ∷ Enumerator ∷ Beaver ∷ [])
 
 kind-rule : (w : List ℕ) → Codes w → find kind_rows (word_value w) ≡ meaning_of kinds w
 unfolding find word_value keyword position meaning_of known member valued
 kind-rule = table_rule kinds kind_rows refl refl refl refl
 
 pub sees_kind : Sees (is_choice 0x110010 0x110013) (word_in kinds)
-sees_kind = sees_choice kinds 0x110010 0x110013 kind_rows kind-rule (λ v. in_range 0x110010 (acceptor ∷ transducer ∷ enumerator ∷ beaver ∷ []) v ∙ ap (λ (b : Bool). cond (leb 0x110010 v) b false) (below_next v 0x110013))
+sees_kind = sees_choice kinds 0x110010 0x110013 kind_rows kind-rule (λ v. in_range 0x110010 (Acceptor ∷ Transducer ∷ Enumerator ∷ Beaver ∷ []) v ∙ ap (λ (b : Bool). cond (leb 0x110010 v) b false) (below_next v 0x110013))
 
 abbrev pub output_rows : List (Row OutputWord)
 output_rows = rows_from 0x110014 (word_output ∷ unary_output ∷ binary_output ∷ [])
@@ -94,14 +96,14 @@ pub sees_output : Sees (is_choice 0x110014 0x110016) (word_in outputs)
 sees_output = sees_choice outputs 0x110014 0x110016 output_rows output-rule (λ v. in_range 0x110014 (word_output ∷ unary_output ∷ binary_output ∷ []) v ∙ ap (λ (b : Bool). cond (leb 0x110014 v) b false) (below_next v 0x110016))
 
 abbrev order_rows : List (Row BitOrder)
-order_rows = rows_from 0x110017 (lsb ∷ msb ∷ [])
+order_rows = rows_from 0x110017 (Lsb ∷ Msb ∷ [])
 
 order_rule : (w : List ℕ) → Codes w → find order_rows (word_value w) ≡ meaning_of orders w
 unfolding find word_value keyword position meaning_of known member valued
 order_rule = table_rule orders order_rows refl refl refl refl
 
 pub sees_order : Sees (is_choice 0x110017 0x110018) (word_in orders)
-sees_order = sees_choice orders 0x110017 0x110018 order_rows order_rule (λ v. in_range 0x110017 (lsb ∷ msb ∷ []) v ∙ ap (λ (b : Bool). cond (leb 0x110017 v) b false) (below_next v 0x110018))
+sees_order = sees_choice orders 0x110017 0x110018 order_rows order_rule (λ v. in_range 0x110017 (Lsb ∷ Msb ∷ []) v ∙ ap (λ (b : Bool). cond (leb 0x110017 v) b false) (below_next v 0x110018))
 
 -- ---- the word that starts an item
 abbrev pub kind_of : Name → ItemKind
@@ -119,8 +121,8 @@ kind_of final_word = Final
 kind_of delta_word = Transition
 
 abbrev pub start_of : Option Name → Optional ItemKind
-start_of none = None
-start_of (some k) = Some (kind_of k)
+start_of None = None
+start_of (Some k) = Some (kind_of k)
 
 abbrev start_rows : List (Row Name)
 start_rows =
@@ -141,8 +143,8 @@ unfolding lookup find
 lookup-found [] v = refl
 lookup-found (row n k ∷ r) v =
     by_test (eqb v n)
-    (λ y. rw y (ap (λ (b : Bool). start_of (elim b [ true ↦ some k | false ↦ find r v ])) (sym y)))
-    (λ y. rw y (lookup-found r v ∙ ap (λ (b : Bool). start_of (elim b [ true ↦ some k | false ↦ find r v ])) (sym y)))
+    (λ y. rw y (ap (λ (b : Bool). start_of (elim b [ true ↦ Some k | false ↦ find r v ])) (sym y)))
+    (λ y. rw y (lookup-found r v ∙ ap (λ (b : Bool). start_of (elim b [ true ↦ Some k | false ↦ find r v ])) (sym y)))
 
 pub keyword_view : (k : TokenKind) (p q : Span) → SoundAs k p → keyword_of (token_of (tok k p q)) ≡ start_of (word_in keywords k)
 unfolding keyword_of token_of kind_number token_value word_in

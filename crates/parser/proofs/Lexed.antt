@@ -1,4 +1,5 @@
--- The tokens of every text are what the lines ask for: a line feed ends them and follows each comment, words are code points, numbers as long as their digits.
+-- The tokens of every text are what the lines ask for: a line feed ends them and follows each comment, words are code
+-- points, numbers as long as their digits.
 use mathlib.Core.Path.{◌≡◌, refl, sym, ap, subst, ◌∙◌}
 use Prim.Native.Nat.{ℕ, zero, suc, ◌+◌, ◌-◌, ◌≤◌, ◌<◌}
 use native.Mathlib.Omega.{arith}

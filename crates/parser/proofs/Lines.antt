@@ -1,4 +1,5 @@
--- The lines over the row mean the lines of the language: a line's tokens end where the row's line ends, and each line means what it says.
+-- The lines over the row mean the lines of the language: a line's tokens end where the row's
+-- line ends, and each line means what it says.
 use mathlib.Core.Path.{◌≡◌, refl, sym, ap, subst, ◌∙◌}
 use Prim.Native.Nat.{ℕ, zero, suc, ◌+◌, ◌≤◌, ◌<◌}
 use native.Mathlib.Omega.{arith}
@@ -19,7 +20,8 @@ use Rattle.tokens.specs.declared.Token.{Token as Words}
 use Rattle.parser.proofs.Simulates.{Stops, Goes}
 use Rattle.parser.proofs.ItemLines.{goes_kind, feed_kind, note_of, Means, line_means_lem}
 
--- the first line of some tokens: its own tokens, what ends them, and the tokens of the other lines, `next` further than its line feed
+-- the first line of some tokens: its own tokens, what ends them, and the tokens of the other
+-- lines, `next` further than its line feed
 record Cut (l : List (Token Span)) (junk : List Words) : Type 0 where
   body : List (Token Span)
   z : Token Span

@@ -4,13 +4,15 @@ use Prim.Native.Nat.{ℕ, ◌+◌}
 use native.Mathlib.Omega.{arith}
 use mathlib.Core.Bool.{Bool, true, false, cond}
 use mathlib.Core.List.{List, [], ◌∷◌, ◌++◌}
-use mathlib.Core.Option.{none, some}
+use Rattle.std.specs.Prelude.{None, Some}
 use lib.Dec.{eqb}
 use lib.ListN.{length}
 use borrow.Author.Tests.{eqb-true}
 use Rattle.lexer.specs.Tokens.{TokenKind, word, number, quoted, str, sign, comment, newline, unterminated_string, unterminated_quote, Span, Token}
 use Rattle.lexer.specs.Words.{word_value, token_value}
-use Rattle.language.specs.Machine.{Located, BitOrder, lsb}
+use Rattle.machine.specs.declared.BitOrder.{BitOrder}
+use Rattle.machine.specs.declared.BitOrder.TheVariants.{Lsb}
+use Rattle.language.specs.Machine.{Located}
 use Rattle.language.specs.Parser.{◌>>=◌}
 use Rattle.language.specs.Parser.{then as bind}
 use Rattle.language.specs.Lines.{RawSymbol, raw_blank, RawDecoder, raw_word, raw_unary, raw_binary, symbol_in, word_in, outputs, orders, OutputWord, word_output, unary_output, binary_output, choice, symbol, output as decoder}
@@ -32,19 +34,19 @@ value_of word_output = 0x110014
 value_of unary_output = 0x110015
 value_of binary_output = 0x110016
 
-output-value : (v : ℕ) (o : OutputWord) → find output_rows v ≡ some o → v ≡ value_of o
+output-value : (v : ℕ) (o : OutputWord) → find output_rows v ≡ Some o → v ≡ value_of o
 unfolding find
 output-value v o e = go (eqb v 0x110014) (eqb v 0x110015) (eqb v 0x110016) refl refl refl e
   where
     go : (a b c : Bool) → eqb v 0x110014 ≡ a → eqb v 0x110015 ≡ b → eqb v 0x110016 ≡ c
-        → elim a [ true ↦ some word_output | false ↦ elim b [ true ↦ some unary_output | false ↦ elim c [ true ↦ some binary_output | false ↦ none ] ] ] ≡ some o → v ≡ value_of o
+        → elim a [ true ↦ Some word_output | false ↦ elim b [ true ↦ Some unary_output | false ↦ elim c [ true ↦ Some binary_output | false ↦ None ] ] ] ≡ Some o → v ≡ value_of o
     go true b c p q r h = let s : word_output ≡ o = cc in eqb-true v 0x110014 p ∙ ap value_of s
     go false true c p q r h = let s : unary_output ≡ o = cc in eqb-true v 0x110015 q ∙ ap value_of s
     go false false true p q r h = let s : binary_output ≡ o = cc in eqb-true v 0x110016 r ∙ ap value_of s
     go false false false p q r h = true_false (sym (ap is_some h))
 
 -- a token that says an output's word has its value
-taken-value : (k : TokenKind) (p q : Span) (o : OutputWord) → SoundAs k p → word_in outputs k ≡ some o → token_value (record { kind = k; place = p; inner = q }) ≡ value_of o
+taken-value : (k : TokenKind) (p q : Span) (o : OutputWord) → SoundAs k p → word_in outputs k ≡ Some o → token_value (record { kind = k; place = p; inner = q }) ≡ value_of o
 unfolding word_in token_value
 taken-value (word w) p q o s e = output-value (word_value w) o (output-rule w (codes_of_lem w p s) ∙ e)
 taken-value (number w) p q o s e = true_false (sym (ap is_some e))
@@ -71,7 +73,7 @@ module _ (ts : List (Token Span)) (junk : List Words) (z : Token Span) (more : L
   abbrev decoded : OutputWord → ℕ → RawDecoder
   decoded word_output j = raw_word
   decoded unary_output j = raw_unary (located symbol_in raw_blank (at ts j)).value
-  decoded binary_output j = raw_binary (located (word_in orders) lsb (at ts j)).value
+  decoded binary_output j = raw_binary (located (word_in orders) Lsb (at ts j)).value
 
   rest_fits : (o : OutputWord) (j : ℕ) (l : List (Token Span)) → Here j l → Fits j l (λ f d. d ≡ decoded o j) once (rest (value_of o) j) (decoder z.place o l)
   unfolding decoder ◌>>=◌
@@ -82,7 +84,7 @@ module _ (ts : List (Token Span)) (junk : List Words) (z : Token Span) (more : L
       (one is_symbol ws j) (symbol z.place l) (symbol_fits ts junk z more ends j l here)
   rest_fits binary_output j l here =
       map_fits ts junk z more ends (One (word_in orders)) once (λ f d. d ≡ decoded binary_output j) once j l (λ s. raw_binary s.value)
-      (λ f r s e o. ap (λ (x : Located Span BitOrder). raw_binary x.value) (located-at ts junk z more ends (word_in orders) lsb j l f r s here e o)) (λ s. refl)
+      (λ f r s e o. ap (λ (x : Located Span BitOrder). raw_binary x.value) (located-at ts junk z more ends (word_in orders) Lsb j l f r s here e o)) (λ s. refl)
       (one (is_choice 0x110017 0x110018) ws j) (choice z.place orders l) (order_fits ts junk z more ends j l here)
 
   pub decoder_fits : (i : ℕ) (l : List (Token Span)) → Here i l → Fits i l (λ f d. d ≡ decoder_at ts i) once (output ws i) (bind (choice z.place outputs l) λ w. decoder z.place w.value)
@@ -103,7 +105,7 @@ module _ (ts : List (Token Span)) (junk : List Words) (z : Token Span) (more : L
       (rest (value_of w.value) (i + length f)) (decoder z.place w.value r) (rest_fits w.value (i + length f) r at₁))
     where
       same : (o x : OutputWord) → x ≡ o
-          → decoded o (i + 1) ≡ elim x [ word_output ↦ raw_word | unary_output ↦ raw_unary (located symbol_in raw_blank (at ts (i + 1))).value | binary_output ↦ raw_binary (located (word_in orders) lsb (at ts (i + 1))).value ]
+          → decoded o (i + 1) ≡ elim x [ word_output ↦ raw_word | unary_output ↦ raw_unary (located symbol_in raw_blank (at ts (i + 1))).value | binary_output ↦ raw_binary (located (word_in orders) Lsb (at ts (i + 1))).value ]
       same o word_output e = ap (λ (x : OutputWord). decoded x (i + 1)) (sym e)
       same o unary_output e = ap (λ (x : OutputWord). decoded x (i + 1)) (sym e)
       same o binary_output e = ap (λ (x : OutputWord). decoded x (i + 1)) (sym e)

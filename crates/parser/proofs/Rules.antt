@@ -185,7 +185,7 @@ module _ (w : List ℕ) (i v : ℕ) (inv : line_end (tokens_in w) i ≡ v) (t : 
     pub end_fits : length w < 2 ^ 64 → Fits w64 (i + 1)
     end_fits g = next_fits w i end-inside g
 
--- the same, said of the row
+-- where the line ends, said of the row of words
 module _ (w : List ℕ) (i : ℕ) where
   pub line_here : (peek (tokens_in w) i).kind ≡ 13 → i ≡ line_end (tokens_in w) i
   line_here f = end_here w i (line_end (tokens_in w) i) refl (peek (tokens_in w) i) refl f

@@ -1,14 +1,14 @@
--- Each parser over the row does what the language's parser does on the tokens from the index on, up to what ends the line's tokens.
+-- Each parser over the row does what the language's parser does on the tokens from the
+-- index on, up to what ends the line's tokens.
 use Rattle.diag.specs.declared.Code.{Code}
 use Rattle.diag.specs.declared.Code.TheVariants.{NoDirection}
-use Rattle.std.specs.Prelude.{Err}
+use Rattle.std.specs.Prelude.{Err, Option, None, Some}
 use mathlib.Core.Path.{◌≡◌, refl, sym, ap, subst, ◌∙◌}
 use Prim.Native.Nat.{ℕ, zero, suc, ◌+◌, ◌-◌, ◌≤◌, ◌<◌}
 use native.Mathlib.Omega.{arith}
 use mathlib.Core.Bool.{Bool, true, false, cond}
 use mathlib.Core.Logic.{◌⊎◌, inl, inr}
 use mathlib.Core.List.{List, [], ◌∷◌, ◌++◌, map, append_assoc}
-use mathlib.Core.Option.{Option, none, some}
 use lib.Dec.{eqb}
 use borrow.Author.Tests.{eqb-true}
 use lib.ListN.{length, get_or, take, drop, length-append, length-drop, length-map, get_or-append, get_or-map}
@@ -32,7 +32,8 @@ use Rattle.parser.proofs.Views.{is_some, tok, Names, names-comma, names_l_paren,
 abbrev pub Stops : TokenKind → Type 0
 Stops k = (k ≡ newline) ⊎ ((s : List ℕ) × (k ≡ comment s))
 
--- a parser's answer over the row from the index i on, and one on the tokens l: `Means front value` is what a value says of the tokens that it took
+-- a parser's answer over the row from the index i on, and one on the tokens l: `Means front value` is
+-- what a value says of the tokens that it took
 abbrev pub Fits : {A : Type 0} → ℕ → List (Token Span) → (List (Token Span) → A → Type 0) → (A → ℕ) → Parsed ℕ → Result Span A → Type 0
 Fits i l Means count (Done j n) (ok a r) = (f : List (Token Span)) × (l ≡ f ++ r) × (j ≡ i + length f) × (n ≡ count a) × Means f a
 Fits i l Means count (Done j n) (fail c p) = ⊥
@@ -46,12 +47,12 @@ pub record Tests (p : List Words → ℕ → Parsed ℕ) (f : Words → Bool) (c
 
 -- a view that takes nothing that ends a line's tokens, with the code there
 pub record Quiet {A : Type 0} (view : TokenKind → Option A) (bad : TokenKind → ℕ) : Type 0 where
-  pub at_newline : view newline ≡ none
-  pub at-comment : (s : List ℕ) → view (comment s) ≡ none
+  pub at_newline : view newline ≡ None
+  pub at-comment : (s : List ℕ) → view (comment s) ≡ None
   pub bad_newline : bad newline ≡ 1
   pub bad_comment : (s : List ℕ) → bad (comment s) ≡ 1
 
-quiet_view : {A : Type 0} (view : TokenKind → Option A) (bad : TokenKind → ℕ) → Quiet view bad → (k : TokenKind) → Stops k → (view k ≡ none) × (bad k ≡ 1)
+quiet_view : {A : Type 0} (view : TokenKind → Option A) (bad : TokenKind → ℕ) → Quiet view bad → (k : TokenKind) → Stops k → (view k ≡ None) × (bad k ≡ 1)
 quiet_view view bad q k (inl e) = (ap view e ∙ q.at_newline, ap bad e ∙ q.bad_newline)
 quiet_view view bad q k (inr (s, e)) = (ap view e ∙ q.at-comment s, ap bad e ∙ q.bad_comment s)
 
@@ -64,7 +65,7 @@ stop_sound k p (inr (s, e)) = subst (λ (x : TokenKind). SoundAs x p) (sym e) tt
 pub record One {A : Type 0} (view : TokenKind → Option A) (f : List (Token Span)) (a : Located Span A) : Type 0 where
   pub taker : Token Span
   pub front : f ≡ taker ∷ []
-  pub says : view taker.kind ≡ some a.value
+  pub says : view taker.kind ≡ Some a.value
   pub there : taker.place ≡ a.place
 
 abbrev pub once : {A : Type 0} → A → ℕ
@@ -90,9 +91,9 @@ quiet_sign c = record { at_newline = refl; at-comment = λ s. refl; bad_newline 
 
 -- ---- behind an entry
 picked : Bool → Bool → Option Bool
-picked true b = some true
-picked false true = some false
-picked false false = none
+picked true b = Some true
+picked false true = Some false
+picked false false = None
 
 goes_on_lem : (c : ℕ) (k : TokenKind) → goes_on c k ≡ picked (is_some (is_sign 0x2C k)) (is_some (is_sign c k))
 unfolding goes_on is_sign sign_in picked
@@ -102,7 +103,7 @@ goes_on_lem c (quoted d) = refl
 goes_on_lem c (str t) = refl
 goes_on_lem c (sign d) = go (eqb d 0x2C) (eqb d c)
   where
-    go : (a b : Bool) → elim a [ true ↦ some true | false ↦ when b false ] ≡ picked (is_some {A = Bool} (when a true)) (is_some {A = Bool} (when b true))
+    go : (a b : Bool) → elim a [ true ↦ Some true | false ↦ when b false ] ≡ picked (is_some {A = Bool} (when a true)) (is_some {A = Bool} (when b true))
     go true b = refl
     go false true = refl
     go false false = refl
@@ -111,7 +112,7 @@ goes_on_lem c newline = refl
 goes_on_lem c unterminated_string = refl
 goes_on_lem c unterminated_quote = refl
 
-none-some : {A : Type 0} {X : Type 0} (a : A) → none ≡ some a → X
+none-some : {A : Type 0} {X : Type 0} (a : A) → None ≡ Some a → X
 none-some a e = true_false (sym (ap is_some e))
 
 pub is_sign_lem : (c : ℕ) (k : TokenKind) → is_some (is_sign c k) ≡ true → k ≡ sign c
@@ -126,20 +127,20 @@ is_sign_lem c newline e = true_false (sym e)
 is_sign_lem c unterminated_string e = true_false (sym e)
 is_sign_lem c unterminated_quote e = true_false (sym e)
 
-goes_comma : (c : ℕ) (k : TokenKind) → goes_on c k ≡ some true → k ≡ sign 0x2C
+goes_comma : (c : ℕ) (k : TokenKind) → goes_on c k ≡ Some true → k ≡ sign 0x2C
 unfolding picked
 goes_comma c k e = go (is_some (is_sign 0x2C k)) (is_some (is_sign c k)) refl (sym (goes_on_lem c k) ∙ e)
   where
-    go : (a b : Bool) → is_some (is_sign 0x2C k) ≡ a → picked a b ≡ some true → k ≡ sign 0x2C
+    go : (a b : Bool) → is_some (is_sign 0x2C k) ≡ a → picked a b ≡ Some true → k ≡ sign 0x2C
     go true b h q = is_sign_lem 0x2C k h
     go false true h q = true_false (sym (let z : false ≡ true = cc in z))
     go false false h q = none-some true q
 
-goes_close : (c : ℕ) (k : TokenKind) → goes_on c k ≡ some false → k ≡ sign c
+goes_close : (c : ℕ) (k : TokenKind) → goes_on c k ≡ Some false → k ≡ sign c
 unfolding picked
 goes_close c k e = go (is_some (is_sign 0x2C k)) (is_some (is_sign c k)) refl (sym (goes_on_lem c k) ∙ e)
   where
-    go : (a b : Bool) → is_some (is_sign c k) ≡ b → picked a b ≡ some false → k ≡ sign c
+    go : (a b : Bool) → is_some (is_sign c k) ≡ b → picked a b ≡ Some false → k ≡ sign c
     go true b h q = true_false (let z : true ≡ false = cc in z)
     go false true h q = is_sign_lem c k h
     go false false h q = none-some false q
@@ -216,8 +217,8 @@ module _ (ts : List (Token Span)) (junk : List Words) (z : Token Span) (more : L
           subst (λ (x : Parsed ℕ). Fits i (t ∷ r) (One view) once x (taken (view t.kind) bad t r)) (sym (answer i t (at_first i t r a).1 a.sound.0)) (go (view t.kind) refl)
         where
           go : (o : Option A) → view t.kind ≡ o → Fits i (t ∷ r) (One view) once (cond (is_some o) (Done (i + 1) 1) (Failed (code (token_of t)) (span_of (token_of t)))) (taken o bad t r)
-          go none e = (codes t.kind t.place t.inner, refl)
-          go (some v) e = (t ∷ [], refl, refl, refl, record { taker = t; front = refl; says = e; there = refl })
+          go None e = (codes t.kind t.place t.inner, refl)
+          go (Some v) e = (t ∷ [], refl, refl, refl, record { taker = t; front = refl; says = e; there = refl })
 
     -- ---- behind an entry
     abbrev pub follows : Located Span Bool → ℕ
@@ -251,14 +252,15 @@ module _ (ts : List (Token Span)) (junk : List Words) (z : Token Span) (more : L
         where
           go : (a b : Bool) (o : Option Bool) → goes_on c t.kind ≡ o → o ≡ picked a b
               → Fits i (t ∷ r) (One (goes_on c)) follows (cond a (Done (i + 1) 1) (cond b (Done (i + 1) 0) (Failed (code_of (token_of t)) (span_of (token_of t))))) (taken o unexpected t r)
-          go true b none e q = none-some true q
-          go true b (some v) e q = (t ∷ [], refl, refl, (let h : v ≡ true = cc in rw h), record { taker = t; front = refl; says = e; there = refl })
-          go false true none e q = none-some false q
-          go false true (some v) e q = (t ∷ [], refl, refl, (let h : v ≡ false = cc in rw h), record { taker = t; front = refl; says = e; there = refl })
-          go false false none e q = (code_view t.kind t.place t.inner, refl)
-          go false false (some v) e q = none-some v (sym q)
+          go true b None e q = none-some true q
+          go true b (Some v) e q = (t ∷ [], refl, refl, (let h : v ≡ true = cc in rw h), record { taker = t; front = refl; says = e; there = refl })
+          go false true None e q = none-some false q
+          go false true (Some v) e q = (t ∷ [], refl, refl, (let h : v ≡ false = cc in rw h), record { taker = t; front = refl; says = e; there = refl })
+          go false false None e q = (code_view t.kind t.place t.inner, refl)
+          go false false (Some v) e q = none-some v (sym q)
 
-    -- ---- entries: R reads them off the tokens, `push` puts one in front of what is read behind it, and Rc is what is read behind the closing sign
+    -- ---- entries: R reads them off the tokens, `push` puts one in front of what is read behind it, and
+    -- Rc is what is read behind the closing sign
     module _ {A X : Type 0} (p : List Words → ℕ → Parsed ℕ) (steps : Steps p) (P : Parser Span A) (E : List (Token Span) → A → Type 0)
         (fits : (i : ℕ) (l : List (Token Span)) → At i l → Fits i l E once (p row i) (P l)) (stopped : P [] ≡ fail 1 z.place)
         (c close : ℕ) (low : close < 13) (names : Names c close) (R Rc : List (Token Span) → X) (push : A → X → X)
@@ -290,7 +292,7 @@ module _ (ts : List (Token Span)) (junk : List Words) (z : Token Span) (more : L
                 omega arith,
                 λ g.
                     ap R (append_assoc f (f₂ ++ f₃) g) ∙ pushed f ((f₂ ++ f₃) ++ g) a E₁ ∙
-                    ap (push a) (ap (λ (x : List (Token Span)). R ((x ++ f₃) ++ g)) o.front ∙ comma o.taker (f₃ ++ g) (goes_comma c o.taker.kind (o.says ∙ ap some w)) ∙ L g),
+                    ap (push a) (ap (λ (x : List (Token Span)). R ((x ++ f₃) ++ g)) o.front ∙ comma o.taker (f₃ ++ g) (goes_comma c o.taker.kind (o.says ∙ ap Some w)) ∙ L g),
               )
 
               third : (v : Bool) → b.value ≡ v → Fits i l Listing (λ b. n + length b) (elim (eqb m 0) [ true ↦ Done j (n + 1) | false ↦ go j (n + 1) ]) (go_on v rest a r₂)
@@ -308,7 +310,7 @@ module _ (ts : List (Token Span)) (junk : List Words) (z : Token Span) (more : L
                     refl,
                     λ g.
                         ap R (append_assoc f f₂ g) ∙ pushed f (f₂ ++ g) a E₁ ∙
-                        ap (push a) (ap (λ (x : List (Token Span)). R (x ++ g)) o.front ∙ closing o.taker g (goes_close c o.taker.kind (o.says ∙ ap some w))),
+                        ap (push a) (ap (λ (x : List (Token Span)). R (x ++ g)) o.front ∙ closing o.taker g (goes_close c o.taker.kind (o.says ∙ ap Some w))),
                   )
 
           second : (f r : List (Token Span)) (a : A) (j : ℕ) → l ≡ f ++ r → E f a → j ≡ i + length f → 1 ≤ length f → At j r → (x : Parsed ℕ) (y : Result Span (Located Span Bool))
@@ -413,8 +415,8 @@ module _ (ts : List (Token Span)) (junk : List Words) (z : Token Span) (more : L
         shifted (Done j m) (ok a r₂) (f, e, q, n, w) = (t ∷ f, ap (λ (x : List (Token Span)). t ∷ x) e, omega arith, n, w)
 
         go : (o : Option Bool) → is_sign c t.kind ≡ o → Fits i (t ∷ r) M count (cond (is_some o) X Y) (branch o inner other t r)
-        go none e = h₂
-        go (some b) e = shifted X (inner r) (h₁ t r refl (is_sign_lem c t.kind (ap is_some e)) (at-behind i (t ∷ r) (t ∷ []) r here refl))
+        go None e = h₂
+        go (Some b) e = shifted X (inner r) (h₁ t r refl (is_sign_lem c t.kind (ap is_some e)) (at-behind i (t ∷ r) (t ∷ []) r here refl))
 
     -- a value that says more of its tokens
     pub weaken_fits : {A : Type 0} (M M' : List (Token Span) → A → Type 0) (count : A → ℕ) (i : ℕ) (l : List (Token Span)) → ((f : List (Token Span)) (a : A) → M f a → M' f a)

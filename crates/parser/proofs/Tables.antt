@@ -4,12 +4,12 @@ use Prim.Native.Nat.{ℕ, suc, ◌+◌, ◌<◌}
 use native.Mathlib.Omega.{arith}
 use mathlib.Core.Bool.{Bool, true, false, ◌&&◌, ◌||◌}
 use mathlib.Core.List.{List, [], ◌∷◌, map}
-use mathlib.Core.Option.{Option, none, some}
+use Rattle.std.specs.Prelude.{Option, None, Some}
 use lib.Dec.{eqb, leb}
 use borrow.Author.Tests.{eqb-true, leb-true}
 use Rattle.lexer.specs.Text.{same}
 use Rattle.lexer.specs.Words.{keywords, position, keyword, word_value}
-use Rattle.language.specs.Lines.{Spelled, meaning_of}
+use Rattle.language.specs.Lines.{meaning_of}
 use Rattle.language.proofs.Every.{by_test, and_left, and_right}
 use Rattle.language.proofs.InferAgain.{same-eq}
 
@@ -47,27 +47,27 @@ no_position_lem n (k ∷ ks) w e =
     ap (λ (b : Bool). elim b [ true ↦ n | false ↦ position (suc n) ks w ]) a ∙ no_position_lem (suc n) ks w (or_right (same k w) (member ks w) e)
 
 -- each word of a table is a keyword
-unfoldable pub known : {A : Type 0} → List (Spelled A) → Bool
+unfoldable pub known : {A : Type 0} → List (List ℕ × A) → Bool
 unfolding member
 known [] = true
-known (x ∷ l) = member keywords x.spelling && known l
+known (x ∷ l) = member keywords x.0 && known l
 
-no_meaning : {A : Type 0} (l : List (Spelled A)) (w : List ℕ) → known l ≡ true → member keywords w ≡ false → meaning_of l w ≡ none
+no_meaning : {A : Type 0} (l : List (List ℕ × A)) (w : List ℕ) → known l ≡ true → member keywords w ≡ false → meaning_of l w ≡ None
 unfolding meaning_of known
 no_meaning [] w k e = refl
 no_meaning (x ∷ l) w k e =
-    let m : member keywords x.spelling ≡ true = and_left (member keywords x.spelling) (known l) k in
-    by_test (same x.spelling w)
-    (λ y. true_false (sym m ∙ ap (λ (v : List ℕ). member keywords v) (same-eq x.spelling w y) ∙ e))
-    (λ n. ap (λ (b : Bool). elim b [ true ↦ some x.meaning | false ↦ meaning_of l w ]) n ∙ no_meaning l w (and_right (member keywords x.spelling) (known l) k) e)
+    let m : member keywords x.0 ≡ true = and_left (member keywords x.0) (known l) k in
+    by_test (same x.0 w)
+    (λ y. true_false (sym m ∙ ap (λ (v : List ℕ). member keywords v) (same-eq x.0 w y) ∙ e))
+    (λ n. ap (λ (b : Bool). elim b [ true ↦ Some x.1 | false ↦ meaning_of l w ]) n ∙ no_meaning l w (and_right (member keywords x.0) (known l) k) e)
 
 -- a value and what it means
 pub data Row (A : Type 0) : Type 0 where
   row : ℕ → A → Row A
 
 unfoldable pub find : {A : Type 0} → List (Row A) → ℕ → Option A
-find [] v = none
-find (row n a ∷ r) v = elim (eqb v n) [ true ↦ some a | false ↦ find r v ]
+find [] v = None
+find (row n a ∷ r) v = elim (eqb v n) [ true ↦ Some a | false ↦ find r v ]
 
 -- each value is that of a keyword of one character, or of a longer word
 unfoldable pub valued : {A : Type 0} → List (Row A) → Bool
@@ -75,7 +75,7 @@ unfolding member
 valued [] = true
 valued (row n a ∷ r) = (leb 0x110000 n || member keywords (n ∷ [])) && valued r
 
-no_row : {A : Type 0} (r : List (Row A)) (c : ℕ) → valued r ≡ true → c < 0x110000 → member keywords (c ∷ []) ≡ false → find r c ≡ none
+no_row : {A : Type 0} (r : List (Row A)) (c : ℕ) → valued r ≡ true → c < 0x110000 → member keywords (c ∷ []) ≡ false → find r c ≡ None
 unfolding find valued
 no_row [] c v h e = refl
 no_row (row n a ∷ r) c v h e =
@@ -86,7 +86,7 @@ no_row (row n a ∷ r) c v h e =
     by_test (leb 0x110000 n)
     (λ l. absurd (omega (arith, leb-true 0x110000 n l)))
     (λ l. true_false (sym (subst (λ (b : Bool). (b || member keywords (n ∷ [])) ≡ true) l m) ∙ ap (λ (x : ℕ). member keywords (x ∷ [])) (sym q) ∙ e)))
-    (λ n'. ap (λ (b : Bool). elim b [ true ↦ some a | false ↦ find r c ]) n' ∙ no_row r c (and_right (leb 0x110000 n || member keywords (n ∷ [])) (valued r) v) h e)
+    (λ n'. ap (λ (b : Bool). elim b [ true ↦ Some a | false ↦ find r c ]) n' ∙ no_row r c (and_right (leb 0x110000 n || member keywords (n ∷ [])) (valued r) v) h e)
 
 -- a word of one character is a code point
 abbrev pub Codes : List ℕ → Type 0
@@ -95,12 +95,12 @@ Codes (c ∷ []) = c < 0x110000
 Codes (c ∷ d ∷ w) = Unit {0}
 
 -- the rule: tested over the keywords, and at the value of every other long word
-pub table_rule : {A : Type 0} (l : List (Spelled A)) (r : List (Row A)) → map (λ w. find r (word_value w)) keywords ≡ map (meaning_of l) keywords
-    → known l ≡ true → valued r ≡ true → find r 0x110000 ≡ none → (w : List ℕ) → Codes w → find r (word_value w) ≡ meaning_of l w
+pub table_rule : {A : Type 0} (l : List (List ℕ × A)) (r : List (Row A)) → map (λ w. find r (word_value w)) keywords ≡ map (meaning_of l) keywords
+    → known l ≡ true → valued r ≡ true → find r 0x110000 ≡ None → (w : List ℕ) → Codes w → find r (word_value w) ≡ meaning_of l w
 unfolding word_value keyword
 table_rule l r test k v z w c = by_test (member keywords w) (at-member (λ w. find r (word_value w)) (meaning_of l) keywords w test) (λ e. go w c e ∙ sym (no_meaning l w k e))
   where
-    go : (w : List ℕ) → Codes w → member keywords w ≡ false → find r (word_value w) ≡ none
+    go : (w : List ℕ) → Codes w → member keywords w ≡ false → find r (word_value w) ≡ None
     go [] c e = z
     go (c ∷ []) h e = no_row r c v h e
     go (c ∷ d ∷ w) h e = ap (λ (n : ℕ). find r (0x110000 + n)) (no_position_lem 1 keywords (c ∷ d ∷ w) e) ∙ z

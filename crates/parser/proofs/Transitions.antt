@@ -1,11 +1,10 @@
 -- A rule over the row is the language's, and its parts say where its lists stand and how long they are.
-use Rattle.std.specs.Prelude.{Err}
+use Rattle.std.specs.Prelude.{Err, Option, None}
 use mathlib.Core.Path.{◌≡◌, refl, sym, ap, subst, ◌∙◌}
 use Prim.Native.Nat.{ℕ, ◌+◌}
 use native.Mathlib.Omega.{arith}
 use mathlib.Core.Bool.{Bool, true, false}
 use mathlib.Core.List.{List, [], ◌∷◌, ◌++◌, append-nil, append_assoc}
-use mathlib.Core.Option.{Option, none}
 use lib.ListN.{length, length-append}
 use Rattle.lexer.specs.Tokens.{TokenKind, sign, Span, Token}
 use Rattle.language.specs.Machine.{Located}
@@ -106,18 +105,18 @@ module _ (ts : List (Token Span)) (junk : List Words) (z : Token Span) (more : L
       sym (ap (λ (k : ℕ). R (between ts i k)) q ∙ ap R (at-between ts junk z more i l (f ++ g) r here e) ∙ reads g ∙ ap (λ (x : List B). v ++ x) nothing ∙ append-nil v)
 
   -- a sign of which a view says nothing
-  past_one : {A : Type 0} (view : TokenKind → Option A) (c : ℕ) (f : List (Token Span)) (a : Located Span Bool) → view (sign c) ≡ none → One (is_sign c) f a → seen view f ≡ []
+  past_one : {A : Type 0} (view : TokenKind → Option A) (c : ℕ) (f : List (Token Span)) (a : Located Span Bool) → view (sign c) ≡ None → One (is_sign c) f a → seen view f ≡ []
   unfolding seen
   past_one view c f a e o = ap (seen view) o.front ∙ seen_past view c e o.taker [] (is_sign_lem c o.taker.kind (ap is_some o.says))
 
   pub length-one : {A : Type 0} (view : TokenKind → Option A) (f : List (Token Span)) (a : Located Span A) → One view f a → length f ≡ 1
   length-one view f a o = ap length o.front
 
-  no_write : write_in (sign 0x2C) ≡ none
+  no_write : write_in (sign 0x2C) ≡ None
   unfolding write_in is_sign symbol_in bracket
   no_write = refl
 
-  no_direction : direction_in (sign 0x29) ≡ none
+  no_direction : direction_in (sign 0x29) ≡ None
   unfolding direction_in
   no_direction = refl
 

@@ -1,12 +1,11 @@
 -- The elements of an item over the row are those of the language, and their values are what is seen in their tokens.
 use Rattle.diag.specs.declared.Code.TheVariants.{NoDirection}
-use Rattle.std.specs.Prelude.{Err}
+use Rattle.std.specs.Prelude.{Err, Option, None, Some}
 use mathlib.Core.Path.{◌≡◌, refl, sym, ap, ◌∙◌}
 use Prim.Native.Nat.{ℕ, ◌+◌}
 use native.Mathlib.Omega.{arith}
 use mathlib.Core.Bool.{Bool, true, false, cond}
 use mathlib.Core.List.{List, [], ◌∷◌, ◌++◌}
-use mathlib.Core.Option.{Option, none, some}
 use lib.ListN.{length}
 use Rattle.lexer.specs.Tokens.{TokenKind, sign, comment, newline, Span, Token}
 use Rattle.language.specs.Machine.{Located}
@@ -23,7 +22,7 @@ use Rattle.parser.proofs.Views.{is_some, names_l_brace, names_r_brace, Sees, see
 use Rattle.parser.proofs.Keywords.{sees_kind, sees_output, sees_order}
 use Rattle.parser.proofs.Simulates.{Stops, Fits, one_tests, direction_tests, Quiet, One, once, pushes, is_sign_lem, At, row, token_fits, entries_fits, Listing, map_fits, weaken_fits, opened_fits, Reading, tuple_fits, set_fits}
 
-quietly : {A : Type 0} {view : TokenKind → Option A} → view newline ≡ none → ((s : List ℕ) → view (comment s) ≡ none) → Quiet view unexpected
+quietly : {A : Type 0} {view : TokenKind → Option A} → view newline ≡ None → ((s : List ℕ) → view (comment s) ≡ None) → Quiet view unexpected
 unfolding unexpected
 quietly e f = record { at_newline = e; at-comment = f; bad_newline = refl; bad_comment = λ s. refl }
 
@@ -34,7 +33,7 @@ seen_one {A} view f g a o =
     ap (λ (x : List (Token Span)). seen view (x ++ g)) o.front ∙ ap (λ (x : Option A). seen_on x o.taker.place (seen view g)) o.says ∙
     ap (λ (p : Span). record { value = a.value; place = p } ∷ seen view g) o.there
 
-pub seen_past : {A : Type 0} (view : TokenKind → Option A) (c : ℕ) → view (sign c) ≡ none → (t : Token Span) (g : List (Token Span)) → t.kind ≡ sign c → seen view (t ∷ g) ≡ seen view g
+pub seen_past : {A : Type 0} (view : TokenKind → Option A) (c : ℕ) → view (sign c) ≡ None → (t : Token Span) (g : List (Token Span)) → t.kind ≡ sign c → seen view (t ∷ g) ≡ seen view g
 unfolding seen seen_on
 seen_past {A} view c e t g k = ap (λ (x : Option A). seen_on x t.place (seen view g)) (ap view k ∙ e)
 
@@ -43,19 +42,19 @@ pushes_append [] m = refl
 pushes_append (a ∷ l) m = ap (λ (x : List _). a ∷ x) (pushes_append l m)
 
 -- ---- what is read
-no_symbol : {X : Type 0} (k : TokenKind) (c : ℕ) (s : RawSymbol) → symbol_in (sign c) ≡ none → is_some (is_sign c k) ≡ true → symbol_in k ≡ some s → X
+no_symbol : {X : Type 0} (k : TokenKind) (c : ℕ) (s : RawSymbol) → symbol_in (sign c) ≡ None → is_some (is_sign c k) ≡ true → symbol_in k ≡ Some s → X
 no_symbol k c s e p q = true_false (sym (ap is_some (sym e ∙ sym (ap symbol_in (is_sign_lem c k p)) ∙ q)))
 
-part-symbol : (k : TokenKind) (s : RawSymbol) → symbol_in k ≡ some s → read_part k ≡ reads s
+part-symbol : (k : TokenKind) (s : RawSymbol) → symbol_in k ≡ Some s → read_part k ≡ reads s
 unfolding read_part symbol_in bracket
 part-symbol k s e = go (is_sign 0x7B k) (is_sign 0x7D k) (symbol_in k) refl refl e
   where
-    go : (a b : Option Bool) (o : Option RawSymbol) → is_sign 0x7B k ≡ a → is_sign 0x7D k ≡ b → o ≡ some s
-        → elim a [ some _ ↦ opens | none ↦ elim b [ some _ ↦ closes | none ↦ elim o [ some s ↦ reads s | none ↦ passes ] ] ] ≡ reads s
-    go (some x) b o p q r = no_symbol k 0x7B s refl (ap is_some p) e
-    go none (some x) o p q r = no_symbol k 0x7D s refl (ap is_some q) e
-    go none none none p q r = true_false (sym (ap is_some r))
-    go none none (some v) p q r = let h : v ≡ s = cc in ap reads h
+    go : (a b : Option Bool) (o : Option RawSymbol) → is_sign 0x7B k ≡ a → is_sign 0x7D k ≡ b → o ≡ Some s
+        → elim a [ Some _ ↦ opens | None ↦ elim b [ Some _ ↦ closes | None ↦ elim o [ Some s ↦ reads s | None ↦ passes ] ] ] ≡ reads s
+    go (Some x) b o p q r = no_symbol k 0x7B s refl (ap is_some p) e
+    go None (Some x) o p q r = no_symbol k 0x7D s refl (ap is_some q) e
+    go None None None p q r = true_false (sym (ap is_some r))
+    go None None (Some v) p q r = let h : v ≡ s = cc in ap reads h
 
 pub reads-symbol : (f g : List (Token Span)) (a : Located Span RawSymbol) → One symbol_in f a → read_sets false (f ++ g) ≡ (a ∷ []) ∷ read_sets false g
 unfolding read_sets outside
@@ -174,10 +173,10 @@ module _ (ts : List (Token Span)) (junk : List Words) (z : Token Span) (more : L
     where
       of : (t : Token Span) (r : List (Token Span)) (o : Option (List ℕ)) → string_in t.kind ≡ o → (x : Parsed ℕ)
           → Fits i (t ∷ r) (One string_in) once x (taken o unexpected t r) → Fits i (t ∷ r) Texts once x (string_taken o t r)
-      of t r none e (Err bad) h = h
-      of t r none e (Done j m) h = absurd h
-      of t r (some v) e (Err bad) h = absurd h
-      of t r (some v) e (Done j m) (f, q, k, c, w) =
+      of t r None e (Err bad) h = h
+      of t r None e (Done j m) h = absurd h
+      of t r (Some v) e (Err bad) h = absurd h
+      of t r (Some v) e (Done j m) (f, q, k, c, w) =
           let h : t ∷ r ≡ w.taker ∷ r = q ∙ ap (λ (x : List (Token Span)). x ++ r) w.front in
           let b : w.taker ≡ t = cc in
           (f, q, k, c, record { taker = t; front = w.front ∙ ap (λ (x : Token Span). x ∷ []) b; says = rw e })
@@ -216,14 +215,14 @@ module _ (ts : List (Token Span)) (junk : List Words) (z : Token Span) (more : L
     abbrev Pushed : List (Token Span) → List (Located Span A) → Type 0
     Pushed = Reading ts junk z more ends p steps P (One view) fits stopped (seen view) (λ a b. a ∷ b) (seen_one view)
 
-    seen-set_fits : view (sign 0x2C) ≡ none → view (sign 0x7B) ≡ none → view (sign 0x7D) ≡ none → (i : ℕ) (l : List (Token Span)) → Here i l
+    seen-set_fits : view (sign 0x2C) ≡ None → view (sign 0x7B) ≡ None → view (sign 0x7D) ≡ None → (i : ℕ) (l : List (Token Span)) → Here i l
         → Fits i l Seen length (set p ws i) (braced z.place P l)
     seen-set_fits a b c i l here =
         weaken_fits ts junk z more ends Pushed Seen length i l (λ f v M g. M g ∙ pushes_append v (seen view g)) (set p ws i) (braced z.place P l)
         (set_fits ts junk z more ends p steps P (One view) fits stopped (seen view) (λ a b. a ∷ b) (seen_one view)
         (seen_past view 0x2C a) (seen_past view 0x7B b) (seen_past view 0x7D c) i l here)
 
-    seen-tuple_fits : view (sign 0x2C) ≡ none → view (sign 0x28) ≡ none → view (sign 0x29) ≡ none → (i : ℕ) (l : List (Token Span)) → Here i l
+    seen-tuple_fits : view (sign 0x2C) ≡ None → view (sign 0x28) ≡ None → view (sign 0x29) ≡ None → (i : ℕ) (l : List (Token Span)) → Here i l
         → Fits i l Seen length (tuple p ws i) (tupled z.place P l)
     seen-tuple_fits a b c i l here =
         weaken_fits ts junk z more ends Pushed Seen length i l (λ f v M g. M g ∙ pushes_append v (seen view g)) (tuple p ws i) (tupled z.place P l)

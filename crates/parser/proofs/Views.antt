@@ -6,7 +6,7 @@ use Prim.Native.Nat.{ℕ, ◌+◌, ◌<◌}
 use native.Mathlib.Omega.{arith}
 use mathlib.Core.Bool.{Bool, true, false, cond, ◌&&◌, not}
 use mathlib.Core.List.{List, [], ◌∷◌}
-use mathlib.Core.Option.{Option, none, some}
+use Rattle.std.specs.Prelude.{Option, None, Some}
 use lib.Dec.{eqb}
 use lib.ListN.{length}
 use borrow.Author.Tests.{eqb-true, eq-eqb, ne_eqb, lt-ltb, le-ltb}
@@ -22,8 +22,8 @@ use Rattle.parser.specs.Meaning.{token_of, SoundAs}
 use Rattle.tokens.specs.declared.Token.{Token as Words}
 
 abbrev pub is_some : {A : Type 0} → Option A → Bool
-is_some none = false
-is_some (some a) = true
+is_some None = false
+is_some (Some a) = true
 
 some-when : {A : Type 0} (b : Bool) (a : A) → is_some (when b a) ≡ b
 some-when true a = refl
@@ -221,17 +221,17 @@ sees_write k p q s =
     ap (λ (b : Bool). cond b true (is_symbol (token_of (tok k p q)))) (sees_sign 0x2A 10 names_star k p q s) ∙
     ap (λ (b : Bool). cond (is_some (is_sign 0x2A k)) true b) (sees_symbol k p q s) ∙ go (is_sign 0x2A k) (symbol_in k)
   where
-    go : (a : Option Bool) (b : Option RawSymbol) → cond (is_some a) true (is_some b) ≡ is_some {A = Option RawSymbol} (elim a [ some b ↦ some none | none ↦ elim b [ some s ↦ some (some s) | none ↦ none ] ])
-    go (some b) o = refl
-    go none (some s) = refl
-    go none none = refl
+    go : (a : Option Bool) (b : Option RawSymbol) → cond (is_some a) true (is_some b) ≡ is_some {A = Option RawSymbol} (elim a [ Some b ↦ Some None | None ↦ elim b [ Some s ↦ Some (Some s) | None ↦ None ] ])
+    go (Some b) o = refl
+    go None (Some s) = refl
+    go None None = refl
 
 -- ---- directions
 from_char_lem : (c : ℕ) → is_move c ≡ is_some (from_char c)
 unfolding is_move from_char
 from_char_lem c = go (eqb c 0x4C) (eqb c 0x52) (eqb c 0x4E)
   where
-    go : (a b d : Bool) → cond a true (cond b true d) ≡ is_some {A = Dir} (elim a [ true ↦ some left | false ↦ elim b [ true ↦ some right | false ↦ when d stay ] ])
+    go : (a b d : Bool) → cond a true (cond b true d) ≡ is_some {A = Dir} (elim a [ true ↦ Some left | false ↦ elim b [ true ↦ Some right | false ↦ when d stay ] ])
     go true b d = refl
     go false true d = refl
     go false false d = sym (some-when d stay)

@@ -3,11 +3,11 @@ use Rattle.std.specs.Prelude.{ℕ, Bool, List, ◌≡◌, ◌<◌, ◌≤◌, le
 use Rattle.tokens.specs.declared.Token.{Token}
 use Rattle.parser.specs.Lines.{Parsed, Parser}
 
--- it tells of each token what f does
+-- a closure tells of each token what f does
 abbrev pub Tells : (Token → Bool → Type 0) → (Token → Bool) → Type 0
 Tells post f = (t : Token) (b : Bool) → post t b → b ≡ f t
 
--- it reads from each index on what p does
+-- a closure reads from each index on what p does
 abbrev pub Reads : (ℕ → Parsed ℕ → Type 0) → (ℕ → Parsed ℕ) → Type 0
 Reads post p = (i : ℕ) (r : Parsed ℕ) → post i r → r ≡ p i
 

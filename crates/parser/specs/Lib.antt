@@ -1,4 +1,5 @@
 pub mod Row
+pub mod ItemNumbers
 pub mod Views
 pub mod Lines
 pub mod Calls

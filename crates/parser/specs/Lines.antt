@@ -1,5 +1,7 @@
 -- Paper 01, "parser.rs, lines", over the tokens that stand in a row: `p ts i` reads from the index i on.
 use Rattle.std.specs.Prelude.{ℕ, zero, suc, ◌+◌, ◌-◌, Bool, true, false, cond, List, [], ◌∷◌, eqb, length, drop, Option, Some, None, Result, Ok, Err}
+use Rattle.lexer.specs.KeywordValues as keywords
+use Rattle.lexer.specs.KindWords as kinds
 use Rattle.parser.specs.Row.{peek}
 use Rattle.parser.specs.Views.{span_of, is_kind, is_choice, is_state, is_symbol, is_write, is_direction, is_text, keyword_of, lead_of}
 use Rattle.tokens.specs.declared.Token.{Token}
@@ -21,9 +23,11 @@ use Rattle.parser.specs.declared.Line.TheVariants.{Blank as NoItem, Comment as R
 abbrev pub Parsed : Type 0 → Type 0
 Parsed A = Result (ℕ × A) Failure
 
+-- what was read up to the index i, with what it makes
 pattern abbrev pub Done : {A : Type 0} → ℕ → A → Parsed A
 Done i a = Ok (i, a)
 
+-- a failure with its code and place
 abbrev pub Failed : {A : Type 0} → Code → Span → Result A Failure
 Failed c s = Err (record { code = c; span = s })
 
@@ -38,9 +42,9 @@ then (Err bad) f = Err bad
 
 -- the code of a token that is not what is due: E002 for an unterminated string, else E001
 unfoldable pub code_of : Token → Code
-code_of t = cond (eqb t.kind 14) UnterminatedString Unexpected
+code_of t = cond (eqb t.kind kinds.unterminated_string) UnterminatedString Unexpected
 
--- the failure at such a token
+-- the failure at a token that is not what is due
 unfoldable pub unexpected : Token → Failure
 unfolding code_of
 unexpected t = record { code = code_of t; span = span_of t }
@@ -62,7 +66,7 @@ unfoldable pub separator : ℕ → Parser
 unfolding unexpected
 separator close ts i =
     let t = peek ts i in
-    cond (eqb t.kind 8) (Done (i + 1) 1) (cond (eqb t.kind close) (Done (i + 1) 0) (Err (unexpected t)))
+    cond (eqb t.kind kinds.comma) (Done (i + 1) 1) (cond (eqb t.kind close) (Done (i + 1) 0) (Err (unexpected t)))
 
 -- entries of p parted by commas up to a sign of the kind `close`, where n stand before, and no more than k follow
 unfoldable pub entries_from : Parser → ℕ → List Token → ℕ → ℕ → ℕ → Parsed ℕ
@@ -80,38 +84,38 @@ entries p close ts i n = entries_from p close ts (suc (length ts)) i n
 -- a set that may be empty
 unfoldable pub set : Parser → Parser
 unfolding then one is_kind entries
-set p ts i = then (one (is_kind 6) ts i) λ j _. cond (eqb (peek ts j).kind 7) (Done (j + 1) 0) (entries p 7 ts j 0)
+set p ts i = then (one (is_kind kinds.l_brace) ts i) λ j _. cond (eqb (peek ts j).kind kinds.r_brace) (Done (j + 1) 0) (entries p kinds.r_brace ts j 0)
 
 -- one entry, or several in parentheses
 unfoldable pub tuple : Parser → Parser
 unfolding entries
-tuple p ts i = cond (eqb (peek ts i).kind 4) (entries p 5 ts (i + 1) 0) (p ts i)
+tuple p ts i = cond (eqb (peek ts i).kind kinds.l_paren) (entries p kinds.r_paren ts (i + 1) 0) (p ts i)
 
 -- what a rule reads on one tape: a symbol, or a set that is not empty
 unfoldable pub read_entry : Parser
 unfolding then one is_symbol entries
 read_entry ts i =
-    cond (eqb (peek ts i).kind 6)
-    (then (entries (one is_symbol) 7 ts (i + 1) 0) λ j _. Done j 1)
+    cond (eqb (peek ts i).kind kinds.l_brace)
+    (then (entries (one is_symbol) kinds.r_brace ts (i + 1) 0) λ j _. Done j 1)
     (one is_symbol ts i)
 
 -- how the output is read: word, unary and a symbol, or binary and lsb or msb
 unfoldable pub output : Parser
 unfolding then one is_choice is_symbol
 output ts i =
-    then (one (is_choice 0x110014 0x110016) ts i) λ j _.
+    then (one (is_choice keywords.word keywords.binary) ts i) λ j _.
     let v = (peek ts i).value in
-    cond (eqb v 0x110015) (one is_symbol ts j) (cond (eqb v 0x110016) (one (is_choice 0x110017 0x110018) ts j) (Done j 1))
+    cond (eqb v keywords.unary) (one is_symbol ts j) (cond (eqb v keywords.binary) (one (is_choice keywords.lsb keywords.msb) ts j) (Done j 1))
 
 -- `(`, a state and a comma
 unfoldable pub side : Parser
 unfolding then one is_kind is_state
-side ts i = then (one (is_kind 4) ts i) λ j _. then (one is_state ts j) λ k _. one (is_kind 8) ts k
+side ts i = then (one (is_kind kinds.l_paren) ts i) λ j _. then (one is_state ts j) λ k _. one (is_kind kinds.comma) ts k
 
 -- `)` and `=`
 unfoldable pub equals : Parser
 unfolding then one is_kind
-equals ts i = then (one (is_kind 5) ts i) λ j _. one (is_kind 9) ts j
+equals ts i = then (one (is_kind kinds.r_paren) ts i) λ j _. one (is_kind kinds.eq) ts j
 
 -- the parts of a rule's left side alone
 abbrev pub left_parts : ℕ → ℕ → ℕ → Parts
@@ -125,7 +129,7 @@ no_parts = left_parts 0 0 0
 unfoldable pub left : List Token → ℕ → Parsed Parts
 unfolding then one is_kind side tuple read_entry equals
 left ts i =
-    then (one (is_kind 0) ts i) λ j _.
+    then (one (is_kind kinds.word) ts i) λ j _.
     then (side ts j) λ read _.
     then (tuple read_entry ts read) λ k reads.
     then (equals ts k) λ end _.
@@ -137,9 +141,9 @@ unfolding then side tuple one is_write is_kind direction
 right l ts i =
     then (side ts i) λ write _.
     then (tuple (one is_write) ts write) λ j writes.
-    then (one (is_kind 8) ts j) λ dir _.
+    then (one (is_kind kinds.comma) ts j) λ dir _.
     then (tuple direction ts dir) λ k dirs.
-    then (one (is_kind 5) ts k) λ end _.
+    then (one (is_kind kinds.r_paren) ts k) λ end _.
     Done end (record { from = l.from; read = l.read; reads = l.reads; to = i + 1; write = write; writes = writes; dir = dir; dirs = dirs })
 
 -- a rule, with δ
@@ -155,11 +159,11 @@ plain p = then p λ end _. Done end no_parts
 -- the value of an item
 unfoldable pub value : ItemKind → List Token → ℕ → Parsed Parts
 unfolding plain one is_kind is_choice is_state is_symbol set output transition
-value Machine ts i = plain (one (is_kind 3) ts i)
-value Kind ts i = plain (one (is_choice 0x110010 0x110013) ts i)
-value Input ts i = plain (one (is_kind 3) ts i)
+value Machine ts i = plain (one (is_kind kinds.str) ts i)
+value Kind ts i = plain (one (is_choice keywords.acceptor keywords.beaver) ts i)
+value Input ts i = plain (one (is_kind kinds.str) ts i)
 value Output ts i = plain (output ts i)
-value Tapes ts i = plain (one (is_kind 1) ts i)
+value Tapes ts i = plain (one (is_kind kinds.number) ts i)
 value States ts i = plain (set (one is_state) ts i)
 value InputAlphabet ts i = plain (set (one is_symbol) ts i)
 value TapeAlphabet ts i = plain (set (one is_symbol) ts i)
@@ -174,18 +178,21 @@ spanning ts i j = record { start = (peek ts i).start; end = (peek ts (j - 1)).en
 
 -- the index of what ends the line behind an item: one further where a comment stands first
 unfoldable pub newline_at : List Token → ℕ → ℕ
-newline_at ts i = cond (eqb (peek ts i).kind 12) (i + 1) i
+newline_at ts i = cond (eqb (peek ts i).kind kinds.comment) (i + 1) i
 
 -- what a line is, or why it is refused
 abbrev pub Answer : Type 0
 Answer = Result Line Failure
 
+-- a line that holds nothing
 pattern abbrev pub Empty : Answer
 Empty = Ok NoItem
 
+-- a line that is a comment alone, at the index i
 pattern abbrev pub Comment : ℕ → Answer
 Comment i = Ok (Remark i)
 
+-- a line that holds an item
 pattern abbrev pub Read : Item → Answer
 Read x = Ok (AnItem x)
 
@@ -194,14 +201,14 @@ unfoldable pub finish : ItemKind → List Token → ℕ → ℕ → ℕ → Part
 unfolding unexpected newline_at
 finish k ts i v j q =
     let n = newline_at ts j in
-    cond (eqb (peek ts n).kind 13)
+    cond (eqb (peek ts n).kind kinds.newline)
     (Read (record { kind = k; value = v; end = j; newline = n; span = spanning ts i j; value_span = spanning ts v j; parts = q }))
     (Err (unexpected (peek ts n)))
 
 -- where the value of an item begins: behind the keyword, behind `=` where it is due, or with the keyword for a rule
 unfoldable pub value_at : Lead → Parser
 unfolding one is_kind
-value_at Equals ts i = one (is_kind 9) ts (i + 1)
+value_at Equals ts i = one (is_kind kinds.eq) ts (i + 1)
 value_at Nothing ts i = Done (i + 1) 0
 value_at Whole ts i = Done i 0
 
@@ -223,17 +230,17 @@ item ts i = item_from (keyword_of (peek ts i)) ts i
 
 -- a comment with nothing behind it
 unfoldable pub is_comment : List Token → ℕ → Bool
-is_comment ts i = cond (eqb (peek ts i).kind 12) (eqb (peek ts (i + 1)).kind 13) false
+is_comment ts i = cond (eqb (peek ts i).kind kinds.comment) (eqb (peek ts (i + 1)).kind kinds.newline) false
 
 -- the line that begins at the index i
 unfoldable pub line : List Token → ℕ → Answer
 unfolding is_comment item
-line ts i = cond (eqb (peek ts i).kind 13) Empty (cond (is_comment ts i) (Comment i) (item ts i))
+line ts i = cond (eqb (peek ts i).kind kinds.newline) Empty (cond (is_comment ts i) (Comment i) (item ts i))
 
 -- how many tokens stand before the first line feed
 unfoldable pub line_length : List Token → ℕ
 line_length [] = 0
-line_length (t ∷ r) = elim (eqb t.kind 13) [ true ↦ 0 | false ↦ suc (line_length r) ]
+line_length (t ∷ r) = elim (eqb t.kind kinds.newline) [ true ↦ 0 | false ↦ suc (line_length r) ]
 
 -- the index of the line feed that ends the line
 unfoldable pub line_end : List Token → ℕ → ℕ

@@ -1,9 +1,10 @@
 -- What a line of the parser means: its tokens, seen through the views of language/specs/Lines.antt.
-use Rattle.std.specs.Prelude.{ℕ, ◌+◌, ◌-◌, ◌<◌, Bool, true, false, cond, List, [], ◌∷◌, ◌≡◌, eqb, length, get_or, take, drop, Err}
-use Rattle.std.proofs.Math.Option.{Option, none, some}
+use Rattle.std.specs.Prelude.{ℕ, ◌+◌, ◌-◌, ◌<◌, Bool, true, false, cond, List, [], ◌∷◌, ◌≡◌, eqb, length, get_or, take, drop, Err, Option, None, Some}
 use Rattle.lexer.specs.Tokens.{TokenKind, word, number, quoted, str, sign, comment, newline, unterminated_string, unterminated_quote, Span, span, Token}
 use Rattle.lexer.specs.Words.{kind_number, token_value}
-use Rattle.language.specs.Machine.{Located, transducer, lsb}
+use Rattle.machine.specs.declared.Kind.TheVariants.{Transducer}
+use Rattle.machine.specs.declared.BitOrder.TheVariants.{Lsb}
+use Rattle.language.specs.Machine.{Located}
 use Rattle.language.specs.Parser.{is_sign}
 use Rattle.language.specs.Lines.{RawSymbol, raw_blank, RawDecoder, raw_word, raw_unary, raw_binary, RawTransition, Text, Item, machine_item, input_item, kind_item, output_item, tapes_item, states_item, final_item, input_alphabet_item, tape_alphabet_item, blank_item, start_item, transition_item, Line, blank_line, comment_line, item_line, error_line, state_in, symbol_in, write_in, direction_in, string_in, number_in, word_in, kinds, outputs, orders, word_output, unary_output, binary_output, Ending, line_feed, goes_by, remark, ending_of, lines, covering}
 use Rattle.parser.specs.Lines.{Answer, Empty, Comment, Read, code_number, line, line_end}
@@ -31,9 +32,10 @@ at ts i = get_or ts i nothing
 abbrev pub between : List (Token Span) → ℕ → ℕ → List (Token Span)
 between ts i j = take (j - i) (drop i ts)
 
+-- what an option holds; d if it is none
 abbrev pub or_else : {A : Type 0} → A → Option A → A
-or_else d none = d
-or_else d (some a) = a
+or_else d None = d
+or_else d (Some a) = a
 
 -- what a view says of a token, with the token's place; d if it says nothing
 abbrev pub located : {A : Type 0} → (TokenKind → Option A) → A → Token Span → Located Span A
@@ -41,8 +43,8 @@ located view d t = record { value = or_else d (view t.kind); place = t.place }
 
 -- a token in front of what a view says of others
 unfoldable pub seen_on : {A : Type 0} → Option A → Span → List (Located Span A) → List (Located Span A)
-seen_on none p l = l
-seen_on (some a) p l = record { value = a; place = p } ∷ l
+seen_on None p l = l
+seen_on (Some a) p l = record { value = a; place = p } ∷ l
 
 -- what a view says of some tokens, without those of which it says nothing
 unfoldable pub seen : {A : Type 0} → (TokenKind → Option A) → List (Token Span) → List (Located Span A)
@@ -61,11 +63,12 @@ pub data ReadPart : Type 0 where
   opens closes passes : ReadPart
   reads : RawSymbol → ReadPart
 
+-- what a token is among read sets
 unfoldable pub read_part : TokenKind → ReadPart
 unfolding is_sign symbol_in
 read_part k = elim (is_sign 0x7B k) [
-  | some _ ↦ opens
-  | none ↦ elim (is_sign 0x7D k) [ some _ ↦ closes | none ↦ elim (symbol_in k) [ some s ↦ reads s | none ↦ passes ] ]
+  | Some _ ↦ opens
+  | None ↦ elim (is_sign 0x7D k) [ Some _ ↦ closes | None ↦ elim (symbol_in k) [ Some s ↦ reads s | None ↦ passes ] ]
 ]
 
 -- one more symbol of the set that is open
@@ -73,13 +76,15 @@ unfoldable pub joins : {A : Type 0} → A → List (List A) → List (List A)
 joins a [] = (a ∷ []) ∷ []
 joins a (l ∷ ls) = (a ∷ l) ∷ ls
 
--- a token in front of read sets: `free` are those behind it where no set is open, `held` those where one is, whose rest is the first
+-- a token in front of read sets: `free` are those behind it where no set is open, `held`
+-- those where one is, whose rest is the first
 unfoldable pub outside : ReadPart → Span → List (List (Located Span RawSymbol)) → List (List (Located Span RawSymbol)) → List (List (Located Span RawSymbol))
 outside opens p free held = held
 outside closes p free held = free
 outside passes p free held = free
 outside (reads s) p free held = (record { value = s; place = p } ∷ []) ∷ free
 
+-- a token inside a set that is open: the sets behind it, that set first
 unfoldable pub inside : ReadPart → Span → List (List (Located Span RawSymbol)) → List (List (Located Span RawSymbol)) → List (List (Located Span RawSymbol))
 unfolding joins
 inside opens p free held = held
@@ -101,7 +106,7 @@ unfoldable pub decoder_at : List (Token Span) → ℕ → RawDecoder
 decoder_at ts i = elim (located (word_in outputs) word_output (at ts i)).value [
   | word_output ↦ raw_word
   | unary_output ↦ raw_unary (located symbol_in raw_blank (at ts (i + 1))).value
-  | binary_output ↦ raw_binary (located (word_in orders) lsb (at ts (i + 1))).value
+  | binary_output ↦ raw_binary (located (word_in orders) Lsb (at ts (i + 1))).value
 ]
 
 -- a rule by its parts, where j is the index behind it
@@ -119,7 +124,7 @@ rule_of ts q j = record {
 unfoldable pub item_means : List (Token Span) → ItemKind → ℕ → ℕ → Parts → Item Span
 unfolding seen decoder_at rule_of
 item_means ts Machine i j q = machine_item (text_of (at ts i))
-item_means ts Kind i j q = kind_item (located (word_in kinds) transducer (at ts i)).value
+item_means ts Kind i j q = kind_item (located (word_in kinds) Transducer (at ts i)).value
 item_means ts Input i j q = input_item (text_of (at ts i))
 item_means ts Output i j q = output_item (decoder_at ts i)
 item_means ts Tapes i j q = tapes_item (located number_in 0 (at ts i))
@@ -137,13 +142,14 @@ remark_of line_feed = []
 remark_of goes_by = []
 remark_of (remark s) = s
 
+-- a comment with the place of its text
 abbrev pub comment_of : Token Span → Located Span (List ℕ)
 comment_of t = record { value = remark_of (ending_of t.kind); place = t.inner }
 
 -- the comment of an item: at the index j, where the line's end is another
 unfoldable pub own_comment : List (Token Span) → ℕ → ℕ → Option (Located Span (List ℕ))
 unfolding remark_of
-own_comment ts j n = cond (eqb n j) none (some (comment_of (at ts j)))
+own_comment ts j n = cond (eqb n j) None (Some (comment_of (at ts j)))
 
 -- a line of the parser, over the tokens that it was read from
 unfoldable pub line_means : List (Token Span) → Answer → Line Span
@@ -159,7 +165,7 @@ pub record Counted (ts : List (Token Span)) (r : Found) : Type 0 where
   pub writes : r.parts.writes ≡ length (rule_of ts r.parts r.end).write
   pub dirs : r.parts.dirs ≡ length (rule_of ts r.parts r.end).dir
 
--- and so for an item of a kind, and for a line
+-- the counts of the parts of an item of a kind are those of its lists: a rule alone has parts
 abbrev pub CountedAs : List (Token Span) → ItemKind → Found → Type 0
 CountedAs ts Machine r = Unit {0}
 CountedAs ts Kind r = Unit {0}
@@ -174,6 +180,7 @@ CountedAs ts Start r = Unit {0}
 CountedAs ts Final r = Unit {0}
 CountedAs ts Transition r = Counted ts r
 
+-- the counts of the parts of a line are those of its lists
 abbrev pub LineCounted : List (Token Span) → Answer → Type 0
 LineCounted ts Empty = Unit {0}
 LineCounted ts (Comment i) = Unit {0}
@@ -196,6 +203,7 @@ SoundAs newline p = Unit {0}
 SoundAs unterminated_string p = Unit {0}
 SoundAs unterminated_quote p = Unit {0}
 
+-- a token is as the lexer makes it
 abbrev pub Sound : Token Span → Type 0
 Sound t = SoundAs t.kind t.place
 
@@ -207,17 +215,20 @@ Closed goes_by (t ∷ ts) = Unit {0}
 Closed (remark s) [] = ⊥
 Closed (remark s) (t ∷ ts) = ending_of t.kind ≡ line_feed
 
+-- a token and those behind it are as the lexer makes them
 pub record Lexed (t : Token Span) (ts : List (Token Span)) : Type 0 where
   pub sound : Sound t
   pub closed : Closed (ending_of t.kind) ts
 
+-- all tokens of a list are as the lexer makes them
 abbrev pub AllLexed : List (Token Span) → Type 0
 AllLexed [] = Unit {0}
 AllLexed (t ∷ ts) = Lexed t ts × AllLexed ts
 
 -- ---- the statement
 
--- the line that begins at the index i of the row means the first line of the tokens from there on, and the others begin behind its line feed
+-- the line that begins at the index i of the row means the first line of the tokens from there on,
+-- and the others begin behind its line feed
 pub record LineAt (ts : List (Token Span)) (ws : List Words) (i : ℕ) : Type 0 where
   pub means : lines covering (drop i ts) ≡ line_means ts (line ws i) ∷ lines covering (drop (line_end ws i + 1) ts)
   pub counted : LineCounted ts (line ws i)

@@ -1,5 +1,6 @@
 // The elements of an item: one token, and lists of them.
 ghost use Rattle.std.specs.Prelude.{◌≡◌, ◌+◌, ◌*◌, ◌/◌, ◌<◌, ◌≤◌, ◌^◌, ℕ, Bool, false, length};
+ghost use Rattle.lexer.specs.KindWords.{newline, r_brace};
 ghost use Rattle.parser.specs.Row.{tokens_in, ended, peek};
 ghost use Rattle.parser.specs.Views.{is_kind, is_choice, is_state, is_symbol, is_pair, Pairs, is_write};
 ghost use Rattle.parser.specs.Lines.{Parsed, Parser, code_of, unexpected, one, direction, separator, entries, set, tuple, read_entry, output};
@@ -8,8 +9,11 @@ ghost use Rattle.parser.specs.Calls.{Tells, Reads, ReadsEntries};
 use crate::row::Row;
 use crate::{Failure, Parsed, view};
 use diag::Code;
-use lexer::{keyword, kind};
+use lexer::{TOKEN_WORDS, keyword, kind};
 use tokens::{Token, span_of};
+
+// The words of a symbol and the comma behind it.
+const PAIR_WORDS: usize = 2 * TOKEN_WORDS;
 
 // E002 for an unterminated string, E001 for any other token that is not what is due.
 #[tactic(auto, unfolding(crate::specs::Lines::code_of))]
@@ -52,7 +56,7 @@ impl Row<'_> {
     // A sign of a kind.
     #[tactic(auto, unfolding(crate::specs::Views::is_kind))]
     pub(crate) fn expect(self, at: usize, kind: u32) -> Parsed<usize>
-        requires { kind < 13 }
+        requires { kind < newline }
         ensures { result ≡ one (is_kind kind) (tokens_in self.entry.words.now) at }
     {
         self.one(at, |t| view::is_kind(t, kind))
@@ -112,7 +116,7 @@ impl Row<'_> {
     // A count and no `bool`, so that it is a parser as the others are and their laws hold of it.
     #[tactic(auto, using(crate::proofs::Single::before_feed), unfolding(crate::specs::Lines::separator))]
     fn separator(self, at: usize, close: u32) -> Parsed<usize>
-        requires { close < 13 }
+        requires { close < newline }
         ensures { result ≡ separator close (tokens_in self.entry.words.now) at }
     {
         let t = self.token(at);
@@ -125,7 +129,8 @@ impl Row<'_> {
         }
     }
 
-    // Entries parted by commas, up to a sign of the kind `close`; how many stand before is told. A loop, since where an entry ends is told by reading it.
+    // Entries parted by commas, up to a sign of the kind `close`; how many stand before is told. A loop, since
+    // where an entry ends is told by reading it.
     fn entries<F: Fn(usize) -> Parsed<usize>>(
         self,
         at: usize,
@@ -135,7 +140,7 @@ impl Row<'_> {
     ) -> Parsed<usize>
         requires callable { F.IsAlwaysCallable entry }
         requires reads { (p : Parser) × ReadsEntries (F.post entry) p (tokens_in self.words.now) }
-        requires sign { close < 13 }
+        requires sign { close < newline }
         requires count { before ≤ at }
         ensures { (p : Parser) → ReadsEntries (F.post entry) p (tokens_in self.entry.words.now)
             → result ≡ entries p close (tokens_in self.entry.words.now) at before }
@@ -155,7 +160,7 @@ impl Row<'_> {
 
     // States parted by commas, up to `}`.
     fn state_entries(self, at: usize) -> Parsed<usize>
-        ensures { result ≡ entries (one is_state) 7 (tokens_in self.entry.words.now) at 0 }
+        ensures { result ≡ entries (one is_state) r_brace (tokens_in self.entry.words.now) at 0 }
     {
         self.entries(at, 0, kind::R_BRACE, |i| self.state(i))
     }
@@ -171,19 +176,20 @@ impl Row<'_> {
 
     // How many symbols with a comma behind them stand from an index on; a list goes on behind them.
     fn pairs(self, at: usize) -> usize
-        ensures { Pairs (tokens_in self.entry.words.now) at result × (at + 2 * result < 2 ^ 64) }
+        ensures { Pairs (tokens_in self.entry.words.now) at result
+            × (at + 2 * result < 2 ^ 64) }
     {
-        if self.words.len() / 4 < at {
+        if self.words.len() / TOKEN_WORDS < at {
             return 0;
         }
-        let (blocks, _) = self.words[4 * at..].as_chunks::<8>();
+        let (blocks, _) = self.words[TOKEN_WORDS * at..].as_chunks::<PAIR_WORDS>();
         let other = blocks.iter().position(|words| !Row { words }.pair(0));
         other.unwrap_or(blocks.len())
     }
 
     // Symbols parted by commas, up to `}`.
     fn symbol_entries(self, at: usize) -> Parsed<usize>
-        ensures { result ≡ entries (one is_symbol) 7 (tokens_in self.entry.words.now) at 0 }
+        ensures { result ≡ entries (one is_symbol) r_brace (tokens_in self.entry.words.now) at 0 }
     {
         let m = self.pairs(at);
         self.entries(at + 2 * m, m, kind::R_BRACE, |i| self.symbol(i))
@@ -205,7 +211,7 @@ impl Row<'_> {
     #[tactic(auto, using(crate::proofs::Single::before_feed), unfolding(crate::specs::Lines::then, crate::specs::Lines::set))]
     fn set<F: Fn(usize) -> Parsed<usize>>(self, at: usize, list: F) -> Parsed<usize>
         requires callable { F.IsAlwaysCallable list }
-        ensures { (p : Parser) → Reads (F.post list) (λ i. entries p 7 (tokens_in self.entry.words.now) i 0)
+        ensures { (p : Parser) → Reads (F.post list) (λ i. entries p r_brace (tokens_in self.entry.words.now) i 0)
             → result ≡ set p (tokens_in self.entry.words.now) at }
     {
         let (first, _) = self.expect(at, kind::L_BRACE)?;
@@ -251,14 +257,14 @@ impl Row<'_> {
         self.tuple(at, |i| self.read_entry(i))
     }
 
-    // What it writes.
+    // What a rule writes.
     pub(crate) fn writes(self, at: usize) -> Parsed<usize>
         ensures { result ≡ tuple (one is_write) (tokens_in self.entry.words.now) at }
     {
         self.tuple(at, |i| self.write_entry(i))
     }
 
-    // Its directions.
+    // The directions of a rule.
     pub(crate) fn directions(self, at: usize) -> Parsed<usize>
         ensures { result ≡ tuple direction (tokens_in self.entry.words.now) at }
     {

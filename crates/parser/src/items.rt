@@ -85,7 +85,8 @@ impl Row<'_> {
         self.right(end, parts)
     }
 
-    // The value of an item. An index and a kind are no pair: it is the index of the value here, and that of the line in `finish` and `item_of`.
+    // The value of an item. An index and a kind are no pair: it is the index of the value here, and
+    // that of the line in `finish` and `item_of`.
     #[tactic(auto, unfolding(crate::specs::Lines::value))]
     fn value(self, at: usize, kind: ItemKind) -> Parsed<Parts>
         ensures { result ≡ value kind (tokens_in self.entry.words.now) at }

@@ -25,6 +25,9 @@ pub enum ItemKind {
     Transition,
 }
 
+// How many kinds of items declare something: those before a transition's.
+pub const DECLARATIONS: usize = ItemKind::Transition as usize;
+
 // What stands between an item's keyword and its value; a transition's value is the whole item.
 #[derive(Clone, Copy, Debug, PartialEq, Eq)]
 pub enum Lead {

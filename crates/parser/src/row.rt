@@ -2,9 +2,11 @@
 ghost use Rattle.std.specs.Prelude.{◌≡◌};
 ghost use Rattle.parser.specs.Row.{tokens_in, peek};
 
+use lexer::TOKEN_WORDS;
 use tokens::Token;
 
-// A row of words, four for each token; the parsers are its functions. Their number is not beside it, as in `Tokens`: a line is read to the end of its row.
+// A row of words, four for each token; the parsers are its functions. Their number is not beside it, as in
+// `Tokens`: a line is read to the end of its row.
 #[derive(Clone, Copy)]
 pub(crate) struct Row<'a> {
     pub words: &'a [u32],
@@ -16,7 +18,7 @@ impl Row<'_> {
     pub(crate) fn token(self, at: usize) -> Token
         ensures { result ≡ peek (tokens_in self.entry.words.now) at }
     {
-        if at < self.words.len() / 4 {
+        if at < self.words.len() / TOKEN_WORDS {
             return tokens::token_at(self.words, at);
         }
         Token::FEED

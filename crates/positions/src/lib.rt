@@ -17,7 +17,8 @@ impl Position {
     // The position behind a byte.
     #[tactic(auto, using(std::proofs::Common::tests), unfolding(crate::specs::Positions::next))]
     fn next(self, b: u8) -> Self
-        requires { (self.line < usize.MAX) × (self.column < usize.MAX) }
+        requires { (self.line < usize.MAX)
+            × (self.column < usize.MAX) }
         ensures { result ≡ next self b }
     {
         if b == b'\n' {

@@ -1,8 +1,7 @@
 -- A reading call stage by stage: what each asks of those before it, and what it answers.
 use mathlib.Core.Path.{◌≡◌, refl, sym, ap, ◌∙◌}
-use mathlib.Core.Bool.{true, false, false≢true}
+use mathlib.Core.Bool.{Bool, true, false, false≢true}
 use mathlib.Core.List.{List, [], ◌∷◌, map}
-use mathlib.Core.Option.{Option, none, some}
 use Prim.Native.Nat.{ℕ, ◌+◌, ◌*◌, ◌/◌, ◌≤◌, ◌<◌}
 use native.Mathlib.Omega.{arith}
 use borrow.Author.Tests.{ltb-true, ltb-false}
@@ -19,7 +18,7 @@ use Rattle.parser.specs.Meaning.{token_of}
 use Rattle.parser.proofs.Lines.{tokens-flat}
 use Rattle.language.specs.Lines.{Line}
 use Rattle.language.specs.Assembly as A
-use Rattle.language.specs.Outcome.{Refusal, text_too_long, work_too_short, invalid_utf8, outside_set, log_too_short, sheet_too_short, output_too_short, Reply, machine, diagnosed, refused, reply_number, refusal_of, zeros, words_needed, ReadOutcome, read_machine, read_outcome}
+use Rattle.language.specs.Outcome.{Refusal, leaves_work_number, Reply, reply_number, refusal_of, zeros, words_needed, ReadOutcome, read_machine, read_outcome}
 use Rattle.diag.specs.declared.Diagnostic.{Diagnostic}
 use Rattle.diag.specs.Log as D
 use Rattle.diag.proofs.Appended.{append_all-length}
@@ -29,28 +28,26 @@ use Rattle.assembler.specs.Rows.{rows}
 use Rattle.assembler.specs.Entered.{entered}
 use Rattle.assembler.specs.Records.{records_of}
 use Rattle.assembler.specs.Assembled.{Tokenized, has_states, Outcome}
-use Rattle.answered.specs.Ready.{lines_of, Ready}
-use Rattle.answered.proofs.Few.{diagnostics_few}
-use Rattle.answer.specs.declared.Refusal as R
-use Rattle.answer.specs.declared.Answer.{Answer}
-use Rattle.std.specs.Prelude.{Result, Err}
-use Rattle.answer.specs.Answer.{refusal_in, reply_in, read_in, untouched}
-use Rattle.answer.specs.Words.{answer_row}
-use Rattle.report.specs.Report.{report_reply}
-use Rattle.reader.specs.Reading.{given, given_by, leaves_work_number}
-use Rattle.admission.proofs.Admissions.{too_long, work_too_short_lem}
+use Rattle.reader_theorems.specs.Ready.{lines_of, Ready}
+use Rattle.reader_theorems.proofs.Few.{diagnostics_few}
+use Rattle.reader_answer.specs.declared.Refusal as R
+use Rattle.reader_answer.specs.declared.Answer.{Answer}
+use Rattle.std.specs.Prelude.{Result, Err, Option, None, Some}
+use Rattle.reader_answer.specs.Answer.{refusal_in, reply_in, read_in}
+use Rattle.diag_report.specs.Report.{report_reply}
+use Rattle.reader_admission.proofs.Admissions.{too_long, work_too_short_lem}
 use Rattle.reader.proofs.Outcomes.{refused_outcome, reported_outcome, machine_outcome}
 
 -- ---- refusals
 module _ (t : List ℕ) (work : ℕ) (log sheet : List ℕ) where
-  pub read-refused : (r : R.Refusal) → some (refusal_in r) ≡ refusal_of t work → read_in (Err r) log sheet ≡ read_outcome t work log sheet
+  pub read-refused : (r : R.Refusal) → Some (refusal_in r) ≡ refusal_of t work → read_in (Err r) log sheet ≡ read_outcome t work log sheet
   read-refused r e = refused_outcome t work log sheet (refusal_in r) (sym e)
 
 -- a text that is not refused is short enough, and work long enough
-some-none : {r : Refusal} {X : Type 0} → ◌≡◌ {A = Option Refusal} (some r) none → X
+some-none : {r : Refusal} {X : Type 0} → ◌≡◌ {A = Option Refusal} (Some r) None → X
 some-none z = absurd (let o : ◌≡◌ {A = ℕ} 0 1 = cc in omega arith)
 
-module _ (t : List ℕ) (work : ℕ) (a : refusal_of t work ≡ none) where
+module _ (t : List ℕ) (work : ℕ) (a : refusal_of t work ≡ None) where
   pub short : length t ≤ 0x400000
   short = by_test_lem (ltb 4194304 (length t)) (λ p. some-none (too_long t work (ltb-true 4194304 (length t) p) ∙ a)) (λ p. ltb-false 4194304 (length t) p)
 
@@ -58,6 +55,11 @@ module _ (t : List ℕ) (work : ℕ) (a : refusal_of t work ≡ none) where
   room = by_test_lem (ltb work (6 * length t + 6)) (λ p. some-none (work_too_short_lem t work short (ltb-true work (6 * length t + 6) p) ∙ a)) (λ p. ltb-false work (6 * length t + 6) p)
 
 -- ---- what is left of the log and of work
+
+-- whether a reply leaves work
+abbrev untouched : Reply → Bool
+untouched r = leaves_work_number (reply_number r)
+
 -- the reply to diagnostics does not leave work untouched
 report_touches : (n k : ℕ) → untouched (report_reply n k) ≡ false
 unfolding report_reply
@@ -71,13 +73,13 @@ pub report-work : (x : Result Answer R.Refusal) (n k : ℕ) → reply_in x ≡ r
 report-work x n k e = ap untouched e ∙ report_touches n k
 
 pub machine-work : (x : Result Answer R.Refusal) (ls : List (Line Span)) (sheet : List ℕ) (k : ℕ) → ((n : ℕ) → read_in x (zeros n) sheet ≡ read_machine ls n k) → untouched (reply_in x) ≡ false
-machine-work x ls sheet k e = ap (λ (o : ReadOutcome). untouched o.reply) (e 0) ∙ machine_touches ls 0 k
+machine-work x ls sheet k e = ap (λ (o : ReadOutcome (List ℕ)). untouched o.reply) (e 0) ∙ machine_touches ls 0 k
 
 -- an answer that changes work is none that leaves it
 pub never : (x : Result Answer R.Refusal) (w w' : List ℕ) → untouched (reply_in x) ≡ false → untouched (reply_in x) ≡ true → w' ≡ w
 never x w w' e f = absurd (false≢true (sym e ∙ f))
 
-module _ (t w : List ℕ) (a : refusal_of t (length w) ≡ none) where
+module _ (t w : List ℕ) (a : refusal_of t (length w) ≡ None) where
   -- tokens at the front of work
   pub tokenize_room : 4 * length t + 4 ≤ length w
   tokenize_room = omega (arith, room t (length w) a)
@@ -151,24 +153,3 @@ module _ (t w : List ℕ) (a : refusal_of t (length w) ≡ none) where
         pub machine_is : (x : Result Answer R.Refusal) (log₃ sheet : List ℕ) → log₃ ≡ zeros (length log₂) → ((n : ℕ) → read_in x (zeros n) sheet ≡ read_machine (lines_of t) n (length S)) → read_in x log₃ sheet ≡ read_outcome t (length w) L S
         machine_is x log₃ sheet e m =
             ap (λ (l : List ℕ). read_in x l sheet) (e ∙ ap zeros long) ∙ m (length L) ∙ sym (machine_outcome t (length w) L S a none_found)
-
--- ---- for callers in other languages
-number_leaves : (r : Reply) → leaves_work_number (reply_number r) ≡ true → untouched r ≡ true
-number_leaves (machine h) e = absurd (let o : ◌≡◌ {A = ℕ} 0 1 = cc in omega arith)
-number_leaves (diagnosed n) e = absurd (let o : ◌≡◌ {A = ℕ} 0 1 = cc in omega arith)
-number_leaves (refused text_too_long) e = refl
-number_leaves (refused work_too_short) e = refl
-number_leaves (refused (invalid_utf8 n)) e = absurd (let o : ◌≡◌ {A = ℕ} 0 1 = cc in omega arith)
-number_leaves (refused (outside_set n)) e = absurd (let o : ◌≡◌ {A = ℕ} 0 1 = cc in omega arith)
-number_leaves (refused (log_too_short n)) e = absurd (let o : ◌≡◌ {A = ℕ} 0 1 = cc in omega arith)
-number_leaves (refused (sheet_too_short n)) e = absurd (let o : ◌≡◌ {A = ℕ} 0 1 = cc in omega arith)
-number_leaves (refused (output_too_short n)) e = absurd (let o : ◌≡◌ {A = ℕ} 0 1 = cc in omega arith)
-
-module _ (x : Result Answer R.Refusal) (n : ℕ) (number : n ≡ reply_number (reply_in x)) where
-  pub given_is : (o : ReadOutcome) (row row' log sheet : List ℕ) → read_in x log sheet ≡ o → row' ≡ answer_row (reply_in x) row → given n row' log sheet ≡ given_by o row
-  unfolding given_by
-  given_is o row row' log sheet e q =
-      (λ j. record { number = number j; row = q j; log = log; sheet = sheet }) ∙ ap (λ (o : ReadOutcome). given_by o row) e
-
-  pub given-work : {w w' : List ℕ} → (untouched (reply_in x) ≡ true → w' ≡ w) → leaves_work_number n ≡ true → w' ≡ w
-  given-work f e = f (number_leaves (reply_in x) (ap leaves_work_number (sym number) ∙ e))

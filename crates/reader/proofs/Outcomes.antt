@@ -1,7 +1,7 @@
 -- A reading call stage by stage: what the definition answers once a stage is decided.
 use mathlib.Core.Path.{◌≡◌, refl, sym, ap, ◌∙◌}
 use mathlib.Core.List.{List, [], ◌∷◌}
-use mathlib.Core.Option.{none, some}
+use Rattle.std.specs.Prelude.{None, Some}
 use Prim.Native.Nat.{ℕ, ◌+◌}
 use native.Mathlib.Omega.{arith}
 use lib.ListN.{length}
@@ -12,7 +12,7 @@ use Rattle.language.specs.Assembly as A
 use Rattle.language.specs.Outcome.{Refusal, refusal_of, zeros, refused, ReadOutcome, read_diagnostics, read_machine, read_with, read_outcome}
 use Rattle.diag.specs.Log as D
 use Rattle.assembler.specs.Records.{records_of}
-use Rattle.report.specs.Report.{report_reply}
+use Rattle.diag_report.specs.Report.{report_reply}
 use Rattle.reader.proofs.Reports.{sort-length, report-same}
 
 -- the lines of a text
@@ -27,18 +27,18 @@ some-diagnostics (x ∷ xs) n ls log sheet e = refl
 
 module _ (t : List ℕ) (work : ℕ) (log sheet : List ℕ) where
   -- rows 1 to 4: nothing is changed
-  pub refused_outcome : (r : Refusal) → refusal_of t work ≡ some r → ◌≡◌ {A = ReadOutcome} (record { reply = refused r; log = log; sheet = sheet }) (read_outcome t work log sheet)
+  pub refused_outcome : (r : Refusal) → refusal_of t work ≡ Some r → ◌≡◌ {A = ReadOutcome (List ℕ)} (record { reply = refused r; log = log; sheet = sheet }) (read_outcome t work log sheet)
   unfolding read_outcome
   refused_outcome r e = rw (read_outcome, e)
 
-  module _ (a : refusal_of t work ≡ none) where
+  module _ (a : refusal_of t work ≡ None) where
     admitted_outcome : read_outcome t work log sheet ≡ read_with (A.diagnostics (lines_of t)) (lines_of t) (length log) (length sheet)
     unfolding read_outcome
     admitted_outcome = rw (read_outcome, a)
 
     -- diagnostics, sorted, or row 5
     pub reported_outcome : (d : A.Diagnostic Span) (ds : List (A.Diagnostic Span)) → A.diagnostics_of (lines_of t) ≡ d ∷ ds
-        → ◌≡◌ {A = ReadOutcome} (record { reply = report_reply (length log) (length (d ∷ ds)); log = D.log_after (length log) (D.sort (records_of (d ∷ ds))); sheet = zeros (length sheet) }) (read_outcome t work log sheet)
+        → ◌≡◌ {A = ReadOutcome (List ℕ)} (record { reply = report_reply (length log) (length (d ∷ ds)); log = D.log_after (length log) (D.sort (records_of (d ∷ ds))); sheet = zeros (length sheet) }) (read_outcome t work log sheet)
     unfolding A.diagnostics records_of
     reported_outcome d ds e =
         report-same (d ∷ ds) (length log) (length sheet)

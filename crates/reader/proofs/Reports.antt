@@ -1,7 +1,7 @@
 -- Row 5 over the words of the log is the definition's: its stable sort is the log's, and its words are the records.
 use mathlib.Core.Path.{◌≡◌, refl, sym, ap, ◌∙◌}
 use mathlib.Core.Bool.{true, false}
-use mathlib.Core.List.{List, [], ◌∷◌, ◌++◌, map}
+use mathlib.Core.List.{List, [], ◌∷◌, map}
 use Prim.Native.Nat.{ℕ, ◌+◌, ◌*◌, ◌/◌, ◌≤◌, ◌<◌}
 use native.Mathlib.Omega.{arith}
 use borrow.Author.Tests.{ltb-true, ltb-false, lt-ltb, le-ltb, le-leb, lt-leb}
@@ -17,7 +17,7 @@ use Rattle.diag.specs.Log as D
 use Rattle.diag.proofs.Cases.{by_test_lem}
 use Rattle.diag.proofs.Records.{length-flat}
 use Rattle.assembler.specs.Records.{record_of}
-use Rattle.report.specs.Report.{report_reply}
+use Rattle.diag_report.specs.Report.{report_reply}
 
 -- ---- two stable sorts: the definition's inserts the first element last, before those that are not smaller; the log's the last element last, behind those
 -- that are not greater
@@ -90,12 +90,6 @@ unfolding A.sort insert_all
 sort-same [] = refl
 sort-same (d ∷ ds) = insert-same d (A.sort ds) ∙ ap (insert (record_of d)) (sort-same ds) ∙ sym (sort-step (record_of d) (map record_of ds))
 
--- ---- the words
-words_same : (ds : List (A.Diagnostic Span)) → L.log_words ds ≡ D.flat (map record_of ds)
-unfolding L.log_words L.flat L.diagnostic_words D.flat record_of
-words_same [] = refl
-words_same (d ∷ ds) = ap (λ (w : List ℕ). L.diagnostic_words d ++ w) (words_same ds)
-
 insert-length : (d : A.Diagnostic Span) (ds : List (A.Diagnostic Span)) → length (A.insert d ds) ≡ 1 + length ds
 unfolding A.insert
 insert-length d [] = refl
@@ -108,11 +102,11 @@ sort-length (d ∷ ds) = omega (arith, insert-length d (A.sort ds), sort-length 
 
 -- ---- row 5
 pub report-same : (ds : List (A.Diagnostic Span)) (n s : ℕ)
-    → ◌≡◌ {A = ReadOutcome} (record { reply = report_reply n (length ds); log = D.log_after n (D.sort (map record_of ds)); sheet = zeros s }) (read_diagnostics (A.sort ds) n s)
-unfolding report_reply read_diagnostics D.log_after D.padded
+    → ◌≡◌ {A = ReadOutcome (List ℕ)} (record { reply = report_reply n (length ds); log = D.log_after n (D.sort (map record_of ds)); sheet = zeros s }) (read_diagnostics (A.sort ds) n s)
+unfolding report_reply read_diagnostics L.log_words D.log_after D.padded
 report-same ds n s =
     let k : length (A.sort ds) ≡ length ds = sort-length ds in
-    let w : L.log_words (A.sort ds) ≡ D.flat (D.sort (map record_of ds)) = words_same (A.sort ds) ∙ ap D.flat (sort-same ds) in
+    let w : L.log_words (A.sort ds) ≡ D.flat (D.sort (map record_of ds)) = ap D.flat (sort-same ds) in
     let m : length (D.sort (map record_of ds)) ≡ length ds = ap length (sym (sort-same ds)) ∙ length-map (A.sort ds) record_of ∙ k in
     by_test_lem (ltb (n / 5) (length ds))
     (λ t. let h : n / 5 < length ds = ltb-true (n / 5) (length ds) t in

@@ -25,13 +25,13 @@ use Rattle.sheet.proofs.Puts.{put_stored, puts_none, puts_as, ◌▹◌}
 use Rattle.infer.specs.States.{Inside, section, state_section, final_section}
 use Rattle.infer.proofs.Pages.{rows_front}
 use Rattle.infer.proofs.Widths.{states_width, finals_width}
-use Rattle.alphabet.specs.Alphabets.{gamma_codes, sigma_words, gamma_words}
-use Rattle.alphabet.proofs.SymbolWidths.{sigma_width, gamma_width}
-use Rattle.inferred.proofs.CodesFit.{codes_fit}
-use Rattle.answered.specs.Ready.{lines_of, Ready}
-use Rattle.answered.specs.Sections.{Sections, sections_of, joined}
-use Rattle.answered.proofs.Ties.{few, row_size, fed, last, scratch, no_section, ties}
-use Rattle.answered.proofs.Sheets as T
+use Rattle.infer_symbols.specs.Alphabets.{gamma_codes, sigma_words, gamma_words}
+use Rattle.infer_symbols.proofs.SymbolWidths.{sigma_width, gamma_width}
+use Rattle.infer_theorems.proofs.CodesFit.{codes_fit}
+use Rattle.reader_theorems.specs.Ready.{lines_of, Ready}
+use Rattle.reader_theorems.specs.Sections.{Sections, sections_of, joined}
+use Rattle.reader_theorems.proofs.Ties.{few, row_size, fed, last, scratch, no_section, ties}
+use Rattle.reader_theorems.proofs.Sheets as T
 use Rattle.reader.specs.declared.sections.Source.{Source}
 use Rattle.reader.specs.Sheet.{work_of, Parted, sections_in, states_in, counts_of}
 

@@ -23,17 +23,16 @@ use Rattle.sheet.proofs.Puts.{holding, put_stored, ◌▹◌}
 use Rattle.infer.specs.States.{first_state}
 use Rattle.machine.specs.declared.Counts.{Counts}
 use Rattle.machine.specs.declared.Head.{Head}
-use Rattle.machine.specs.Meaning.{counts_in, head_in}
-use Rattle.head.specs.Heads.{blank_at, head_at}
-use Rattle.answered.specs.Ready.{lines_of, Ready}
-use Rattle.answered.specs.Sections.{Sections, sections_of, joined}
-use Rattle.answered.proofs.Ties.{Tied, ties, few}
-use Rattle.answered.proofs.Sheets as T
-use Rattle.answer.specs.declared.Refusal.TheVariants.{SheetTooShort}
+use Rattle.reader_head.specs.Heads.{blank_at, head_at}
+use Rattle.reader_theorems.specs.Ready.{lines_of, Ready}
+use Rattle.reader_theorems.specs.Sections.{Sections, sections_of, joined}
+use Rattle.reader_theorems.proofs.Ties.{Tied, ties, few}
+use Rattle.reader_theorems.proofs.Sheets as T
+use Rattle.reader_answer.specs.declared.Refusal.TheVariants.{SheetTooShort}
 use Rattle.std.specs.Prelude.{Ok, Err}
 use Rattle.std.proofs.Common.{Bor}
-use Rattle.answer.specs.declared.Answer.TheVariants.{Machine}
-use Rattle.answer.specs.Answer.{read_in}
+use Rattle.reader_answer.specs.declared.Answer.TheVariants.{Machine}
+use Rattle.reader_answer.specs.Answer.{read_in}
 use Rattle.reader.specs.declared.sections.Source.{Source}
 use Rattle.reader.specs.Sheet.{Assembles, work_of, Parted, sections_in, counts_of}
 use Rattle.language.specs.Machine.{Machine as Spec}
@@ -41,12 +40,12 @@ use Rattle.reader.proofs.SectionLaws.{rows_same, tokens_few, lengths_few, joined
 
 -- ---- row 6, and the machine
 module _ (ls : List (Line Span)) (log sheet : ℕ) where
-  short_machine : sheet < words_needed ls → ◌≡◌ {A = ReadOutcome} (record { reply = refused (sheet_too_short (words_needed ls)); log = zeros log; sheet = zeros sheet }) (read_machine ls log sheet)
+  short_machine : sheet < words_needed ls → ◌≡◌ {A = ReadOutcome (List ℕ)} (record { reply = refused (sheet_too_short (words_needed ls)); log = zeros log; sheet = zeros sheet }) (read_machine ls log sheet)
   unfolding read_machine
   short_machine h = rw (read_machine, lt-ltb sheet (words_needed ls) h)
 
   long_machine : words_needed ls ≤ sheet
-      → ◌≡◌ {A = ReadOutcome} (record { reply = machine (L.head_of (machine_of ls)); log = zeros log; sheet = filled (L.sheet_words (machine_of ls)) sheet }) (read_machine ls log sheet)
+      → ◌≡◌ {A = ReadOutcome (List ℕ)} (record { reply = machine (L.head_of (machine_of ls)); log = zeros log; sheet = filled (L.sheet_words (machine_of ls)) sheet }) (read_machine ls log sheet)
   unfolding read_machine
   long_machine h = rw (read_machine, le-ltb sheet (words_needed ls) h)
 
@@ -201,7 +200,7 @@ module _ (s : Source) (row : List ℕ) (p : Parted s row) (b : ℕ) (blank : b �
         states_are : length (sections_in s b row).states ≡ 3 * length (machine_of (lines_of s.text.now)).states
         states_are = ap (λ (x : Sections). length x.states) (sym same_sections) ∙ T.states-three text count w first r tied
 
-        counted : counts_in (counts_of (sections_in s b row) s.assembled.now.rules) ≡ (L.head_of (machine_of (lines_of s.text.now))).counts
+        counted : counts_of (sections_in s b row) s.assembled.now.rules ≡ (L.head_of (machine_of (lines_of s.text.now))).counts
         unfolding L.head_of
         counted =
             let c₁ : length x.states / 3 ≡ length made.states = omega (arith, states_are) in
@@ -222,6 +221,6 @@ module _ (s : Source) (row : List ℕ) (p : Parted s row) (b : ℕ) (blank : b �
             let end : 3 * c.states ≡ length t.states = omega (arith, ap (λ (c : Counts). c.states) c-is, states_are, ap (λ (x : Sections). length x.states) same_sections) in
             let place : q ≡ (first_state (sets o 0 (L.sheet_words made)) 0 (length t.states)) =
             q-is ∙ ap₂ (λ (l : List ℕ) (i : ℕ). first_state l 0 i) sheet-set end in
-            let head : head_in h ≡ L.head_of made =
-            ap head_in (h-is ∙ ap (λ (ts : List Token). head_at ts first q c) (sym same)) ∙ T.head_of-sheet text count w first r tied o words_fit q c place (ap counts_in c-is ∙ counted) in
+            let head : h ≡ L.head_of made =
+            h-is ∙ ap (λ (ts : List Token). head_at ts first q c) (sym same) ∙ T.head_of-sheet text count w first r tied o words_fit q c place (c-is ∙ counted) in
             (λ j. record { reply = machine (head j); log = zeros l; sheet = sheet-filled o₃ cleared j }) ∙ long_machine ls l (length o) (omega (arith, needed, fits))

@@ -6,8 +6,8 @@ use Rattle.tokens.specs.Listed.{tokens_of}
 use Rattle.assembler.specs.declared.Assembled.{Assembled}
 use Rattle.assembler.specs.Assembled.{words_from}
 use Rattle.infer.specs.States.{state_section}
-use Rattle.answered.specs.Ready.{lines_of, Ready}
-use Rattle.answered.specs.Sections.{Sections, sections_of}
+use Rattle.reader_theorems.specs.Ready.{lines_of, Ready}
+use Rattle.reader_theorems.specs.Sections.{Sections, sections_of}
 use Rattle.reader.specs.declared.sections.Source.{Source}
 
 -- a text in work that was assembled without a diagnostic, and what assembling it gave
@@ -19,15 +19,16 @@ pub record Assembles (text : List ℕ) (count : ℕ) (w : List ℕ) (a : Assembl
 abbrev pub work_of : Source → List ℕ → List ℕ
 work_of s row = s.tokens.words.now ++ row
 
--- such a text, where work is in two parts: the words for the tokens, and those behind them
+-- an assembled text whose work is in two parts: the words for the tokens, and those behind them
 pub record Parted (s : Source) (row : List ℕ) : Type 0 where
   pub cut : length s.tokens.words.now ≡ words_from (length s.text.now)
   pub assembles : Assembles s.text.now s.tokens.count (work_of s row) s.assembled.now
 
--- its sections, with the blank b, and that of the states alone
+-- the sections of a source, with the blank b
 abbrev pub sections_in : Source → ℕ → List ℕ → Sections
 sections_in s b row = sections_of s.text.now b (tokens_of s.tokens) s.assembled.now.first (work_of s row)
 
+-- the section of states of a source
 abbrev pub states_in : Source → List ℕ → List ℕ
 states_in s row = state_section (length s.text.now + 1) (tokens_of s.tokens) s.assembled.now.first (work_of s row)
 

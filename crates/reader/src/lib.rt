@@ -1,14 +1,11 @@
 // Reading a description: what a call answers.
 #![tactic(auto)]
 
-ghost use Rattle.std.specs.Prelude.{◌≡◌, true, false, length};
-ghost use Rattle.std.proofs.Math.Option.{none};
-ghost use Rattle.language.specs.Outcome.{refusal_of, read_outcome};
-ghost use Rattle.answer.specs.Answer.{leaves_work};
-ghost use Rattle.reader.specs.Reading.{given, given_by, leaves_work_number};
-ghost use Rattle.reader.specs.Reads.{Reads};
+ghost use Rattle.std.specs.Prelude.{◌≡◌, true, false, length, None};
+ghost use Rattle.language.specs.Outcome.{leaves_work_number, refusal_of, read_outcome, read_given};
+ghost use Rattle.reader_answer.specs.Answer.{read_in, leaves_work};
 
-use answer::{Answer, Refusal, words};
+use reader_answer::{Answer, Refusal, words};
 
 pub mod sections;
 pub mod written;
@@ -22,8 +19,8 @@ fn admitted(
     log: &mut [u32],
     sheet: &mut [u32],
 ) -> Result<Answer, Refusal>
-    requires { refusal_of text.now (length work.old) ≡ none }
-    ensures { Reads text.now (length work.old) log.old sheet.old result log.new sheet.new
+    requires { refusal_of text.now (length work.old) ≡ None }
+    ensures { (read_in result log.new sheet.new ≡ read_outcome text.now (length work.old) log.old sheet.old)
         × (leaves_work result ≡ false) }
 {
     let count = lexer::tokenize(text, work);
@@ -31,27 +28,27 @@ fn admitted(
     let faulty = 0 < a.errors;
     if faulty {
         sheet.fill(0);
-        return report::report(log, a.errors, work);
+        return diag_report::report(log, a.errors, work);
     }
     log.fill(0);
     written::machine(text, work, count, &a, sheet)
 }
 
-// Reads a text: answers its machine's head, the sheet filled; or the number of its diagnostics, which the log holds; or a refusal.
+// Reads a text: answers its machine's head, the sheet filled; the number of its diagnostics, which the log holds; or a refusal.
 pub fn read(
     text: &[u8],
     work: &mut [u32],
     log: &mut [u32],
     sheet: &mut [u32],
 ) -> Result<Answer, Refusal>
-    ensures { Reads text.now (length work.old) log.old sheet.old result log.new sheet.new
+    ensures { (read_in result log.new sheet.new ≡ read_outcome text.now (length work.old) log.old sheet.old)
         × (leaves_work result ≡ true → work.new ≡ work.old) }
 {
-    admission::check(text, work.len())?;
+    reader_admission::check(text, work.len())?;
     admitted(text, work, log, sheet)
 }
 
-// The same for callers in other languages: the answer in 36 words, and its number.
+// Reads a text for callers in other languages: the answer in 36 words, and its number.
 #[unsafe(no_mangle)]
 pub extern "C" fn pevzoncs_read(
     text: &[u8],
@@ -60,9 +57,9 @@ pub extern "C" fn pevzoncs_read(
     sheet: &mut [u32],
     answer: &mut [u32],
 ) -> u32
-    ensures { (given result answer.new log.new sheet.new
-        ≡ given_by (read_outcome text.now (length work.old) log.old sheet.old) answer.old)
+    ensures { ((result, answer.new, log.new, sheet.new)
+        ≡ read_given (read_outcome text.now (length work.old) log.old sheet.old) answer.old)
         × (leaves_work_number result ≡ true → work.new ≡ work.old) }
 {
-    words::give(read(text, work, log, sheet), answer)
+    words::give(&words::answer_words(read(text, work, log, sheet)), answer)
 }

@@ -3,16 +3,17 @@ ghost use Rattle.std.specs.Prelude.{◌≡◌, ◌-◌, ◌/◌, ◌^◌, ◌≤
 ghost use Rattle.tokens.specs.Listed.{tokens_of};
 ghost use Rattle.sheet.specs.Rules.{rule_lengths};
 ghost use Rattle.sheet.specs.Puts.{held, Puts};
-ghost use Rattle.answered.specs.Sections.{joined};
+ghost use Rattle.reader_theorems.specs.Sections.{joined};
 
-use alphabet::glyphs::Symbols;
 use assembler::Assembled;
 use infer::finals;
 use infer::names::Names;
+use infer_symbols::glyphs::Symbols;
 use machine::Counts;
 use parser::ItemKind;
 use sheet::comments;
 use sheet::put::Sheet;
+use sheet_layout::{PLACE_WORDS, STATE_WORDS, SYMBOL_WORDS};
 use tokens::Tokens;
 
 // How many members the sections have, and how many words the rules take behind them.
@@ -23,12 +24,14 @@ pub struct Measured {
 }
 
 // How many members of so many words stand from an index to before another.
-fn members(from: usize, to: usize, size: u32) -> u32
-    requires between { (from ≤ to) × (to < 2 ^ 32) }
-    requires size { 0 < size }
-    ensures { result ≡ (to - from) / size }
+fn members(from: usize, to: usize, words: usize) -> u32
+    requires between { (from ≤ to)
+        × (to < 2 ^ 32) }
+    requires words { (0 < words)
+        × (words < 2 ^ 32) }
+    ensures { result ≡ (to - from) / words }
 {
-    (to - from) as u32 / size
+    (to - from) as u32 / words as u32
 }
 
 // A text without diagnostics: its tokens, whose lines have entries, and what assembling them gave.
@@ -85,12 +88,12 @@ impl Source<'_, '_> {
         comments::trailing(sheet, &tokens, h.left);
         let trailing = sheet.at();
         let counts = Counts {
-            states: members(0, states, 3),
-            sigma: members(states, sigma, 3),
-            gamma: members(sigma, gamma, 3),
-            finals: members(gamma, finals, 2),
-            header: members(finals, header, 2),
-            trailing: members(header, trailing, 2),
+            states: members(0, states, STATE_WORDS),
+            sigma: members(states, sigma, SYMBOL_WORDS),
+            gamma: members(sigma, gamma, SYMBOL_WORDS),
+            finals: members(gamma, finals, PLACE_WORDS),
+            header: members(finals, header, PLACE_WORDS),
+            trailing: members(header, trailing, PLACE_WORDS),
             rules: self.assembled.rules as u32,
         };
         Measured {

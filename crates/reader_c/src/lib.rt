@@ -2,8 +2,7 @@
 #![tactic(auto)]
 
 ghost use Rattle.std.specs.Prelude.{◌≡◌, true, length};
-ghost use Rattle.language.specs.Outcome.{read_outcome};
-ghost use Rattle.reader.specs.Reading.{given, given_by, leaves_work_number};
+ghost use Rattle.language.specs.Outcome.{leaves_work_number, read_outcome, read_given};
 
 // Reads a text: the answer in 36 words, and its number.
 #[unsafe(no_mangle)]
@@ -14,8 +13,8 @@ pub extern "C" fn pevzoncs_read(
     sheet: &mut [u32],
     answer: &mut [u32],
 ) -> u32
-    ensures { (given result answer.new log.new sheet.new
-        ≡ given_by (read_outcome text.now (length work.old) log.old sheet.old) answer.old)
+    ensures { ((result, answer.new, log.new, sheet.new)
+        ≡ read_given (read_outcome text.now (length work.old) log.old sheet.old) answer.old)
         × (leaves_work_number result ≡ true → work.new ≡ work.old) }
 {
     reader::pevzoncs_read(text, work, log, sheet, answer)

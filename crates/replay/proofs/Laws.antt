@@ -12,17 +12,12 @@ use Rattle.std.proofs.lemmas.Slice.Eq.{starts_is}
 use Rattle.chars.proofs.Tests.{and_both}
 use borrow.Author.Tests.{lt-leb, eqb-false}
 use borrow.Author.Rules.{rules}
-use Rattle.language.specs.Outcome.{ReadOutcome, read_outcome, reply_words, reply_number, WriteOutcome, WriteReply, write_outcome, write_words}
+use Rattle.language.specs.Outcome.{leaves_work_number, ReadOutcome, read_outcome, reply_words, reply_number, WriteOutcome, WriteReply, write_outcome, write_words, at_front, write_given}
 use Rattle.diag.proofs.Cases.{by_test_lem as by_test}
-use Rattle.answer.specs.declared.Refusal.TheVariants.{TextTooLong, WorkTooShort, InvalidUtf8, OutsideSet, LogTooShort, SheetTooShort}
-use Rattle.std.specs.Prelude.{Result, Ok, Err}
-use Rattle.answer.specs.declared.Refusal.{Refusal}
-use Rattle.answer.specs.declared.Answer.{Answer}
-use Rattle.answer.specs.declared.Answer.TheVariants.{Machine, Diagnostics}
-use Rattle.answer.specs.Answer.{reply_in, read_in, leaves_work}
-use Rattle.reader.specs.Reading.{leaves_work_number}
-use Rattle.writer.specs.Given.{Given, given, given_by}
-use Rattle.reply.specs.Words.{answer_row}
+use Rattle.std.specs.Prelude.{Result}
+use Rattle.reader_answer.specs.declared.Refusal.{Refusal}
+use Rattle.reader_answer.specs.declared.Answer.{Answer}
+use Rattle.reader_answer.specs.Answer.{reply_in, read_in, leaves_work}
 use Rattle.replay.specs.Case.{word_at, marked, wanted, holds_from, left, rows_left, work_left, output_left, output_at, agrees, form_agrees, Within, lengths_fit, reading_agrees, writing_agrees}
 
 -- ---- a word
@@ -107,7 +102,7 @@ module _ (f : ℕ → ℕ) where
       rw s at (e (suc j) (omega arith))) in
       rw (eq-eqb x (f i) p) rest
 
-  -- the same from the front
+  -- a row that holds the words of f from the front has each of them
   each : (row : List ℕ) → holds_from f 0 row ≡ true → (j : ℕ) → j < length row → get_or row j 0 ≡ f j
   each row e j h =
       let z : 0 + j ≡ j = omega arith in
@@ -241,15 +236,6 @@ soiled_read before c text work work' log log' sheet sheet' r h ew el es q =
     rw (k, el, es) at q
 
 -- ---- an answer
-pub leaves : (a : Result Answer Refusal) → leaves_work_number (reply_number (reply_in a)) ≡ true → leaves_work a ≡ true
-leaves (Ok (Machine h)) e = e
-leaves (Ok (Diagnostics n)) e = e
-leaves (Err TextTooLong) e = refl
-leaves (Err WorkTooShort) e = refl
-leaves (Err (InvalidUtf8 n)) e = e
-leaves (Err (OutsideSet n)) e = e
-leaves (Err (LogTooShort n)) e = e
-leaves (Err (SheetTooShort n)) e = e
 
 -- what stands before a call is untouched
 untouched : (before c work : List ℕ) → work ≡ take (length work) before → left before c 0 4294967295 work ≡ true
@@ -258,9 +244,9 @@ untouched before c work e =
     rw (le-leb 0 (length work) (omega arith)) (whole (wanted before c 0 4294967295) work (λ j h.
     ap (λ (r : List ℕ). get_or r j 0) e ∙ get_or-take (length work) before j 0 h ∙ wanted-before before c 0 4294967295 j refl))
 
-module _ (before c : List ℕ) (a : Result Answer Refusal) (row log sheet : List ℕ) (o : ReadOutcome) (q : row ≡ reply_words (reply_in a)) (e : read_in a log sheet ≡ o) (u : Bool) (eu : u ≡ left before c 9 36 row) where
+module _ (before c : List ℕ) (a : Result Answer Refusal) (row log sheet : List ℕ) (o : ReadOutcome (List ℕ)) (q : row ≡ reply_words (reply_in a)) (e : read_in a log sheet ≡ o) (u : Bool) (eu : u ≡ left before c 9 36 row) where
   answer_of : u ≡ left before c 9 36 (reply_words o.reply)
-  answer_of = eu ∙ ap (left before c 9 36) q ∙ ap (λ (x : ReadOutcome). left before c 9 36 (reply_words x.reply)) e
+  answer_of = eu ∙ ap (left before c 9 36) q ∙ ap (λ (x : ReadOutcome (List ℕ)). left before c 9 36 (reply_words x.reply)) e
 
   pub agrees-answer : u ≡ false → false ≡ agrees before c o
   unfolding agrees
@@ -269,7 +255,7 @@ module _ (before c : List ℕ) (a : Result Answer Refusal) (row log sheet : List
   module _ (t : u ≡ true) (v : Bool) (ev : v ≡ rows_left before c log sheet) where
     rows_of : v ≡ agrees before c o
     unfolding agrees
-    rows_of = rw (← answer_of, t) (ev ∙ ap (λ (x : ReadOutcome). rows_left before c x.log x.sheet) e)
+    rows_of = rw (← answer_of, t) (ev ∙ ap (λ (x : ReadOutcome (List ℕ)). rows_left before c x.log x.sheet) e)
 
     pub agrees-rows : v ≡ false → false ≡ agrees before c o
     agrees-rows f = sym f ∙ rows_of
@@ -279,7 +265,7 @@ module _ (before c : List ℕ) (a : Result Answer Refusal) (row log sheet : List
     agrees-work p w n work work' ew en f d =
         let m : n ≡ reply_number (reply_in a) = en ∙ ap (λ (r : List ℕ). get_or r 0 0) q in
         let k : w ≡ true = ew ∙ by_test (leaves_work_number n)
-        (λ y. rw y (rw (f (leaves a (rw m at y))) (untouched before c work d)))
+        (λ y. rw y (rw (f (rw m at y)) (untouched before c work d)))
         (λ y. rw y) in
         k ∙ sym p ∙ rows_of
 
@@ -301,17 +287,21 @@ soiled_form before c text work work' log log' sheet sheet' out out' end r h ew e
     let k : length work' ≡ length work = ap length ew ∙ simp length-take (omega arith) in
     rw (k, el, es, eo) at q
 
-answer_row_lem : (r : WriteReply) (row : List ℕ) → length row ≡ 36 → answer_row r row ≡ write_words r
-unfolding answer_row
-answer_row_lem r row e =
+-- a row of 36 words holds the answer's alone
+at_front_lem : (r : WriteReply) (row : List ℕ) → length row ≡ 36 → at_front (write_words r) row ≡ write_words r
+at_front_lem r row e =
     let h : 36 ≤ length row = omega arith in
     let k : length row ≤ 36 = omega arith in
     ap (λ (b : Bool). elim b [ true ↦ write_words r ++ drop 36 row | false ↦ row ]) (le-leb 36 (length row) h) ∙ rw (drop_of_length-le row k)
 
-module _ (before c : List ℕ) (end n : ℕ) (row row' log sheet out : List ℕ) (o : WriteOutcome) (e : given n row' log sheet out ≡ given_by o row) (l : length row ≡ 36) (u : Bool) (eu : u ≡ left before c 45 3 row') where
+-- what an exported writing call gives
+abbrev Given : Type 0
+Given = ℕ × List ℕ × List ℕ × List ℕ × List ℕ
+
+module _ (before c : List ℕ) (end n : ℕ) (row row' log sheet out : List ℕ) (o : WriteOutcome (List ℕ)) (e : (n, row', log, sheet, out) ≡ write_given o row) (l : length row ≡ 36) (u : Bool) (eu : u ≡ left before c 45 3 row') where
   form_row : u ≡ left before c 45 3 (write_words o.reply)
-  unfolding given_by
-  form_row = eu ∙ ap (λ (g : Given). left before c 45 3 g.row) e ∙ ap (left before c 45 3) (answer_row_lem o.reply row l)
+  unfolding write_given
+  form_row = eu ∙ ap (λ (g : Given). left before c 45 3 g.1) e ∙ ap (left before c 45 3) (at_front_lem o.reply row l)
 
   pub form-answer : u ≡ false → false ≡ form_agrees before c end o
   unfolding form_agrees
@@ -319,8 +309,8 @@ module _ (before c : List ℕ) (end n : ℕ) (row row' log sheet out : List ℕ)
 
   module _ (t : u ≡ true) (v : Bool) (ev : v ≡ rows_left before c log sheet) where
     form-rows_of : v ≡ rows_left before c o.log o.sheet
-    unfolding given_by
-    form-rows_of = ev ∙ ap (λ (g : Given). rows_left before c g.log g.sheet) e
+    unfolding write_given
+    form-rows_of = ev ∙ ap (λ (g : Given). rows_left before c g.2 g.3) e
 
     pub form-rows : v ≡ false → false ≡ form_agrees before c end o
     unfolding form_agrees
@@ -328,8 +318,8 @@ module _ (before c : List ℕ) (end n : ℕ) (row row' log sheet out : List ℕ)
 
     module _ (p : v ≡ true) (w : Bool) (ew : w ≡ output_at c end out) where
       form-output_of : w ≡ form_agrees before c end o
-      unfolding form_agrees given_by
-      form-output_of = rw (← form_row, t, ← form-rows_of, p) (ew ∙ ap (λ (g : Given). output_at c end g.output) e)
+      unfolding form_agrees write_given
+      form-output_of = rw (← form_row, t, ← form-rows_of, p) (ew ∙ ap (λ (g : Given). output_at c end g.4) e)
 
       pub form-output : w ≡ false → false ≡ form_agrees before c end o
       form-output f = sym f ∙ form-output_of

@@ -1,7 +1,6 @@
 -- A stored case (oracle/src/store.rs has its layout), and when an outcome is the stored one.
 use Rattle.std.specs.Prelude.{ℕ, suc, ◌+◌, ◌-◌, ◌*◌, ◌/◌, ◌≤◌, Bool, true, false, cond, ◌&&◌, List, [], ◌∷◌, length, take, drop, replicate, ◌==◌, nat_le, nat_lt, slice_index, get_or}
-use Rattle.language.specs.Outcome.{ReadOutcome, reply_words, read_outcome, WriteOutcome, write_words, write_outcome}
-use Rattle.reader.specs.Reading.{leaves_work_number}
+use Rattle.language.specs.Outcome.{leaves_work_number, ReadOutcome, reply_words, read_outcome, WriteOutcome, write_words, write_outcome}
 
 -- the little-endian word at an index of stored bytes, 0 behind the last
 unfoldable pub word_at : List ℕ → ℕ → ℕ
@@ -12,7 +11,8 @@ word_at c i =
 abbrev pub marked : ℕ → ℕ
 marked m = cond (m == 4294967295) 0 m
 
--- the word that is to stand at i, of a row whose words are stored from `from` on: zero behind the last; that of before where it is left untouched
+-- the word that is to stand at i, of a row whose words are stored from `from` on: zero behind the last; that of before where it
+-- is left untouched
 unfoldable pub wanted : List ℕ → List ℕ → ℕ → ℕ → ℕ → ℕ
 unfolding word_at
 wanted before c from m i = cond (m == 4294967295) (slice_index before i) (cond (nat_lt i m) (word_at c (from + i)) 0)
@@ -27,7 +27,7 @@ unfoldable pub left : List ℕ → List ℕ → ℕ → ℕ → List ℕ → Boo
 unfolding holds_from wanted
 left before c from m row = nat_le (marked m) (length row) && holds_from (wanted before c from m) 0 row
 
--- whether log and sheet are: their marks are the words 6 and 7, and what is stored begins at the word 48
+-- whether log and sheet are left as stored: their marks are the words 6 and 7, and what is stored begins at the word 48
 unfoldable pub rows_left : List ℕ → List ℕ → List ℕ → List ℕ → Bool
 unfolding left word_at
 rows_left before c log sheet = left before c 48 (word_at c 6) log && left before c (48 + marked (word_at c 6)) (word_at c 7) sheet
@@ -38,10 +38,11 @@ unfolding left
 work_left n before c work = cond (leaves_work_number n) (left before c 0 4294967295 work) true
 
 -- whether an outcome is the stored one, with the 36 words of the answer at the word 9
-unfoldable pub agrees : List ℕ → List ℕ → ReadOutcome → Bool
+unfoldable pub agrees : List ℕ → List ℕ → ReadOutcome (List ℕ) → Bool
 agrees before c o = left before c 9 36 (reply_words o.reply) && rows_left before c o.log o.sheet
 
--- whether an output is left as stored, with room for all that is stored: the bytes that are stored, and behind them that of before the call, 165
+-- whether an output is left as stored, with room for all that is stored: the bytes that are stored, and behind them that of
+-- before the call, 165
 unfoldable pub output_left : List ℕ → List ℕ → Bool
 unfolding holds_from
 output_left stored row = nat_le (length stored) (length row) && holds_from (λ i. get_or stored i 165) 0 row
@@ -50,12 +51,12 @@ output_left stored row = nat_le (length stored) (length row) && holds_from (λ i
 abbrev pub bytes_before : List ℕ → ℕ → ℕ → List ℕ
 bytes_before c end n = take n (drop (end - n) c)
 
--- whether it is where what is stored ends at an offset; the word 8 is its mark
+-- whether an output is left as stored, where what is stored ends at an offset; the word 8 is its mark
 unfoldable pub output_at : List ℕ → ℕ → List ℕ → Bool
 output_at c end row = cond (nat_lt end (marked (word_at c 8))) false (output_left (bytes_before c end (marked (word_at c 8))) row)
 
 -- whether an outcome of writing is the stored one, with the first words of the answer at the word 45
-unfoldable pub form_agrees : List ℕ → List ℕ → ℕ → WriteOutcome → Bool
+unfoldable pub form_agrees : List ℕ → List ℕ → ℕ → WriteOutcome (List ℕ) → Bool
 form_agrees before c end o =
     left before c 45 3 (write_words o.reply) && (rows_left before c o.log o.sheet && output_at c end o.output)
 
@@ -78,7 +79,7 @@ pub record Within (c : List ℕ) : Type 0 where
   pub sheet : word_at c 4 ≤ 16384
   pub text : word_at c 1 ≤ length c
 
--- whether they are
+-- whether the lengths of a case are within the program's buffers, and its text within the case
 unfoldable pub lengths_fit : List ℕ → Bool
 lengths_fit c = nat_le (word_at c 2) 40960 && (nat_le (word_at c 3) 16384 && (nat_le (word_at c 4) 16384 && nat_le (word_at c 1) (length c)))
 
@@ -86,12 +87,13 @@ lengths_fit c = nat_le (word_at c 2) 40960 && (nat_le (word_at c 3) 16384 && (na
 abbrev pub text_of : List ℕ → List ℕ
 text_of c = drop (length c - word_at c 1) c
 
--- whether reading the text of a case, with buffers of its lengths, has the stored outcome; not where a length is beyond the program's buffers
+-- whether reading the text of a case, with buffers of its lengths, has the stored outcome; not where a length is beyond the
+-- program's buffers
 unfoldable pub reading_agrees : List ℕ → List ℕ → Bool
 unfolding lengths_fit
 reading_agrees before c = lengths_fit c && agrees before c (read_outcome (text_of c) (word_at c 2) (take (word_at c 3) before) (take (word_at c 4) before))
 
--- whether writing its form has
+-- whether writing the form of a case's text has the stored outcome
 unfoldable pub writing_agrees : List ℕ → List ℕ → Bool
 unfolding lengths_fit
 writing_agrees before c =

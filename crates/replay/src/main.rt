@@ -1,6 +1,6 @@
-// Replays the oracle's stored answers. Cases come from standard input (oracle/src/store.rs says how they are laid out); each is read and
-// written with dirty buffers of the lengths that it says, and every word of the answers and of what the calls leave behind is compared. Written are a line
-// for each case that differs, and how many of each kind of answer agreed.
+// Replays the oracle's stored answers. Cases come from standard input (oracle/src/store.rs says how they are laid out); each is
+// read and written with dirty buffers of the lengths that it says, and every word of the answers and of what the calls leave
+// behind is compared. Written are a line for each case that differs, and how many of each kind of answer agreed.
 #![tactic(auto)]
 
 ghost use Rattle.std.specs.Prelude.{◌≡◌, ◌<◌, ◌≤◌, true, length, take, drop, replicate, IfOk};
@@ -10,8 +10,8 @@ ghost use Rattle.replay.specs.Case.{form_agrees, Fronts, Rooms, Within, lengths_
 
 use std::io::{self, Read};
 
-// The mark that says that a row is left untouched. A mark is no Option, since it is a word of the stored case (oracle/src/store.rs), and the definitions read
-// it as it is stored.
+// The mark that says that a row is left untouched. A mark is no Option, since it is a word of the stored case
+// (oracle/src/store.rs), and the definitions read it as it is stored.
 const UNTOUCHED: u32 = 0xffff_ffff;
 // Bytes of a case in front of the log's words.
 const HEAD: usize = 192;
@@ -21,7 +21,7 @@ const CASE: usize = 32_768;
 const WORK: usize = 40_960;
 
 const ROW: usize = 16_384;
-// Bytes of output, likewise.
+// Bytes of output: the most that is lent.
 const OUTPUT: usize = 65_536;
 // What a byte of output holds before a call.
 const DIRT: u8 = 165;
@@ -38,14 +38,16 @@ fn word_at(case: &[u8], i: usize) -> u32
 
 // The length at an index of a case.
 fn size_at(case: &[u8], i: usize) -> usize
-    ensures { (result ≡ word_at case.now i) × (result < 4294967296) }
+    ensures { (result ≡ word_at case.now i)
+        × (result < 4294967296) }
 {
     word_at(case, i) as usize
 }
 
 // How many words or bytes a mark says are stored.
 fn marked(mark: u32) -> usize
-    ensures { (result ≡ marked mark) × (result < 4294967296) }
+    ensures { (result ≡ marked mark)
+        × (result < 4294967296) }
 {
     if mark == UNTOUCHED { 0 } else { mark as usize }
 }
@@ -72,6 +74,13 @@ fn soil_output(output: &mut [u8])
     output.fill(DIRT);
 }
 
+// Whether the reading call and the writing call agree with a case.
+#[derive(Clone, Copy)]
+struct Agreed {
+    reading: bool,
+    writing: bool,
+}
+
 // A stored case, and what the rows of words hold before a call.
 #[derive(Clone, Copy)]
 struct Stored<'a> {
@@ -80,8 +89,8 @@ struct Stored<'a> {
     ghost enough: { 40960 ≤ length before.now },
 }
 
-// The rows that are lent to a call stay parameters of their own: a struct of them was tried, and of a struct that is lent itself the borrow checker
-// does not cover parts of several fields lent at once.
+// The rows that are lent to a call stay parameters of their own: a struct of them was tried, and of a struct that is lent itself
+// the borrow checker does not cover parts of several fields lent at once.
 impl Stored<'_> {
     // The word that is to stand at i.
     fn wanted(&self, from: usize, mark: u32, i: usize) -> u32
@@ -122,7 +131,8 @@ impl Stored<'_> {
 
     // Whether log and sheet are left as stored.
     fn rows_left(&self, log: &[u32], sheet: &[u32]) -> bool
-        requires { (length log.now ≤ length self.now.before.now) × (length sheet.now ≤ length self.now.before.now) }
+        requires { (length log.now ≤ length self.now.before.now)
+            × (length sheet.now ≤ length self.now.before.now) }
         ensures { result ≡ rows_left self.now.before.now self.now.case.now log.now sheet.now }
     {
         let m = word_at(self.case, 6);
@@ -152,11 +162,11 @@ impl Stored<'_> {
         ensures { result ≡ agrees self.now.before.now self.now.case.now
             (read_outcome text.now (length work.old) log.old sheet.old) }
     {
-        let answer = answer::words::answer_words(reader::read(text, work, log, sheet));
+        let answer = reader_answer::words::answer_words(reader::read(text, work, log, sheet));
         self.left(9, 36, &answer) && self.rows_left(log, sheet) && self.work_left(answer[0], work)
     }
 
-    // The same with any buffers, which are filled with the front of `before` first.
+    // Whether a reading call agrees with what is stored, with buffers that are filled with the front of `before` first.
     #[tactic(auto, using(crate::proofs::Laws::soiled))]
     fn read_agrees(&self, text: &[u8], work: &mut [u32], log: &mut [u32], sheet: &mut [u32]) -> bool
         requires { Fronts self.now.before.now work.old log.old sheet.old }
@@ -193,7 +203,7 @@ impl Stored<'_> {
             && self.work_left(number, work)
     }
 
-    // The same with any buffers, which are filled first.
+    // Whether a writing call agrees with what is stored, with buffers that are filled first.
     #[tactic(auto, using(crate::proofs::Laws::soiled))]
     fn write_agrees(
         &self,
@@ -219,7 +229,8 @@ impl Stored<'_> {
     // Whether the lengths of a case are within the program's buffers, and its text within the case.
     #[tactic(auto, using(crate::proofs::Laws::fits))]
     fn lengths_fit(&self) -> bool
-        ensures { (result ≡ lengths_fit self.now.case.now) × (result ≡ true → Within self.now.case.now) }
+        ensures { (result ≡ lengths_fit self.now.case.now)
+            × (result ≡ true → Within self.now.case.now) }
     {
         if WORK < size_at(self.case, 2) {
             return false;
@@ -253,7 +264,7 @@ impl Stored<'_> {
         )
     }
 
-    // Whether the writing call does.
+    // Whether the writing call agrees with a case.
     fn writing_agrees(
         &self,
         work: &mut [u32],
@@ -284,6 +295,24 @@ impl Stored<'_> {
             &mut output[..o],
         )
     }
+
+    // Whether each of the calls agrees with the case.
+    fn agreed(
+        &self,
+        work: &mut [u32],
+        log: &mut [u32],
+        sheet: &mut [u32],
+        output: &mut [u8],
+    ) -> Agreed
+        requires rooms { Rooms work.old log.old sheet.old }
+        requires output { 65536 ≤ length output.old }
+        ensures reading { result.reading ≡ reading_agrees self.now.before.now self.now.case.now }
+        ensures writing { result.writing ≡ writing_agrees self.now.before.now self.now.case.now }
+    {
+        let reading = self.reading_agrees(work, log, sheet);
+        let writing = self.writing_agrees(work, log, sheet, output);
+        Agreed { reading, writing }
+    }
 }
 
 // Words that no answer is likely to hold, all different.
@@ -307,7 +336,7 @@ fn load(input: &mut impl Read, case: &mut [u8]) -> io::Result<usize>
     requires { 32768 ≤ length case.old }
     ensures { IfOk result (λ n. n ≤ 32768) }
 {
-    if input::fill(input, &mut case[..HEAD])? < HEAD {
+    if program_input::fill(input, &mut case[..HEAD])? < HEAD {
         return Ok(0);
     }
     let n = size_at(case, 0);
@@ -315,7 +344,7 @@ fn load(input: &mut impl Read, case: &mut [u8]) -> io::Result<usize>
         return Ok(0);
     }
     let e = HEAD + n;
-    if input::fill(input, &mut case[HEAD..e])? < n {
+    if program_input::fill(input, &mut case[HEAD..e])? < n {
         return Ok(0);
     }
     Ok(e)
@@ -361,54 +390,65 @@ fn count(
     }
 }
 
-// Replays a case, the i-th.
-fn replay_case(
+// Counts what agreed of a case, the i-th, and says what did not.
+fn count_case(
     rt: &impl Print,
     i: u32,
-    stored: Stored,
-    work: &mut [u32],
-    log: &mut [u32],
-    sheet: &mut [u32],
-    output: &mut [u8],
+    case: &[u8],
+    agreed: Agreed,
     tally: &mut Tally,
-) -> io::Result<()>
-    requires rooms { Rooms work.old log.old sheet.old }
-    requires output { 65536 ≤ length output.old }
-{
-    let r = stored.reading_agrees(work, log, sheet);
-    let k = kind(word_at(stored.case, 9));
-    count(rt, r, k, &mut tally.reading, "reading differs: case ", i)?;
-    let w = stored.writing_agrees(work, log, sheet, output);
-    let l = kind(word_at(stored.case, 45));
-    count(rt, w, l, &mut tally.writing, "writing differs: case ", i)
+) -> io::Result<()> {
+    let k = kind(word_at(case, 9));
+    count(
+        rt,
+        agreed.reading,
+        k,
+        &mut tally.reading,
+        "reading differs: case ",
+        i,
+    )?;
+    let l = kind(word_at(case, 45));
+    count(
+        rt,
+        agreed.writing,
+        l,
+        &mut tally.writing,
+        "writing differs: case ",
+        i,
+    )
 }
 
-// Replays n cases.
+// Replays the cases of an input, whose first word says how many they are; how many of each kind agreed.
 fn replay(
     rt: &impl Print,
     input: &mut impl Read,
-    n: u32,
     before: &[u32],
     work: &mut [u32],
     log: &mut [u32],
     sheet: &mut [u32],
     output: &mut [u8],
-    tally: &mut Tally,
-) -> io::Result<()>
+) -> io::Result<Tally>
     requires before { 40960 ≤ length before.now }
     requires rooms { Rooms work.old log.old sheet.old }
     requires output { 65536 ≤ length output.old }
 {
+    let mut tally = Tally {
+        reading: [0; 9],
+        writing: [0; 9],
+    };
     let mut case = [0u8; CASE];
+    program_input::fill(input, &mut case[..4])?;
+    let n = word_at(&case, 0);
     for i in 0..n {
         let e = load(input, &mut case)?;
         let stored = Stored {
             case: &case[..e],
             before,
         };
-        replay_case(rt, i, stored, work, log, sheet, output, tally)?;
+        let agreed = stored.agreed(work, log, sheet, output);
+        count_case(rt, i, stored.case, agreed, &mut tally)?;
     }
-    Ok(())
+    Ok(tally)
 }
 
 // Says how many cases of each kind agreed.
@@ -425,25 +465,16 @@ fn main(rt: HostRuntime) -> io::Result<()> {
     let mut log = [0u32; ROW];
     let mut sheet = [0u32; ROW];
     let mut output = [0u8; OUTPUT];
-    let mut tally = Tally {
-        reading: [0; 9],
-        writing: [0; 9],
-    };
-    let mut first = [0u8; 4];
     scatter(&mut before);
     let mut stdin = rt.stdin();
-    input::fill(&mut stdin, &mut first)?;
-    let n = word_at(&first, 0);
-    replay(
+    let tally = replay(
         &rt,
         &mut stdin,
-        n,
         &before,
         &mut work,
         &mut log,
         &mut sheet,
         &mut output,
-        &mut tally,
     )?;
     println!(&rt; "reading")?;
     say_kinds(&rt, &tally.reading)?;

@@ -13,14 +13,14 @@ use Rattle.tokens.proofs.Rows.{length-rows}
 use Rattle.parser.specs.Row.{ended, peek}
 use Rattle.parser.specs.Lines.{line_length}
 use Rattle.diag.specs.declared.Span.{Span}
-use Rattle.language.specs.Layout.{flat}
+use Rattle.language.specs.Layout.{flat, place_words}
 use Rattle.language.proofs.Counts.{flat_append}
 use Rattle.assembler.specs.Entries.{behind, entries}
 use Rattle.assembler.specs.Feeds.{AllFed, Fed, CommentsLast}
 use Rattle.assembler.proofs.Rows.{entries_at, entries-step, entries-end, fed_here, fed_on}
 use Rattle.assembler.proofs.EntriesMean.{length_by}
 use Rattle.sheet.specs.declared.comments.Pending.{Pending}
-use Rattle.sheet.specs.Comments.{span_words, text_of, text_words, comments_in, between, next, nothing, passed, passed_all, begins, header_of, header_from, header, trailing}
+use Rattle.sheet.specs.Comments.{text_of, text_words, comments_in, between, next, nothing, passed, passed_all, begins, header_of, header_from, header, trailing}
 use Rattle.sheet.specs.declared.put.Sheet.{Sheet}
 use Rattle.sheet.specs.Puts.{Puts}
 use Rattle.sheet.proofs.Puts.{puts_none, puts_as, ◌▹◌, Left, left_start, left_on, left_end, left_last}
@@ -45,9 +45,9 @@ unfolding comments_in
 comments_no t h = rw (ne_eqb t.kind 12 h, comments_in)
 
 module _ (t : Token) (s : Sheet) where
-  pub comment_put : (r : Sheet) (p : Span) → t.kind ≡ 12 → p ≡ text_of t → Puts (span_words p) s r → Puts (flat text_words (comments_in (t ∷ []))) s r
+  pub comment_put : (r : Sheet) (p : Span) → t.kind ≡ 12 → p ≡ text_of t → Puts (place_words p) s r → Puts (flat text_words (comments_in (t ∷ []))) s r
   unfolding flat
-  comment_put r p h q u = puts_as (ap (flat text_words) (comments-one t h) ∙ ap span_words (sym q)) u
+  comment_put r p h q u = puts_as (ap (flat text_words) (comments-one t h) ∙ ap place_words (sym q)) u
 
   pub comment-none : (t.kind ≡ 12 → ⊥) → Puts (flat text_words (comments_in (t ∷ []))) s s
   unfolding flat

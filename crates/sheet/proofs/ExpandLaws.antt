@@ -1,20 +1,20 @@
 -- Laws of the expansion: the inner loop turns the wheels from the last, the outer writes the rule of each choice.
 use Rattle.std.proofs.Common.{◌≡◌, ℕ, zero, suc, ◌+◌, ◌*◌, ◌^◌, ◌<◌, ◌≤◌, Bool, true, false, cond, eqb, List, [], ◌∷◌, ◌++◌, map, length, take, drop, sym, refl, ap, ◌∙◌, add-one, arith, length-take-le, drop_of_length-le, drop-cons, drop-drop, le-ltb, lt-ltb}
-use mathlib.Core.Option.{none, some}
+use Rattle.std.specs.Prelude.{None, Some}
 use lib.ListN.{length-map}
 use native.Mathlib.Decide.{dec_lt}
 use Rattle.tokens.specs.declared.Token.{Token}
 use Rattle.parser.specs.Row.{ended, peek}
 use Rattle.diag.specs.declared.Span.{Span}
 use Rattle.language.specs.Assembly.{choices}
-use Rattle.language.specs.Layout.{flat}
+use Rattle.language.specs.Layout.{flat, no_place}
 use Rattle.sheet.specs.declared.rules.Rule.{Rule}
 use Rattle.sheet.specs.declared.put.Sheet.{Sheet}
 use Rattle.sheet.specs.Puts.{Puts}
 use Rattle.sheet.specs.Comments.{between}
 use Rattle.sheet.specs.Turns.{rest, full, left, turned, later}
 use Rattle.sheet.specs.Wheels.{members, read_sets, first_member, goes_on, next_entry, entries_of, wheel, choices_behind}
-use Rattle.sheet.specs.Rules.{no_span, first_entry, rule_at, sets_of, own_place, rule_words, Placed, entries_read, dressed, expanded}
+use Rattle.sheet.specs.Rules.{first_entry, rule_at, sets_of, own_place, rule_words, Placed, entries_read, dressed, expanded}
 use Rattle.sheet.proofs.Puts.{puts_as, ◌▹◌, Left, left_on, left_end}
 use Rattle.sheet.proofs.Turns.{left-all, left_turned}
 use Rattle.sheet.proofs.CommentLaws.{between_none}
@@ -37,7 +37,7 @@ choices-on ts es cs h = left_turned (wheel ts) (wheels_are ts) es cs h
 
 -- ---- what is left to store are the rules of the choices behind the one at which the wheels stand
 abbrev pub plain : ℕ → List Token → Rule → List Token → List ℕ
-plain blank ts r = rule_words blank ts r no_span []
+plain blank ts r = rule_words blank ts r no_place []
 
 pub record Choosing (ts : List Token) (blank : ℕ) (r : Rule) (es cs₀ cs : List ℕ) (first now : Sheet) : Type 0 where
   pub size : length cs ≡ length es
@@ -45,27 +45,27 @@ pub record Choosing (ts : List Token) (blank : ℕ) (r : Rule) (es cs₀ cs : Li
 
 module _ (ts : List Token) (es cs : List ℕ) where
   -- the next choice, and those behind it
-  choices_next : (cs' : List ℕ) → length cs' ≡ length es → turned (wheel ts) es cs (length es) ≡ some cs' → choices_behind ts es cs ≡ map (peek ts) cs' ∷ choices_behind ts es cs'
+  choices_next : (cs' : List ℕ) → length cs' ≡ length es → turned (wheel ts) es cs (length es) ≡ Some cs' → choices_behind ts es cs ≡ map (peek ts) cs' ∷ choices_behind ts es cs'
   unfolding choices_behind later
   choices_next cs' h e = ap (later (wheel ts) es) e ∙ choices-on ts es cs' h
 
-  choices_none : turned (wheel ts) es cs (length es) ≡ none → choices_behind ts es cs ≡ []
+  choices_none : turned (wheel ts) es cs (length es) ≡ None → choices_behind ts es cs ≡ []
   unfolding choices_behind later
   choices_none e = ap (later (wheel ts) es) e
 
-  pub choices_fewer : (cs' : List ℕ) → length cs' ≡ length es → turned (wheel ts) es cs (length es) ≡ some cs' → length (choices_behind ts es cs') < length (choices_behind ts es cs)
+  pub choices_fewer : (cs' : List ℕ) → length cs' ≡ length es → turned (wheel ts) es cs (length es) ≡ Some cs' → length (choices_behind ts es cs') < length (choices_behind ts es cs)
   choices_fewer cs' h e = omega (arith, ap length (choices_next cs' h e))
 
 module _ (ts : List Token) (blank : ℕ) (r : Rule) (es cs₀ cs : List ℕ) (first now : Sheet) (g : Choosing ts blank r es cs₀ cs first now) where
-  pub choosing_on : (cs' : List ℕ) (then : Sheet) → length cs' ≡ length es → turned (wheel ts) es cs (length es) ≡ some cs'
-      → Puts (rule_words blank ts r no_span (between ts r.line r.line) (map (peek ts) cs')) now then → Choosing ts blank r es cs₀ cs' first then
+  pub choosing_on : (cs' : List ℕ) (then : Sheet) → length cs' ≡ length es → turned (wheel ts) es cs (length es) ≡ Some cs'
+      → Puts (rule_words blank ts r no_place (between ts r.line r.line) (map (peek ts) cs')) now then → Choosing ts blank r es cs₀ cs' first then
   unfolding flat
   choosing_on cs' then h e u =
-      let one : plain blank ts r (map (peek ts) cs') ≡ rule_words blank ts r no_span (between ts r.line r.line) (map (peek ts) cs') =
-      ap (λ (l : List Token). rule_words blank ts r no_span l (map (peek ts) cs')) (sym (between_none ts r.line r.line (omega arith))) in
+      let one : plain blank ts r (map (peek ts) cs') ≡ rule_words blank ts r no_place (between ts r.line r.line) (map (peek ts) cs') =
+      ap (λ (l : List Token). rule_words blank ts r no_place l (map (peek ts) cs')) (sym (between_none ts r.line r.line (omega arith))) in
       record { size = h; left = left_on (ap (flat (plain blank ts r)) (choices_next ts es cs cs' h e)) g.left (puts_as one u) }
 
-  pub chosen : turned (wheel ts) es cs (length es) ≡ none → Puts (flat (plain blank ts r) (choices_behind ts es cs₀)) first now
+  pub chosen : turned (wheel ts) es cs (length es) ≡ None → Puts (flat (plain blank ts r) (choices_behind ts es cs₀)) first now
   unfolding flat
   chosen e = left_end (ap (flat (plain blank ts r)) (choices_none ts es cs e)) g.left
 
@@ -144,7 +144,7 @@ module _ (ts : List Token) (line n count : ℕ) (entries members : List ℕ) (e 
 
     pub line_put : (blank lead : ℕ) (c : Span) (s a z : Sheet) → take n members ≡ map (first_member ts) (entries_read ts line) → c ≡ own_place ts line
         → Puts (rule_words blank ts r c (between ts lead r.line) (map (peek ts) (take n members))) s a
-        → Puts (flat (rule_words blank ts r no_span []) (choices_behind ts (take n entries) (take n members))) a z → Puts (expanded blank ts lead line) s z
+        → Puts (flat (rule_words blank ts r no_place []) (choices_behind ts (take n entries) (take n members))) a z → Puts (expanded blank ts lead line) s z
     unfolding expanded dressed
     line_put blank lead c s a z f own u v =
         let es : List ℕ = entries_read ts line in

@@ -31,7 +31,7 @@ infixr 20 ◌▹◌
 pub ◌▹◌ : {a b : List ℕ} {s p r : Sheet} → Puts a s p → Puts b p r → Puts (a ++ b) s r
 ◌▹◌ {a} {b} {s} {p} {r} u v = record { puts = v.puts ∙ ap (λ x. put x b) u.puts ∙ put-append (held s) a b; same_row = v.same_row ∙ u.same_row }
 
--- the same words
+-- what puts some words puts those that equal them
 pub puts_as : {a b : List ℕ} {s r : Sheet} → b ≡ a → Puts a s r → Puts b s r
 puts_as e u = rw e u
 

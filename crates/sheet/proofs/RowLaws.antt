@@ -61,7 +61,7 @@ module _ (ts : List Token) (p : Pending) (i : ℕ) (t : Token) where
       let few : k ≡ length (between ts (lead_from p) i) = leads ∙ ap (λ (l : ℕ). length (between ts l i)) f in
       rw (eq-eqb t.kind 27 h, ← product, ← eq, ← few, ← zero_more)
 
--- their number fits: the product is at most 262,145, its factor a word's
+-- the number of a rule's words fits: the product is at most 262,145, its factor a word's
 module _ (l : List Token) (n m : ℕ) (product : n ≡ combinations l) (word : m < 2 ^ 32) where
   product_small : n * (11 + 7 * m) ≤ 262145 * (11 + 7 * 2 ^ 32)
   product_small =

@@ -1,6 +1,6 @@
 -- Wheels turned from the last: every choice of one member of each, in the order of `choices`.
 use Rattle.std.proofs.Common.{◌≡◌, ℕ, zero, suc, Bool, true, false, cond, List, [], ◌∷◌, ◌++◌, map, length, get_or, set, sym, refl, ap, ◌∙◌, arith}
-use mathlib.Core.Option.{Option, none, some}
+use Rattle.std.specs.Prelude.{Option, None, Some}
 use Rattle.sheet.specs.Turns.{Wheel, rest, full, left, turned, later}
 use Rattle.language.specs.Assembly.{each_front, choices}
 
@@ -24,14 +24,14 @@ module _ {E C A : Type 0} (w : Wheel E C A) where
 
   -- the first of the wheels turns once all others have
   unfoldable joined : E → C → Option (List C) → List C → Option (List C)
-  joined e c (some cs) l = some (c ∷ cs)
-  joined e c none l = cond (w.goes_on e c) (some (w.step c ∷ l)) none
+  joined e c (Some cs) l = Some (c ∷ cs)
+  joined e c None l = cond (w.goes_on e c) (Some (w.step c ∷ l)) None
 
   turned_front : (t : ℕ) (e : E) (es : List E) (c : C) (cs : List C) → turned w (e ∷ es) (c ∷ cs) (suc t) ≡ joined e c (turned w es cs t) (again t es cs)
   unfolding turned joined again
   turned_front zero e es c cs = go (w.goes_on e c)
     where
-      go : (b : Bool) → elim b [ true ↦ some (w.step c ∷ cs) | false ↦ none ] ≡ cond b (some (w.step c ∷ cs)) none
+      go : (b : Bool) → elim b [ true ↦ Some (w.step c ∷ cs) | false ↦ None ] ≡ cond b (Some (w.step c ∷ cs)) None
       go true = refl
       go false = refl
   turned_front (suc t) e es c cs = go (w.goes_on (get_or es t w.no_entry) (get_or cs t w.no_position)) (turned_front t e es c (set cs t (w.first (get_or es t w.no_entry))))
@@ -43,7 +43,7 @@ module _ {E C A : Type 0} (w : Wheel E C A) where
       off = set cs t (w.first (get_or es t w.no_entry))
 
       go : (b : Bool) → turned w (e ∷ es) (c ∷ off) (suc t) ≡ joined e c (turned w es off t) (again t es off)
-          → elim b [ true ↦ some (c ∷ on) | false ↦ turned w (e ∷ es) (c ∷ off) (suc t) ] ≡ joined e c (elim b [ true ↦ some on | false ↦ turned w es off t ]) (again t es off)
+          → elim b [ true ↦ Some (c ∷ on) | false ↦ turned w (e ∷ es) (c ∷ off) (suc t) ] ≡ joined e c (elim b [ true ↦ Some on | false ↦ turned w es off t ]) (again t es off)
       go true h = refl
       go false h = h
 
@@ -60,12 +60,12 @@ module _ {E C A : Type 0} (w : Wheel E C A) where
     left-front : (e : E) (es : List E) (c : C) (cs : List C) (o : Option (List C)) → left w es cs ≡ map w.value cs ∷ later w es o
         → left w (e ∷ es) (c ∷ cs) ≡ map w.value (c ∷ cs) ∷ later w (e ∷ es) (joined e c o (map w.first es))
     unfolding left later joined each_front choices
-    left-front e es c cs (some ds) h = ap (λ (ls : List (List A)). map (λ l. w.value c ∷ l) ls ++ each_front (rest w e c) (choices (map (full w) es))) h
-    left-front e es c cs none h =
+    left-front e es c cs (Some ds) h = ap (λ (ls : List (List A)). map (λ l. w.value c ∷ l) ls ++ each_front (rest w e c) (choices (map (full w) es))) h
+    left-front e es c cs None h =
         ap (λ (ls : List (List A)). map (λ l. w.value c ∷ l) ls ++ each_front (rest w e c) (choices (map (full w) es))) h
         ∙ ap (λ (ls : List (List A)). map w.value (c ∷ cs) ∷ ls) (go (w.goes_on e c))
       where
-        go : (b : Bool) → each_front (cond b (w.from e (w.step c)) []) (choices (map (full w) es)) ≡ later w (e ∷ es) (cond b (some (w.step c ∷ map w.first es)) none)
+        go : (b : Bool) → each_front (cond b (w.from e (w.step c)) []) (choices (map (full w) es)) ≡ later w (e ∷ es) (cond b (Some (w.step c ∷ map w.first es)) None)
         go true =
             ap (λ (m : List A). each_front m (choices (map (full w) es))) (wheels e (w.step c))
             ∙ ap (λ (ls : List (List A)). map (λ l. w.value (w.step c) ∷ l) ls ++ each_front (rest w e (w.step c)) (choices (map (full w) es))) (sym (left-all es))

@@ -2,7 +2,7 @@
 use Rattle.std.proofs.Common.{◌≡◌, ℕ, zero, suc, ◌+◌, ◌-◌, ◌*◌, ◌^◌, ◌<◌, ◌≤◌, Bool, true, false, cond, eqb, List, [], ◌∷◌, ◌++◌, map, length, get_or, take, drop, set, sym, refl, ap, ◌∙◌, append_assoc, append-nil, add-one, arith, length-set, get_or-drop, drop-drop, take-suc-set, w32, Fits, le-ltb, lt-ltb, eq-eqb, ne_eqb, eqb-true}
 use mathlib.Core.List.{map-append}
 use mathlib.Core.Logic.{◌⊎◌, inl, inr}
-use mathlib.Core.Option.{none, some}
+use Rattle.std.specs.Prelude.{None, Some}
 use Rattle.tokens.specs.declared.Token.{Token}
 use Rattle.parser.specs.Row.{ended, peek}
 use Rattle.parser.proofs.Laws.{inside}
@@ -135,7 +135,7 @@ pub record Turning (ts : List Token) (es cs₀ cs : List ℕ) (t : ℕ) : Type 0
   pub size : length cs ≡ length es
 
 module _ (ts : List Token) (es cs₀ cs : List ℕ) (t : ℕ) (g : Turning ts es cs₀ cs t) where
-  pub turning_none : t ≡ 0 → turned (wheel ts) es cs₀ (length es) ≡ none
+  pub turning_none : t ≡ 0 → turned (wheel ts) es cs₀ (length es) ≡ None
   unfolding turned
   turning_none h = sym g.turns ∙ ap (turned (wheel ts) es cs) h
 
@@ -147,9 +147,9 @@ module _ (ts : List Token) (es cs₀ cs : List ℕ) (t : ℕ) (g : Turning ts es
     stored_as : (k : Bool) → r ≡ k → cs' ≡ set cs (t - 1) (cond k (get_or cs (t - 1) 0 + 2) (first_member ts (get_or es (t - 1) 0)))
     stored_as k e = stored ∙ ap (λ (k : Bool). set cs (t - 1) (cond k (get_or cs (t - 1) 0 + 2) (first_member ts (get_or es (t - 1) 0)))) e
 
-    pub turning_on : r ≡ true → turned (wheel ts) es cs₀ (length es) ≡ some cs'
+    pub turning_on : r ≡ true → turned (wheel ts) es cs₀ (length es) ≡ Some cs'
     unfolding turned
-    turning_on e = sym one-turn ∙ rw (sym asked ∙ e, turned) (ap some (sym (stored_as true e)))
+    turning_on e = sym one-turn ∙ rw (sym asked ∙ e, turned) (ap Some (sym (stored_as true e)))
 
     pub turning_back : r ≡ false → Turning ts es cs₀ cs' (t - 1)
     unfolding turned

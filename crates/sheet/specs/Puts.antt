@@ -16,7 +16,8 @@ held s = record { row = s.row.now; at = s.at }
 abbrev pub lent_row : Sheet → GName
 lent_row s = s.row.ghost_name
 
--- words stored one after the other: those past the row's end are only counted, and the count stays at the largest of 64 bits, behind the end of every row
+-- words stored one after the other: those past the row's end are only counted, and the count stays at the
+-- largest of 64 bits, behind the end of every row
 unfoldable pub put : Held → List ℕ → Held
 put h [] = h
 put h (x ∷ ws) = put (record { row = slice_set h.row h.at x; at = min (h.at + 1) 18446744073709551615 }) ws

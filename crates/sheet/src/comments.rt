@@ -1,9 +1,10 @@
-// Comments: header, trailing, and where those that lead a rule begin. The sheet is written and the tokens are read, and no fact ties them together, so that
-// they are two parameters.
+// Comments: header, trailing, and where those that lead a rule begin. The sheet is written and the tokens are read, and no fact
+// ties them together, so that they are two parameters.
 ghost use Rattle.std.specs.Prelude.{◌≡◌, ◌+◌, ◌-◌, ◌^◌, ◌<◌, ◌≤◌, [], ◌∷◌, length};
 ghost use Rattle.tokens.specs.Listed.{tokens_of};
 ghost use Rattle.language.specs.Layout.{flat};
 ghost use Rattle.assembler.specs.Entries.{entries};
+ghost use Rattle.assembler.specs.EntryNumbers.{item};
 ghost use Rattle.assembler.specs.Feeds.{Fed, CommentsLast};
 ghost use Rattle.sheet.specs.Puts.{Puts};
 ghost use Rattle.sheet.specs.Comments.{text_of, text_words, comments_in, between, nothing, passed, passed_all};
@@ -17,8 +18,8 @@ use diag::Span;
 use lexer::kind;
 use tokens::{Token, Tokens};
 
-// The comments that wait for an item: where they begin, and where the block that goes on begins. `from` is none as long as no item or failed line came, and they
-// then begin with the row.
+// The comments that wait for an item: where they begin, and where the block that goes on begins. `from` is none as long as no
+// item or failed line came, and they then begin with the row.
 #[derive(Clone, Copy, Debug, PartialEq, Eq)]
 pub struct Pending {
     pub from: Option<usize>,
@@ -88,7 +89,8 @@ pub(crate) fn comments(sheet: &mut Sheet, tokens: &Tokens, from: usize, to: usiz
 }
 
 // How many comments stand from the index `from` to before `to`.
-// With `filter` and `count` the goal `returns` stays open: no law of the library ties a count over a range of indices to a list's length.
+// With `filter` and `count` the goal `returns` stays open: no law of the library ties a count
+// over a range of indices to a list's length.
 pub(crate) fn count_between(tokens: &Tokens, from: usize, to: usize) -> usize
     ensures { result ≡ length (between (tokens_of tokens.now) from to) }
 {
@@ -101,8 +103,8 @@ pub(crate) fn count_between(tokens: &Tokens, from: usize, to: usize) -> usize
     n
 }
 
-// The comments from the index `from` to before the line feed, at the index `end`, of a declaration that begins at the index i. Its line has none but
-// at its end, so a long one is not gone over.
+// The comments from the index `from` to before the line feed, at the index `end`, of a declaration that begins at the index i.
+// Its line has none but at its end, so a long one is not gone over.
 fn declared(sheet: &mut Sheet, tokens: &Tokens, from: usize, i: usize, end: usize)
     requires { between (tokens_of tokens.now) i end ≡ between (tokens_of tokens.now) (end - 1) end }
     ensures { Puts (flat text_words (between (tokens_of tokens.now) from end)) sheet.old sheet.new }
@@ -116,7 +118,7 @@ fn declared(sheet: &mut Sheet, tokens: &Tokens, from: usize, i: usize, end: usiz
 
 // The header comments of the line that begins with the token t at the index i.
 fn header_of(sheet: &mut Sheet, tokens: &Tokens, p: Pending, i: usize, t: Token)
-    requires { 16 ≤ t.kind
+    requires { item ≤ t.kind
         → between (tokens_of tokens.now) i t.value ≡ between (tokens_of tokens.now) (t.value - 1) t.value }
     ensures { Puts (flat text_words (header_of (tokens_of tokens.now) p t)) sheet.old sheet.new }
 {
@@ -138,8 +140,8 @@ pub struct Headed {
     pub rules: usize,
 }
 
-// The header comments of a row, and in the same walk over its lines the number of its rules' words. Where a line ends is found while it is read, so that no
-// `for` counts the steps. That the tokens are few is asked here and there: a Tokens may hold more.
+// The header comments of a row, and in the same walk over its lines the number of its rules' words. Where a line ends is found
+// while it is read, so that no `for` counts the steps. That the tokens are few is asked here and there: a Tokens may hold more.
 pub fn header(sheet: &mut Sheet, tokens: &Tokens) -> Headed
     requires few { tokens.now.count < 2 ^ 32 }
     requires lengths { rule_lengths (tokens_of tokens.now) < 2 ^ 64 }

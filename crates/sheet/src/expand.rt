@@ -1,12 +1,13 @@
-// The expansion of rules: every choice of one symbol from each read set, the last tape fastest. The sheet is written, the tokens are read and the blank is a
-// number, which no fact ties together, so that they are three parameters, here and in rules. Alphabet's Symbols has the tokens and the blank as one for
-// its many methods; here five functions hand both on, and those that resolve symbols take the blank alone.
+// The expansion of rules: every choice of one symbol from each read set, the last tape fastest. The sheet is written, the
+// tokens are read and the blank is a number, which no fact ties together, so that they are three parameters, here and in rules.
+// Symbols of infer_symbols has the tokens and the blank as one for its many methods; here five functions hand both on, and
+// those that resolve symbols take the blank alone.
 ghost use Rattle.std.specs.Prelude.{◌≡◌, ◌+◌, ◌*◌, ◌^◌, ◌<◌, ◌≤◌, [], length};
 ghost use Rattle.tokens.specs.Listed.{tokens_of};
-ghost use Rattle.language.specs.Layout.{flat};
+ghost use Rattle.language.specs.Layout.{flat, no_place};
 ghost use Rattle.sheet.specs.Puts.{Puts};
 ghost use Rattle.sheet.specs.Wheels.{choices_behind};
-ghost use Rattle.sheet.specs.Rules.{no_span, rule_words, Placed, expanded, rules};
+ghost use Rattle.sheet.specs.Rules.{rule_words, Placed, expanded, rules};
 
 use crate::comments::Pending;
 use crate::put::Sheet;
@@ -16,8 +17,8 @@ use assembler::entry;
 use diag::Span;
 use tokens::Tokens;
 
-// The rules of the choices behind the one at which the wheels stand; no comments go with them. Paper 01 names these labelled loops: the inner turns the
-// wheels from the last, and leaves the outer when all have started again.
+// The rules of the choices behind the one at which the wheels stand; no comments go with them. Paper 01 names these labelled
+// loops: the inner turns the wheels from the last, and leaves the outer when all have started again.
 fn choices(
     sheet: &mut Sheet,
     tokens: &Tokens,
@@ -27,8 +28,9 @@ fn choices(
     members: &mut [u32],
 )
     requires placed { Placed tokens.now.count r }
-    requires wheels { (length entries.now ≡ r.tapes) × (length members.old ≡ r.tapes) }
-    ensures { Puts (flat (rule_words blank (tokens_of tokens.now) r no_span [])
+    requires wheels { (length entries.now ≡ r.tapes)
+        × (length members.old ≡ r.tapes) }
+    ensures { Puts (flat (rule_words blank (tokens_of tokens.now) r no_place [])
         (choices_behind (tokens_of tokens.now) entries.now members.old)) sheet.old sheet.new }
 {
     'choices: loop {
@@ -56,12 +58,14 @@ pub(crate) fn expand(
     entries: &mut [u32],
     members: &mut [u32],
 )
-    requires wheels { (tokens.now.count ≤ length entries.old) × (tokens.now.count ≤ length members.old) }
-    requires line { (9 * tokens.now.count + 11 < 2 ^ 32) × (line < tokens.now.count) }
+    requires wheels { (tokens.now.count ≤ length entries.old)
+        × (tokens.now.count ≤ length members.old) }
+    requires line { (9 * tokens.now.count + 11 < 2 ^ 32)
+        × (line < tokens.now.count) }
     ensures { Puts (expanded blank (tokens_of tokens.now) lead line) sheet.old sheet.new }
 {
-    let sets = tokens.at(line + 1).start as usize;
-    let first = rules::first_entry(tokens, line + 4);
+    let sets = tokens.at(line + entry::COUNTS).start as usize;
+    let first = rules::first_entry(tokens, line + entry::READ);
     let n = wheels::wheels(tokens, first, sets, entries, members);
     let r = Rule::at(tokens, line, n);
     let c = rules::own_place(tokens, line);
@@ -77,7 +81,8 @@ pub fn rules(
     entries: &mut [u32],
     members: &mut [u32],
 )
-    requires wheels { (tokens.now.count ≤ length entries.old) × (tokens.now.count ≤ length members.old) }
+    requires wheels { (tokens.now.count ≤ length entries.old)
+        × (tokens.now.count ≤ length members.old) }
     requires small { 9 * tokens.now.count + 11 < 2 ^ 32 }
     ensures { Puts (rules blank (tokens_of tokens.now)) sheet.old sheet.new }
 {

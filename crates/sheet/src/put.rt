@@ -1,11 +1,12 @@
 // Words stored on the sheet: each where there is room, and counted in any case, so that one body counts and writes.
 ghost use Rattle.std.specs.Prelude.{◌≡◌, ◌<◌, ◌∷◌, [], length};
-ghost use Rattle.sheet.specs.Comments.{span_words};
+ghost use Rattle.language.specs.Layout.{place_words};
 
 use diag::Span;
 
 // Words in the place of those that a row holds.
-// By `copy_from_slice` they would stand in memory first: 9 in a hundred more instructions for a text of quoted symbols (glyphs-set).
+// By `copy_from_slice` they would stand in memory first: 9 in a hundred more instructions
+// for a text of quoted symbols (glyphs-set).
 fn store(row: &mut [u32], words: &[u32])
     requires { length row.old ≡ length words.now }
     ensures { row.new ≡ words.now }
@@ -15,8 +16,10 @@ fn store(row: &mut [u32], words: &[u32])
     }
 }
 
-// Where words are stored: the row lent for them, and the index where the next goes. With an empty row, `&mut row[..0]`, they are only counted.
-// Crate emit's Output is this of bytes: one struct for both would share the fields and a test for room, and what is stored would stay defined twice.
+// Where words are stored: the row lent for them, and the index where the next goes. With an empty
+// row, `&mut row[..0]`, they are only counted.
+// Crate emit's Output is this of bytes: one struct for both would share the fields and a test for room, and
+// what is stored would stay defined twice.
 #[derive(Drop)]
 pub struct Sheet<'a> {
     pub row: &'a mut [u32],
@@ -28,7 +31,8 @@ impl<'a> Sheet<'a> {
 
     // The row from the index `at` on.
     pub fn new(row: &'a mut [u32], at: usize) -> Self
-        ensures holds { ((held result).row ≡ row.old) × ((held result).at ≡ at) }
+        ensures holds { ((held result).row ≡ row.old)
+            × ((held result).at ≡ at) }
         ensures same_row { lent_row result ≡ row.entry.ghost_name }
     {
         Self { row, at }
@@ -70,7 +74,7 @@ impl<'a> Sheet<'a> {
     // A place.
     #[tactic(auto, using(crate::proofs::Puts::chain), unfolding(crate::specs::Puts::put))]
     pub fn place(&mut self, p: Span)
-        ensures { Puts (span_words p) self.old self.new }
+        ensures { Puts (place_words p) self.old self.new }
     {
         self.word(p.start);
         self.word(p.end);
@@ -79,7 +83,7 @@ impl<'a> Sheet<'a> {
     // A character and its place.
     #[tactic(auto, using(crate::proofs::Puts::chain), unfolding(crate::specs::Puts::put))]
     pub fn symbol(&mut self, x: u32, p: Span)
-        ensures { Puts (x ∷ span_words p) self.old self.new }
+        ensures { Puts (x ∷ place_words p) self.old self.new }
     {
         self.word(x);
         self.place(p);

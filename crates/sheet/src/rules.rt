@@ -10,9 +10,23 @@ ghost use Rattle.sheet.specs.Rules.{tape_words, tapes_words, head_words, rule_wo
 
 use crate::comments;
 use crate::put::Sheet;
+use assembler::entry;
 use diag::Span;
 use lexer::kind;
+use sheet_layout::{ACTION_WORDS, ACTIONS, PLACE_WORDS};
 use tokens::{Token, Tokens};
+
+// The blank unless another is declared; alone and not quoted it stands for the blank that is declared.
+pub const BLANK: u32 = '␣' as u32;
+
+// The word that stands for the blank.
+const BLANK_WORD: u32 = '_' as u32;
+
+// The direction that is 0 on the sheet.
+const LEFT: u32 = 'L' as u32;
+
+// The direction that is 1 on the sheet; the third one is 2.
+const RIGHT: u32 = 'R' as u32;
 
 // The character of a symbol.
 #[tactic(auto, unfolding(crate::specs::Rules::resolve))]
@@ -20,7 +34,7 @@ pub fn resolve(blank: u32, t: Token) -> u32
     ensures { result ≡ resolve blank t }
 {
     match (t.kind, t.value) {
-        (kind::WORD, 0x5F) | (kind::OTHER, 0x2423) => blank,
+        (kind::WORD, BLANK_WORD) | (kind::OTHER, BLANK) => blank,
         (kind::NUMBER, digit) => digit.wrapping_add(0x30),
         (_, c) => c,
     }
@@ -40,8 +54,8 @@ fn move_of(t: Token) -> u32
     ensures { result ≡ move_of t }
 {
     match t.value {
-        0x4C => 0,
-        0x52 => 1,
+        LEFT => 0,
+        RIGHT => 1,
         _ => 2,
     }
 }
@@ -83,7 +97,8 @@ fn tape(sheet: &mut Sheet, blank: u32, r: Token, w: Token, d: Token)
     sheet.words(&[x, r.start, r.end, y, w.start, w.end, move_of(d)]);
 }
 
-// Where the parts of a rule stand: its line's first token, the next state, the first write, the first move; and how many tapes it has.
+// Where the parts of a rule stand: its line's first token, the next state, the first write,
+// the first move; and how many tapes it has.
 #[derive(Clone, Copy, Debug, PartialEq, Eq)]
 pub struct Rule {
     pub line: usize,
@@ -98,9 +113,10 @@ impl Rule {
     pub(crate) fn at(tokens: &Tokens, line: usize, tapes: usize) -> Self
         requires { line < tokens.now.count }
         ensures parts { result ≡ rule_at (tokens_of tokens.now) line tapes }
-        ensures small { (result.write ≤ 2 ^ 32) × (result.dir ≤ 2 ^ 32) }
+        ensures small { (result.write ≤ 2 ^ 32)
+            × (result.dir ≤ 2 ^ 32) }
     {
-        let q = tokens.at(line + 3);
+        let q = tokens.at(line + entry::PARTS);
         Self {
             line,
             to: q.start as usize,
@@ -112,11 +128,12 @@ impl Rule {
 
     // The rule up to its tapes, with its own comment c; k comments lead it.
     fn put_head(self, sheet: &mut Sheet, tokens: &Tokens, c: Span, k: usize)
-        requires { (self.line < tokens.now.count) × (11 + 7 * self.tapes + 2 * k < 2 ^ 32) }
+        requires { (self.line < tokens.now.count)
+            × (11 + 7 * self.tapes + 2 * k < 2 ^ 32) }
         ensures { Puts (head_words (tokens_of tokens.now) self c self.tapes k) sheet.old sheet.new }
     {
-        let size = 11 + 7 * self.tapes + 2 * k;
-        let from = tokens.at(self.line + 2);
+        let size = ACTIONS + ACTION_WORDS * self.tapes + PLACE_WORDS * k;
+        let from = tokens.at(self.line + entry::FROM);
         let to = tokens.at(self.to);
         let line = tokens.at(self.line);
         sheet.words(&[
@@ -136,7 +153,8 @@ impl Rule {
 
     // The tapes of a choice: the symbols read stand at the indices `members`. Its index counts the writes and the moves too.
     fn put_tapes(self, sheet: &mut Sheet, tokens: &Tokens, blank: u32, members: &[u32])
-        requires { (self.write + 2 * length members.now < 2 ^ 64) × (self.dir + 2 * length members.now < 2 ^ 64) }
+        requires { (self.write + 2 * length members.now < 2 ^ 64)
+            × (self.dir + 2 * length members.now < 2 ^ 64) }
         ensures { Puts (tapes_words blank (tokens_of tokens.now) self.write self.dir
             (map (peek (tokens_of tokens.now)) members.now)) sheet.old sheet.new }
     {

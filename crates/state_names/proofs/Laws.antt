@@ -1,27 +1,15 @@
 -- The name of a state and where it stands, one law for each return.
 use mathlib.Core.Path.{◌≡◌, refl, ap, ◌∙◌}
 use mathlib.Core.List.{List, []}
-use mathlib.Core.Bool.{Bool, true, false, cond, ◌&&◌}
 use Prim.Native.Nat.{ℕ, zero, suc, ◌+◌, ◌-◌, ◌*◌, ◌/◌, ◌<◌, ◌≤◌}
 use native.Mathlib.Omega.{arith}
 use borrow.Author.Tests.{le-leb, lt-leb}
-use lib.Dec.{leb}
-use lib.ListN.{length, get_or, take, drop}
+use lib.ListN.{length, get_or, drop}
 use Rattle.std.specs.Simd.{first_chunks}
 use Rattle.std.proofs.lemmas.List.{get_or-take, get_or-drop}
-use Rattle.language.specs.Outcome.{part, state_name}
-use Rattle.lexer.specs.Places
-use Rattle.lexer.specs.Places.{part_start}
+use Rattle.lexer.specs.Places.{part, part_start}
+use Rattle.language.specs.StateName.{state_name}
 use Rattle.state_names.specs.Starts.{state_start}
-
--- a part of a text as the lexer's crate has it
-pub part_same : (t : List ℕ) (a b : ℕ) → Places.part t a b ≡ part t a b
-unfolding part Places.part
-part_same t a b = go (leb a b && leb b (length t))
-  where
-    go : (x : Bool) → cond x (take (b - a) (drop a t)) [] ≡ elim x [ true ↦ take (b - a) (drop a t) | false ↦ [] ]
-    go true = refl
-    go false = refl
 
 -- the word j of the row i of three words each
 pub row_word : (k i j : ℕ) (s d : List ℕ) → i < k → j < 3 → get_or (get_or (first_chunks 3 k s) i d) j 0 ≡ get_or s (3 * i + j) 0
@@ -48,11 +36,10 @@ module _ (s t : List ℕ) (i n : ℕ) (cs : List (List ℕ)) (len : length cs �
         ∙ row_word (length s / 3) i j s row (omega arith) g
         ∙ ap (λ (k : ℕ). get_or s k 0) e
 
-    pub state-part : (l : List ℕ) → l ≡ Places.part t (get_or row 0 0) (get_or row 1 0) → l ≡ state_name s t i
+    pub state-part : (l : List ℕ) → l ≡ part t (get_or row 0 0) (get_or row 1 0) → l ≡ state_name s t i
     unfolding state_name
     state-part l e =
-        rw (state_name, le-leb (3 * i + 3) (length s) (omega arith), ← word 0 (3 * i) (omega arith) (omega arith), ← word 1 (3 * i + 1) (omega arith) refl)
-        (e ∙ part_same t (get_or row 0 0) (get_or row 1 0))
+        rw (state_name, le-leb (3 * i + 3) (length s) (omega arith), ← word 0 (3 * i) (omega arith) (omega arith), ← word 1 (3 * i + 1) (omega arith) refl) e
 
     pub state-part-at : (m : ℕ) → m ≡ n + part_start t (get_or row 0 0) (get_or row 1 0) → m ≡ n + state_start s t i
     unfolding state_start

@@ -1,5 +1,5 @@
-// Prints names of states at which `state_names::state_name` may go wrong, one to a line: places at, before and behind the text's ends, and
-// words outside the sheet.
+// Prints names of states at which `state_names::state_name` may go wrong, one to a line: places at, before and behind the text's
+// ends, and words outside the sheet.
 #![tactic(auto)]
 
 use state_names::state_name;

@@ -8,7 +8,8 @@ use mathlib.Core.Logic.{⊎_elim}
 use lib.Dec.{leb, ltb}
 use borrow.Author.Tests.{ltb-true, lt-ltb}
 use lib.ListN.{length, drop, length-take, length-drop}
-use Rattle.chars.specs.Utf8.{scalar, scalars, size, sizes}
+use Rattle.chars.specs.Utf8.{scalar, size, sizes}
+use Rattle.chars.specs.Decoded.{scalars}
 use Rattle.chars.proofs.Tests.{and_both, or_cases}
 use Rattle.chars.proofs.Theorems.{length-encode}
 use Rattle.lexer.specs.Tokens.{word, number, Span, Token, is_ascii_digit}

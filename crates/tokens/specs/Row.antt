@@ -1,5 +1,6 @@
 -- The tokens that stand in a row of words, four words each.
 use Rattle.std.specs.Prelude.{ℕ, List, [], ◌∷◌, get_or, take}
+use Rattle.lexer.specs.KindWords as kinds
 use Rattle.tokens.specs.declared.Token.{Token}
 
 -- the row cut in fours; what is left over at its end is no token
@@ -16,7 +17,7 @@ rows n w = take n (tokens_in w)
 
 -- a line feed of no length
 abbrev pub ended : Token
-ended = record { kind = 13; start = 0; end = 0; value = 0 }
+ended = record { kind = kinds.newline; start = 0; end = 0; value = 0 }
 
 -- the token at an index; past the last one, a line feed
 abbrev pub peek : List Token → ℕ → Token

@@ -7,7 +7,7 @@ ghost use Rattle.tokens.specs.View.{token_in};
 ghost use Rattle.tokens.specs.Row.{peek};
 
 use diag::Span;
-use lexer::kind;
+use lexer::{TOKEN_WORDS, kind};
 
 // A token as its four words: kind, start, end and value.
 #[derive(Clone, Copy, Debug, PartialEq, Eq)]
@@ -33,7 +33,7 @@ pub fn token_at(work: &[u32], i: usize) -> Token
     requires { 4 * i + 4 ≤ length work.now }
     ensures { result ≡ token_in work.now i }
 {
-    let o = 4 * i;
+    let o = TOKEN_WORDS * i;
     Token {
         kind: work[o],
         start: work[o + 1],
@@ -52,7 +52,8 @@ pub fn span_of(t: Token) -> Span
     }
 }
 
-// The tokens at the front of a row of words. Their number stands beside the row: a slice of just their words would be divided at each look.
+// The tokens at the front of a row of words. Their number stands beside the row: a slice of just
+// their words would be divided at each look.
 #[derive(Clone, Copy)]
 pub struct Tokens<'a> {
     pub words: &'a [u32],
@@ -63,7 +64,7 @@ pub struct Tokens<'a> {
 impl<'a> Tokens<'a> {
     ghost use Rattle.tokens.specs.Listed.{tokens_of};
 
-    // How many they are.
+    // How many tokens there are.
     pub fn len(&self) -> usize
         ensures tokens { result ≡ length (tokens_of self.now) }
         ensures count { result ≡ self.now.count }

@@ -1,3 +1,1 @@
-pub mod Given
-pub mod Writes
 pub mod Claim

@@ -2,13 +2,12 @@
 #![tactic(auto)]
 
 ghost use Rattle.std.specs.Prelude.{true, ◌≡◌, length};
-ghost use Rattle.language.specs.Outcome.{write_outcome};
-ghost use Rattle.reader.specs.Reading.{leaves_work_number};
-ghost use Rattle.reply.specs.Answer.{write_reply_in, leaves_work};
-ghost use Rattle.writer.specs.Given.{given, given_by};
-ghost use Rattle.writer.specs.Writes.{Writes};
+ghost use Rattle.language.specs.Outcome.{leaves_work_number, write_outcome, write_given};
+ghost use Rattle.writer_answer.specs.Answer.{write_reply_in, write_in, leaves_work};
 
-use reply::{WriteAnswer, WriteRefusal};
+use reader_answer::words;
+use writer_answer::words::answer_words;
+use writer_answer::{WriteAnswer, WriteRefusal};
 
 // Writes the plain form of a text: answers its length; or the number of diagnostics, which the log holds; or a refusal.
 pub fn write(
@@ -18,14 +17,15 @@ pub fn write(
     sheet: &mut [u32],
     output: &mut [u8],
 ) -> Result<WriteAnswer, WriteRefusal>
-    ensures { Writes text.now (length work.old) log.old sheet.old output.old result log.new sheet.new output.new
+    ensures { (write_in result log.new sheet.new output.new
+        ≡ write_outcome text.now (length work.old) log.old sheet.old output.old)
         × (leaves_work (write_reply_in result) ≡ true → work.new ≡ work.old) }
 {
     let answer = reader::read(text, work, log, sheet);
-    fit::write_answer(answer, text, sheet, output)
+    writer_form::write_answer(answer, text, sheet, output)
 }
 
-// The same for callers in other languages: the answer in 36 words, and its number.
+// Writes the plain form of a text for callers in other languages: the answer in 36 words, and its number.
 #[unsafe(no_mangle)]
 pub extern "C" fn pevzoncs_write(
     text: &[u8],
@@ -35,9 +35,9 @@ pub extern "C" fn pevzoncs_write(
     output: &mut [u8],
     answer: &mut [u32],
 ) -> u32
-    ensures { (given result answer.new log.new sheet.new output.new
-        ≡ given_by (write_outcome text.now (length work.old) log.old sheet.old output.old) answer.old)
+    ensures { ((result, answer.new, log.new, sheet.new, output.new)
+        ≡ write_given (write_outcome text.now (length work.old) log.old sheet.old output.old) answer.old)
         × (leaves_work_number result ≡ true → work.new ≡ work.old) }
 {
-    reply::words::give(write(text, work, log, sheet, output), answer)
+    words::give(&answer_words(write(text, work, log, sheet, output)), answer)
 }

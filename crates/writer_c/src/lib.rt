@@ -2,9 +2,7 @@
 #![tactic(auto)]
 
 ghost use Rattle.std.specs.Prelude.{true, ◌≡◌, length};
-ghost use Rattle.language.specs.Outcome.{write_outcome};
-ghost use Rattle.reader.specs.Reading.{leaves_work_number};
-ghost use Rattle.writer.specs.Given.{given, given_by};
+ghost use Rattle.language.specs.Outcome.{leaves_work_number, write_outcome, write_given};
 
 // Writes the plain form of a text: the answer in 36 words, and its number.
 #[unsafe(no_mangle)]
@@ -16,8 +14,8 @@ pub extern "C" fn pevzoncs_write(
     output: &mut [u8],
     answer: &mut [u32],
 ) -> u32
-    ensures { (given result answer.new log.new sheet.new output.new
-        ≡ given_by (write_outcome text.now (length work.old) log.old sheet.old output.old) answer.old)
+    ensures { ((result, answer.new, log.new, sheet.new, output.new)
+        ≡ write_given (write_outcome text.now (length work.old) log.old sheet.old output.old) answer.old)
         × (leaves_work_number result ≡ true → work.new ≡ work.old) }
 {
     writer::pevzoncs_write(text, work, log, sheet, output, answer)

@@ -1,4 +1,5 @@
--- `chars::above_end` meets its contract: a character that its first bytes tell stands before the next place, and none at the last.
+-- `chars::above_end` meets its contract: a character that its first bytes tell stands
+-- before the next place, and none at the last.
 use Rattle.std.proofs.Common.{rules, arith, refl, sym, ◌∙◌}
 use Rattle.chars.proofs.Short.{short_char, short_is, above_on, above_past, above_last, above_left}
 use Rattle.chars.proofs.Laws.{char_le, char_falls}

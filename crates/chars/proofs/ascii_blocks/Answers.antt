@@ -2,7 +2,7 @@
 use Rattle.std.proofs.Common.{◌≤◌, ◌+◌, ◌*◌, ◌<◌, rules, tests, sym, subst}
 use Rattle.std.proofs.lemmas.Iterator.{IsFirst-from_position, YieldsList-from_slice}
 use Rattle.chars.specs.Blocks.{ors}
-use Rattle.chars.specs.Class.{Passes}
+use Rattle.chars.specs.Decoded.{Passes}
 use Rattle.chars.proofs.Blocks.{passes-blocks}
 use Rattle.chars.proofs.ascii_blocks.Goals as goal
 

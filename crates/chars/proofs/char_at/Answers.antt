@@ -1,4 +1,5 @@
--- `chars::char_at` meets its contract: an ASCII byte is its own front, and at the end there is none; `long_at` answers for any other.
+-- `chars::char_at` meets its contract: an ASCII byte is its own front, and at the end there
+-- is none; `long_at` answers for any other.
 use Rattle.std.proofs.Common.{arith, ◌∙◌}
 use Rattle.chars.proofs.Front.{char_at-end, char_at_ascii}
 use Rattle.chars.proofs.char_at.Goals as goal

@@ -1,6 +1,6 @@
 -- The loop's invariant: only characters of the set stand before here.
 use Rattle.std.proofs.Common.{◌-◌, length}
-use Rattle.chars.specs.Class.{Passes}
+use Rattle.chars.specs.Decoded.{Passes}
 use Rattle.chars.proofs.plain_up_to.Given as goal
 
 abbrev pub invariant-loop-at : goal.invariant-loop-at

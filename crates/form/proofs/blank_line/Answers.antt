@@ -1,4 +1,4 @@
--- Its pieces stand one after the other, or nothing.
+-- The pieces of the blank's line stand one after the other, or nothing where no blank is declared.
 use Rattle.form.proofs.HeadWords.{blank_none, blank_written}
 use Rattle.form.proofs.blank_line.Goals as goal
 

@@ -1,4 +1,4 @@
--- Its digits are the definition's, and their own encoding.
+-- The digits of the number of tapes are the definition's, and their own encoding.
 use borrow.Author.Rules.{rules}
 use Rattle.form.proofs.HeadWords.{number-written}
 use Rattle.form.proofs.number.Goals as goal

@@ -2,7 +2,8 @@
 use Rattle.std.proofs.Common.{ap, ◌∙◌}
 use Rattle.list_lines.specs.Listing.{codes}
 use Rattle.list_lines.proofs.Chain.{counted}
-use Rattle.list_lines.proofs.Lists.{list_start, groups-start, codes-on, codes-end}
+use Rattle.sheet_view.proofs.Records.{groups-start}
+use Rattle.list_lines.proofs.Lists.{list_start, codes-on, codes-end}
 use Rattle.list_lines.proofs.codes.Goals as goal
 
 pub loop-i-init : goal.loop-i-init

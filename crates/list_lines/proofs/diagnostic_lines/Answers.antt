@@ -1,9 +1,10 @@
 -- The diagnostics of the records that are left go behind those that are printed.
-use Rattle.std.proofs.Common.{refl, ap, ◌∙◌}
+use Rattle.std.proofs.Common.{refl, ap, ◌∙◌, arith}
 use Rattle.std.specs.Iterator.Adapters.{take_source, take_count}
 use Rattle.std.specs.Slice.Iter.{chunks_exact_rest, chunks_exact_size}
 use Rattle.list_lines.specs.Listing.{diagnostic_lines}
-use Rattle.list_lines.proofs.Chain.{said, counted, ◌▹◌, goes_from}
+use Rattle.emit.proofs.Chain.{◌▹◌, goes_from}
+use Rattle.list_lines.proofs.Chain.{said, counted}
 use Rattle.list_lines.proofs.Lists.{log-on, log-end}
 use Rattle.list_lines.proofs.diagnostic_lines.Goals as goal
 
@@ -18,6 +19,11 @@ loop-record-init c =
       five = ap chunks_exact_size chunks ∙ c.chunks_exact.ensures.size;
       goes = rw (rest, count) (goes_from (said c.bytes.ensures ▹ counted refl c.decimal.ensures ▹ said c.bytes-2.ensures));
     }
+
+pub diagnostic-requires : goal.diagnostic-requires
+diagnostic-requires c =
+    let steps = c.in-Some.ensures.steps in
+    omega (arith, steps.0.1.1, c.loop-record.invariant.five)
 
 pub loop-record-preserved : goal.loop-record-preserved
 loop-record-preserved c =

@@ -1,6 +1,7 @@
 -- The numbers of the place with a space between them.
 use Rattle.list_lines.specs.Listing.{place}
-use Rattle.list_lines.proofs.Chain.{said, counted, ◌▹◌}
+use Rattle.emit.proofs.Chain.{◌▹◌}
+use Rattle.list_lines.proofs.Chain.{said, counted}
 use Rattle.list_lines.proofs.place.Goals as goal
 
 pub returns : goal.returns

@@ -2,7 +2,8 @@
 use Rattle.std.proofs.Common.{ap}
 use Rattle.positions.specs.declared.Position.{Position}
 use Rattle.list_lines.specs.Listing.{position}
-use Rattle.list_lines.proofs.Chain.{said, counted, ◌▹◌}
+use Rattle.emit.proofs.Chain.{◌▹◌}
+use Rattle.list_lines.proofs.Chain.{said, counted}
 use Rattle.list_lines.proofs.position_of.Goals as goal
 
 pub returns : goal.returns

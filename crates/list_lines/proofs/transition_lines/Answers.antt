@@ -1,8 +1,11 @@
 -- The transitions that are left go behind those that are printed.
-use Rattle.std.proofs.Common.{ap}
+use Rattle.std.proofs.Common.{ap, ◌∙◌, get_or}
 use Rattle.list_lines.specs.Listing.{transition, transition_lines}
-use Rattle.list_lines.proofs.Chain.{said, counted, same, ◌▹◌, goes_from}
-use Rattle.list_lines.proofs.Lists.{records-start, rules-on, rules-end}
+use Rattle.emit.proofs.Chain.{◌▹◌, goes_from}
+use Rattle.list_lines.proofs.Chain.{said, counted, same}
+use Rattle.sheet_view.proofs.Records.{records-start}
+use Rattle.list_lines.proofs.Lists.{rules-on, rules-end}
+use Rattle.sheet_view.proofs.Views.{length_is}
 use Rattle.list_lines.proofs.transition_lines.Goals as goal
 
 pub loop-i-init : goal.loop-i-init
@@ -11,7 +14,9 @@ loop-i-init c = rw (records-start c.args.n c.args.rules.now) (goes_from (said c.
 
 pub loop-i-preserved : goal.loop-i-preserved
 loop-i-preserved c =
-    rw (c.after-rest.ensures, c.word.ensures) (rules-on _ _ _ _ c.loop-i-test.true c.loop-i.invariant (same (ap (transition c.args.text.now) c.record_at.ensures) c.transition.ensures))
+    let rule = c.rule_at-rule.ensures in
+    let length = c.length.ensures ∙ ap (λ ws. get_or ws 0 0) rule ∙ length_is c.loop-i.rest.now in
+    rw (c.after-rest.ensures, length) (rules-on _ _ _ _ c.loop-i-test.true c.loop-i.invariant (same (ap (transition c.args.text.now) rule) c.transition.ensures))
 
 pub returns : goal.returns
 returns c = rules-end _ _ _ _ c.loop-i-test.false c.loop-i.invariant

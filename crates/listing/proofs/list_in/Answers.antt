@@ -1,6 +1,6 @@
 -- The definition makes the same test, and lists what the reading call answers.
 use Rattle.std.proofs.Common.{◌≡◌, ℕ, List, rules, arith}
-use Rattle.answer.specs.Answer.{read_in}
+use Rattle.reader_answer.specs.Answer.{read_in}
 use Rattle.emit.specs.Output.{output, appended}
 use Rattle.list_lines.specs.Listing.{listing, listed}
 use Rattle.listing.proofs.Whole.{whole, at_front, too_long, text_listed}

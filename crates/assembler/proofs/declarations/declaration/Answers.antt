@@ -10,11 +10,11 @@ returns-then-t-lt-ITEM-clause-first c = search (rules, declare_low)
 pub returns-then-t-lt-ITEM-clause-log : goal.returns-then-t-lt-ITEM-clause-log
 returns-then-t-lt-ITEM-clause-log c = appends_nothing _ _ (wrong_low _ _ _ c.known-t.ensures _ c.if-t-lt-ITEM.true)
 
-pub returns-then-k-ge-NAMES-clause-first : goal.returns-then-k-ge-NAMES-clause-first
-returns-then-k-ge-NAMES-clause-first c = search (rules, declare_high)
+pub returns-then-k-ge-DECLARATIONS-clause-first : goal.returns-then-k-ge-DECLARATIONS-clause-first
+returns-then-k-ge-DECLARATIONS-clause-first c = search (rules, declare_high)
 
-pub returns-then-k-ge-NAMES-clause-log : goal.returns-then-k-ge-NAMES-clause-log
-returns-then-k-ge-NAMES-clause-log c = appends_nothing _ _ (search (rules, wrong_high))
+pub returns-then-k-ge-DECLARATIONS-clause-log : goal.returns-then-k-ge-DECLARATIONS-clause-log
+returns-then-k-ge-DECLARATIONS-clause-log c = appends_nothing _ _ (search (rules, wrong_high))
 
 pub returns-in-Some-clause-first : goal.returns-in-Some-clause-first
 returns-in-Some-clause-first c = search (rules, declare_again)

@@ -1,4 +1,4 @@
--- Its pieces stand one after the other.
+-- The pieces of the head's lines stand one after the other.
 use Rattle.form.proofs.HeadWords.{head-written}
 use Rattle.form.proofs.Machine.head_lines.Goals as goal
 

@@ -1,4 +1,5 @@
--- `lexer::block::line_part` meets its contract: the blocks before the first that is not plain or ends in two spaces are passed over.
+-- `lexer::block::line_part` meets its contract: the blocks before the first that is not
+-- plain or ends in two spaces are passed over.
 use Rattle.std.proofs.Common.{◌+◌, ◌*◌, rules, tests, sym, subst}
 use Rattle.std.specs.Bool.{⊤}
 use Rattle.std.proofs.lemmas.Iterator.{IsFirst-from_position, YieldsList-from_slice}

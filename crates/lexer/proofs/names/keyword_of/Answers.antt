@@ -1,5 +1,5 @@
 -- Answers for `lexer::names::keyword_of`: a keyword of another length is not the name.
-use Rattle.lexer.specs.Words.{keywords_of}
+use Rattle.lexer.specs.Keywords.{keywords_of}
 use Rattle.lexer.proofs.Keywords.{keyword_of-length, keyword_of-none}
 use Rattle.std.proofs.Common.{rules}
 use Rattle.lexer.proofs.names.keyword_of.Goals as goal

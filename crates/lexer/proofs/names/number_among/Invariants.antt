@@ -1,6 +1,6 @@
 -- What is left of the table gives the name the number that the whole gives it.
 use Rattle.std.proofs.Common.{◌≡◌, drop}
-use Rattle.lexer.specs.Words.{number_in}
+use Rattle.lexer.specs.Keywords.{number_in}
 use Rattle.lexer.proofs.names.number_among.Given as goal
 
 abbrev pub invariant-loop-number : goal.invariant-loop-number

@@ -1,4 +1,5 @@
--- Answers for `lexer::quick::lead_at`: the kinds of one ASCII character; where a token ends with the character behind it, its run ends.
+-- Answers for `lexer::quick::lead_at`: the kinds of one ASCII character; where a token ends
+-- with the character behind it, its run ends.
 use Rattle.std.proofs.Common.{rules, refl, arith}
 use Rattle.lexer.specs.Tokens.{is_word_continue, is_ascii_digit}
 use Rattle.lexer.proofs.Leads.{stop_word, stop_number, run_ends, quick_lead, quick_word, quick_number, no_word}

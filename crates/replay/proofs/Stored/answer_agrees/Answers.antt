@@ -1,4 +1,5 @@
--- Answers for `replay::answer_agrees`: the outcome that the definition compares is what `read` gives, and work that it must leave holds the front of `before`.
+-- Answers for `replay::answer_agrees`: the outcome that the definition compares is what `read` gives, and work that it must leave
+-- holds the front of `before`.
 use Rattle.std.proofs.Common.{◌≡◌, Bool, true, false, refl, sym, ◌∙◌}
 use Rattle.replay.proofs.Laws.{agrees-answer, agrees-rows, agrees-work}
 use Rattle.replay.proofs.Stored.answer_agrees.Goals as goal

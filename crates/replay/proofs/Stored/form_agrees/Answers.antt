@@ -1,4 +1,5 @@
--- Answers for `replay::form_agrees`: the outcome that the definition compares is what the writing call gives, and work that it must leave holds the front of `before`.
+-- Answers for `replay::form_agrees`: the outcome that the definition compares is what the writing call gives, and work that it
+-- must leave holds the front of `before`.
 use Rattle.std.proofs.Common.{◌≡◌, Bool, true, false, refl, sym, ◌∙◌}
 use Rattle.replay.proofs.Laws.{text_from, form-answer, form-rows, form-output, form-work}
 use Rattle.replay.proofs.Stored.form_agrees.Goals as goal

@@ -1,4 +1,4 @@
--- Its first rule, and those of the choices behind.
+-- The first rule of a line is put, and then those of the choices behind.
 use Rattle.std.proofs.Common.{arith, ap, ◌∙◌, map, ◌≤◌, length}
 use Rattle.tokens.specs.Listed.{tokens_of}
 use Rattle.sheet.specs.Wheels.{first_member}

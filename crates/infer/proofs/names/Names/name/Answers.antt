@@ -14,14 +14,14 @@ bounds-self-x c = name_inside c.args.self.now _ _ _ c.at-t.ensures c.is_state.en
 pub bounds-marks-k : goal.bounds-marks-k
 bounds-marks-k c = omega (arith, mark_inside c.args.self.now c.args.x _ _ c.at-t.ensures c.is_state.ensures c.if-not-is_state.false, c.requires.marks)
 
-pub bounds-marks-k-then-m-lt2 : goal.bounds-marks-k-then-m-lt2
-bounds-marks-k-then-m-lt2 c = omega (arith, mark_inside c.args.self.now c.args.x _ _ c.at-t.ensures c.is_state.ensures c.if-not-is_state.false, c.requires.marks)
+pub bounds-marks-k-then-m-lt-MET : goal.bounds-marks-k-then-m-lt-MET
+bounds-marks-k-then-m-lt-MET c = omega (arith, mark_inside c.args.self.now c.args.x _ _ c.at-t.ensures c.is_state.ensures c.if-not-is_state.false, c.requires.marks)
 
-pub returns-then-m-lt2 : goal.returns-then-m-lt2
-returns-then-m-lt2 c = name_new _ _ _ _ _ _ c.at-t.ensures _ c.is_state.ensures c.if-not-is_state.false _ _ refl refl _ _ c.if-m-lt2.true c.words.ensures refl
+pub returns-then-m-lt-MET : goal.returns-then-m-lt-MET
+returns-then-m-lt-MET c = name_new _ _ _ _ _ _ c.at-t.ensures _ c.is_state.ensures c.if-not-is_state.false _ _ refl refl _ _ c.if-m-lt-MET.true c.words.ensures refl
 
 pub returns-then-repeats : goal.returns-then-repeats
-returns-then-repeats c = name_again _ _ _ _ _ _ c.at-t.ensures _ c.is_state.ensures c.if-not-is_state.false _ _ refl refl _ c.if-m-lt2.false c.if-repeats.true c.words-then-repeats.ensures
+returns-then-repeats c = name_again _ _ _ _ _ _ c.at-t.ensures _ c.is_state.ensures c.if-not-is_state.false _ _ refl refl _ c.if-m-lt-MET.false c.if-repeats.true c.words-then-repeats.ensures
 
 pub returns-else-repeats : goal.returns-else-repeats
-returns-else-repeats c = name_passed _ _ _ _ _ _ c.at-t.ensures _ c.is_state.ensures c.if-not-is_state.false _ _ refl refl c.if-m-lt2.false c.if-repeats.false
+returns-else-repeats c = name_passed _ _ _ _ _ _ c.at-t.ensures _ c.is_state.ensures c.if-not-is_state.false _ _ refl refl c.if-m-lt-MET.false c.if-repeats.false

@@ -1,4 +1,4 @@
--- With states it is their section; without, the section holds no word.
+-- Where there can be states, the words put are their section; where there can be none, the section holds no word.
 use Rattle.reader.proofs.SectionLaws.{no_states, firsts_few, firsts_low, tokens_fed, states_put}
 use Rattle.reader.proofs.sections.Source.states.Goals as goal
 

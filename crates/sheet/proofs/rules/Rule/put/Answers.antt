@@ -1,4 +1,4 @@
--- Its head, its tapes and the comments that lead it, one after the other.
+-- The head of a rule, its tapes and the comments that lead it are put one after the other.
 use Rattle.sheet.proofs.CommentLaws.{many}
 use Rattle.sheet.proofs.RuleLaws.{rule-size, rule_put}
 use Rattle.sheet.proofs.rules.Rule.put.Goals as goal

@@ -1,6 +1,0 @@
-use Rattle.std.proofs.Common.{arith}
-use Rattle.alphabet.proofs.CodeLaws.{cleared}
-use Rattle.alphabet.proofs.codes.Codes.new.Goals as goal
-
-pub returns-clause-sound : goal.returns-clause-sound
-returns-clause-sound c = record { low = omega arith; hints = cleared c.hints-hints.result c.args.row.now _ c.saturating_sub-start.ensures _ (c.fill.ensures.after (λ _ e. e)) }

@@ -1,5 +1,0 @@
-use Rattle.alphabet.proofs.GlyphLaws.{if_none}
-use Rattle.alphabet.proofs.glyphs.Symbols.note_if.Goals as goal
-
-pub returns-else-counts : goal.returns-else-counts
-returns-else-counts c = if_none _ _ c.if-counts.false

@@ -1,5 +1,0 @@
-use Rattle.alphabet.proofs.AlphabetLaws.{line-put}
-use Rattle.alphabet.proofs.glyphs.Symbols.put_line.Goals as goal
-
-pub returns : goal.returns
-returns c = line-put _ _ _ _ c.at-t.ensures c.put_range.ensures

@@ -1,9 +1,0 @@
--- The fields are the last words of the definition, in its order.
-use Rattle.language.specs.Layout.{head_words}
-use Rattle.machine.specs.Meaning.{head_in}
-use Rattle.answer.proofs.AnswerWords.{two_words}
-use Rattle.answer.proofs.words.back_words.Goals as goal
-
-pub returns : goal.returns
-unfolding head_words head_in
-returns c = rw (two_words c.args.head.output)

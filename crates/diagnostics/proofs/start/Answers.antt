@@ -1,6 +1,0 @@
--- Assembly gives the table of first declarations, and by it the search finds the diagnostics of the row.
-use Rattle.diagnostics.proofs.Beginnings.{started}
-use Rattle.diagnostics.proofs.start.Goals as goal
-
-pub returns : goal.returns
-returns c = started _ _ _ _ _ _ _ c.requires c.assemble-a.ensures

@@ -1,0 +1,4 @@
+pub mod Begins
+pub mod Outcomes
+pub mod OnWords
+pub mod Stages

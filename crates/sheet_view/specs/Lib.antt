@@ -1,0 +1,3 @@
+pub mod Sections
+pub mod Directions
+pub mod Rules

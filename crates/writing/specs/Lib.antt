@@ -1,4 +1,0 @@
-pub mod Records
-pub mod Given
-pub mod Writes
-pub mod Claim
