@@ -3,6 +3,7 @@ pub mod Segments
 pub mod Front
 pub mod Encoding
 pub mod Laws
+pub mod Sums
 pub mod Scans
 pub mod Theorems
 pub mod Blocks

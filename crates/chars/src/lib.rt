@@ -4,7 +4,7 @@
 #![tactic(auto)]
 
 ghost use Rattle.std.specs.Prelude.{◌≡◌, ℕ, true, ◌+◌, ◌*◌, ◌^◌, ◌<◌, ◌≤◌, length, get_or, drop, IfSome, IfNone, Some, false, nat_le, position, unwrap_or, take_while};
-ghost use Rattle.chars.specs.Utf8.{scalar, size, sizes, tail_of, one, form, front, decode, valid_up_to};
+ghost use Rattle.chars.specs.Utf8.{scalar, size, sizes, encode_one, tail_of, one, form, front, decode, valid_up_to};
 ghost use Rattle.chars.specs.Decoded.{decoded_at};
 ghost use Rattle.chars.specs.Ranges.{within};
 ghost use Rattle.chars.specs.Blocks.{ors};
@@ -29,17 +29,14 @@ pub enum Class {
     Other,
 }
 
-// How many bytes a code point takes.
-#[tactic(auto, using(crate::proofs::Tests::tests), unfolding(crate::specs::Utf8::size))]
+// How many bytes a code point takes: one, and one more for each comparison that holds. No branch is taken, so that characters of
+// all sizes take the same time.
+#[tactic(auto, using(crate::proofs::Sums::sums))]
 pub fn len_utf8(c: u32) -> usize
-    ensures { result ≡ size c }
+    ensures size { result ≡ size c }
+    ensures form { result ≡ length (encode_one c) }
 {
-    match c {
-        0..0x80 => 1,
-        0x80..0x800 => 2,
-        0x800..0x10000 => 3,
-        _ => 4,
-    }
+    1 + (0x80 <= c) as usize + (0x800 <= c) as usize + (0x10000 <= c) as usize
 }
 
 // Whether a code point is a scalar value: no surrogate, and at most 10FFFF.

@@ -98,6 +98,7 @@ pub const CASES: &[Case] = &[
         let glyph = |i: usize| glyphs[i % glyphs.len()].to_string();
         pieces("input \"", glyph, "\"\n", size)
     }),
+    growing("greek-latin", |size| pieces("", greek_latin, "", size)),
     Case {
         sheet: false,
         // The original expands all rules, which no memory holds.
@@ -139,6 +140,12 @@ fn rules(size: usize) -> Vec<u8> {
         )
     };
     pieces("", rule, "", size)
+}
+
+/// A rule whose names, symbols and comment go from Greek to Latin and back, and its index in names that are all different.
+fn greek_latin(i: usize) -> String {
+    let (read, write) = [("a", "ω"), ("φ", "b"), ("λ", "Ω"), ("x", "y")][i % 4];
+    format!("δ(qα{i}, {read}) = (βeta{i}, {write}, R) // από {read} to {write}\n")
 }
 
 /// A rule with two read sets whose product is above the limit.
