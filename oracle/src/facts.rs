@@ -115,8 +115,10 @@ fn marked_places() {
     assert_eq!(listing("δ(a,{0,1})=(b,*,R)\n".as_bytes()), sample);
     let sample = "bytes=8\ndiagnostics=1\ndiagnostic=1 7 8 none none 1:8\n";
     assert_eq!(listing(b"Q = {a,}"), sample);
-    // P2.
+    // P2, of which the list program counts the column in characters.
     assert_eq!(diagnostics("δ(a,{})=(a,a,R)"), [(1, 6, 7)]);
+    let sample = "bytes=16\ndiagnostics=1\ndiagnostic=1 6 7 none none 1:6\n";
+    assert_eq!(listing("δ(a,{})=(a,a,R)".as_bytes()), sample);
     // P3 and P4.
     assert_eq!(machine("tapes = 255").head.tapes, 255);
     assert_eq!(machine("tapes = 0").head.tapes, 0);

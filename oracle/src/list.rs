@@ -53,15 +53,12 @@ fn diagnostics(text: &[u8], records: &[Record]) -> String {
     out
 }
 
-/// Line and column of an offset, both from 1, the column in bytes.
+/// Line and column of an offset, both from 1, the column in characters.
 fn line_column(text: &[u8], offset: usize) -> (usize, usize) {
-    let before = &text[..offset];
-    let line = before.iter().filter(|&&b| b == b'\n').count() + 1;
-    let line_start = before
-        .iter()
-        .rposition(|&b| b == b'\n')
-        .map_or(0, |i| i + 1);
-    (line, offset - line_start + 1)
+    let before = std::str::from_utf8(&text[..offset]).expect("a diagnostic starts at a character");
+    let line = before.matches('\n').count() + 1;
+    let left = before.rsplit('\n').next().unwrap_or_default();
+    (line, left.chars().count() + 1)
 }
 
 fn machine_listing(machine: &Machine<'_>) -> String {

@@ -1,6 +1,6 @@
 // The list program on the cases that are stored in data/: the samples P1 to P11 of paper 01, every refusal that it can give, two
 // tapes, texts on both sides of 2,048 bytes and of 16,384 words, of 1,023 and of 1,024 diagnostics, which no text of 2,048 bytes
-// exceeds, and a listing above a megabyte.
+// exceeds, a listing above a megabyte, and faults behind characters of two and three bytes, a tab and a carriage return.
 // Its log and its work are long enough for every text of 2,048 bytes, so it never refuses with 2 or 5.
 #![tactic(auto)]
 
@@ -8,8 +8,8 @@ use std::fs;
 use std::io::{self, Write};
 use std::rt::Files;
 
-// Paper 01, P1 to P11; two tapes, final states, refusals, and the limits.
-const CASES: [&str; 26] = [
+// Paper 01, P1 to P11; two tapes, final states, refusals, the limits, and columns.
+const CASES: [&str; 27] = [
     "p01-two-rules.tm",
     "p01-fault.tm",
     "p02-empty-set.tm",
@@ -36,6 +36,7 @@ const CASES: [&str; 26] = [
     "records-1023.tm",
     "records-1024.tm",
     "megabyte.tm",
+    "columns.tm",
 ];
 
 // The name of a case and its listing, neither where the case cannot be read.

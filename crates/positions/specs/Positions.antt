@@ -1,16 +1,16 @@
--- Line and column of an offset, both from 1; the column counts bytes.
-use Rattle.std.specs.Prelude.{ℕ, ◌+◌, true, false, List, eqb, take, fold}
+-- Line and column of an offset, both from 1, as an editor shows them: the column counts characters.
+use Rattle.std.specs.Prelude.{ℕ, ◌+◌, List, eqb, not, length, take, reverse, take_while, count_by}
+use Rattle.chars.specs.Utf8.{decode}
 use Rattle.positions.specs.declared.Position.{Position}
 
--- where a text begins
-abbrev pub start : Position
-start = record { line = 1; column = 1 }
+-- the position behind characters: a line more for each line feed, and a column more for each character behind the last of them
+unfoldable pub behind : List ℕ → Position
+behind cs = record {
+  line = count_by (λ c. eqb c 10) cs + 1;
+  column = length (take_while (λ c. not (eqb c 10)) (reverse cs)) + 1;
+}
 
--- the position behind a byte
-unfoldable pub next : Position → ℕ → Position
-next p b = elim (eqb b 10) [ true ↦ record { line = p.line + 1; column = 1 } | false ↦ record { line = p.line; column = p.column + 1 } ]
-
--- the position of an offset: behind all bytes before it
+-- the position of an offset: behind the characters that end before it; where a text is no UTF-8, behind those as far as it is
 unfoldable pub line_column : List ℕ → ℕ → Position
-unfolding next
-line_column text o = fold next start (take o text)
+unfolding behind decode
+line_column text o = behind (decode (take o text))
