@@ -130,19 +130,21 @@ def calls(head, rest):
     ]
 
 
-def write_crate(name, folder, cases):
-    """A crate whose lemmas say that the outcomes are the expected ones."""
+def write_crate(name, folder, module, lemmas):
+    """A crate whose file of definitions is a module and these lemmas behind it, each shown by computing."""
     os.makedirs(os.path.join(folder, "src"))
     os.makedirs(os.path.join(folder, "specs"))
     with open(os.path.join(folder, "src", "lib.rt"), "w", encoding="utf-8") as f:
         f.write(SOURCE.replace("NAME", name))
     with open(os.path.join(folder, "specs", "Lib.antt"), "w", encoding="utf-8") as f:
         f.write("pub mod Cases\n")
-    lines = [MODULE]
-    for i, (call, expected) in enumerate(cases):
-        lines.append("case-%d : outcome (%s) ≡ %s\nunfolding outcome\ncase-%d = refl\n" % (i, call, expected, i))
     with open(os.path.join(folder, "specs", "Cases.antt"), "w", encoding="utf-8") as f:
-        f.write("\n".join(lines))
+        f.write("\n".join([module, *lemmas]))
+
+
+def lemma(i, case):
+    """The outcome of a call is the expected one."""
+    return "case-%d : outcome (%s) ≡ %s\nunfolding outcome\ncase-%d = refl\n" % (i, *case, i)
 
 
 def libraries():
@@ -165,36 +167,47 @@ def check(name, folder, kept):
     return False
 
 
+def computed(module, lemmas):
+    """How many files of lemmas behind a module antt refuses; the folders of these are kept and named."""
+    failed = 0
+    with tempfile.TemporaryDirectory(prefix="kept-") as kept:
+        for i in range(0, len(lemmas), CASES_A_FILE):
+            name = "cases_%d" % (i // CASES_A_FILE)
+            folder = tempfile.mkdtemp(prefix=name + "-")
+            write_crate(name, folder, module, lemmas[i:i + CASES_A_FILE])
+            if check(name, folder, kept):
+                shutil.rmtree(folder)
+            else:
+                failed += 1
+                print("differences in", folder)
+    return failed
+
+
+def answer_of(command):
+    """What the oracle prints, built first; None where it fails."""
+    oracle = os.path.join(kit.ROOT, "oracle")
+    subprocess.run(["cargo", "build", "--release", "--offline", "--quiet", "-j1"], cwd=oracle, check=True)
+    done = subprocess.run([os.path.join(oracle, "target", "release", "oracle"), *command], stdout=subprocess.PIPE, check=False)
+    return None if done.returncode else done.stdout
+
+
 def main():
     count = sys.argv[1] if len(sys.argv) > 1 else "600"
     seed = sys.argv[2] if len(sys.argv) > 2 else "1"
-    oracle = os.path.join(kit.ROOT, "oracle")
-    subprocess.run(["cargo", "build", "--release", "--offline", "--quiet", "-j1"], cwd=oracle, check=True)
-    store = [os.path.join(oracle, "target", "release", "oracle"), "store", count, seed]
-    stored_cases = subprocess.run(store, stdout=subprocess.PIPE, check=False)
-    if stored_cases.returncode:
+    data = answer_of(["store", count, seed])
+    if data is None:
         sys.exit("tools/definitions.py: of so few texts `oracle store` misses a kind of answer: ask for more")
-    data = stored_cases.stdout
     cases, texts, machines = [], set(), 0
     for head, rest in stored(data):
         for number, call, expected in calls(head, rest):
             cases.append((call, expected))
             texts.add(call.split("(")[1].split(")")[0])
             machines += number == 0
-    failed = 0
-    with tempfile.TemporaryDirectory(prefix="kept-") as kept:
-        for i in range(0, len(cases), CASES_A_FILE):
-            name = "cases_%d" % (i // CASES_A_FILE)
-            folder = tempfile.mkdtemp(prefix=name + "-")
-            write_crate(name, folder, cases[i:i + CASES_A_FILE])
-            if check(name, folder, kept):
-                shutil.rmtree(folder)
-            else:
-                failed += 1
-                print("differences in", folder)
+    failed = computed(MODULE, [lemma(i, case) for i, case in enumerate(cases)])
     print("texts: %d, calls: %d, of them answered by a machine or a form: %d, files with differences: %d"
           % (len(texts), len(cases), machines, failed))
     sys.exit(1 if failed else 0)
 
 
-main()
+if __name__ == "__main__":
+    main()

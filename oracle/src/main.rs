@@ -3,7 +3,8 @@
 //! `original` is the copied source. `trace` and `tokens` get at what it keeps to itself (they
 //! are mounted inside it, see `original/dsl`). Everything else is written from paper 01: what a
 //! call answers (`head`, `sheet`, `log`, `outcome`), the plain form (`plain`), agreement
-//! (`agree`), the listing (`list`), and the commands on top.
+//! (`agree`), the listing (`list`), and the commands on top; and, from a definition of the port,
+//! inference on a machine as a value (`infer`).
 
 extern crate alloc;
 
@@ -15,6 +16,7 @@ mod dump;
 mod families;
 mod foreign;
 mod head;
+mod infer;
 mod list;
 mod log;
 mod outcome;
@@ -59,6 +61,8 @@ usage:
   oracle store COUNT SEED              stored answers for COUNT texts of each family
   oracle self [COUNT [SEED [FAMILY]]] [--plant layout|form|leading|sizes]
   oracle compare [tokens|read|write|read-records|write-records|list] [COUNT [SEED [FAMILY]]]
+  oracle infer [COUNT [SEED [FAMILY]]] inference on made-up machines, and a second one on texts
+  oracle infer-cases COUNT SEED        machines and what is inferred, for tools/inference.py
   oracle bench [--callgrind] [--small-pages] [--size BYTES] [CASE..]
                                        time, or instructions, of the original and of the port
 families: grammar damaged soup short lines limits changed joined odd filled spliced named listed large glyphs";
@@ -101,6 +105,10 @@ fn run(arguments: &[&str]) -> Result<bool, String> {
         ["gen", family, count, seed, directory] => generate(family, count, seed, Some(directory)),
         ["store", count, seed] => store(number(count)?, number(seed)?),
         ["self", rest @ ..] => self_check(rest),
+        ["infer", rest @ ..] => Ok(infer::run(selection(rest)?)),
+        ["infer-cases", count, seed] => {
+            print(infer::cases(number(count)?, number(seed)?).as_bytes())
+        }
         [
             "compare",
             which @ ("tokens" | "read" | "write" | "read-records" | "write-records" | "list"),

@@ -154,7 +154,7 @@ codes-inferred P [] = refl
 codes-inferred P (c ∷ l) = ap (λ t. c ∷ t) (codes-inferred P l)
 
 module _ {P : Type 0} where
-  fresh-values : (known : List ℕ → Bool) (l : List (Name P)) → map (λ n. n.value) (fresh same_name (λ n. known n.value) l) ≡ fresh same known (map (λ n. n.value) l)
+  pub fresh-values : (known : List ℕ → Bool) (l : List (Name P)) → map (λ n. n.value) (fresh same_name (λ n. known n.value) l) ≡ fresh same known (map (λ n. n.value) l)
   unfolding fresh
   fresh-values known [] = refl
   fresh-values known (x ∷ l) = by_test (known x.value)
@@ -192,7 +192,7 @@ module _ {P : Type 0} where
   option_values None = refl
   option_values (Some n) = refl
 
-  symbols-values : (b : ℕ) (l : List (Located P RawSymbol)) → map (λ x. resolve b x.value) l ≡ map (resolve b) (values l)
+  pub symbols-values : (b : ℕ) (l : List (Located P RawSymbol)) → map (λ x. resolve b x.value) l ≡ map (resolve b) (values l)
   unfolding values
   symbols-values b l = sym (map-map (resolve b) (λ x. x.value) l)
 
@@ -252,7 +252,7 @@ module _ {P : Type 0} where
   some-found None = refl
   some-found (Some a) = refl
 
-  states-values : (names : List (Name P)) (finals : List (Name P))
+  pub states-values : (names : List (Name P)) (finals : List (Name P))
       → map (λ s. record { name = s.name.value; final = s.final }) (marked (member same_name (fresh same_name nothing finals)) nothing names) ≡ marked_c (member same (fresh same nothing (values finals))) nothing (values names)
   unfolding values
   states-values names finals = marked-values (member same_name (fresh same_name nothing finals)) (member same (fresh same nothing (values finals)))

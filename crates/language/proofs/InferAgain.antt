@@ -18,6 +18,7 @@ use Rattle.language.specs.Infer.{member, fresh, nothing, resolve_decoder}
 use Rattle.language.specs.Plain.{final_names}
 use Rattle.language.proofs.Every.{by_test, or_left, or_right, Every, All, every_impl}
 use Rattle.language.proofs.PlainParse.{raw_decoder}
+use Rattle.language.proofs.Fresh as F
 use Rattle.language.proofs.Facts.{Facts, mentions_c, marked_c, used_c, candidates_c, with_blank_c, gamma_c, sigma_c, tapes_c, blank_c, names_c, start_c, content_from}
 
 -- ---- equality of names
@@ -49,58 +50,23 @@ keep p (x ∷ l) = elim (p x) [ true ↦ x ∷ keep p l | false ↦ keep p l ]
 abbrev grow : Test → Names → Test
 grow p l = λ y. member same l y || p y
 
-or_grown : (a b c : Bool) → (a ≡ true → c ≡ true) → ((a || b) || c) ≡ (b || c)
-or_grown true true c e = refl
-or_grown true false c e = sym (e refl)
-or_grown false b c e = refl
-
 or_known : (a c : Bool) → (a ≡ true → c ≡ true) → (a || c) ≡ c
 or_known true c e = sym (e refl)
 or_known false c e = refl
-
-or_swap : (a b c : Bool) → (a || (b || c)) ≡ ((b || a) || c)
-or_swap true true c = refl
-or_swap true false c = refl
-or_swap false true c = refl
-or_swap false false c = refl
 
 -- a known name makes nothing more known
 known_more : (p : Test) (x : List ℕ) → p x ≡ true → (λ y. same x y || p y) ≡ p
 known_more p x h = fun_ext (λ y. or_known (same x y) (p y) (λ e. ap p (sym (same-eq x y e)) ∙ h))
 
 fresh-append : (p : Test) (l r : Names) → fresh same p (l ++ r) ≡ fresh same p l ++ fresh same (grow p l) r
-unfolding fresh member
-fresh-append p [] r = refl
-fresh-append p (x ∷ l) r = by_test (p x)
-    (λ e. rw (e, fresh) (fresh-append p l r ∙ ap (λ q. fresh same p l ++ fresh same q r) (sym (grown e))))
-    (λ e. rw (e, fresh) (ap (λ t. x ∷ t) (fresh-append (λ y. same x y || p y) l r
-    ∙ ap (λ q. fresh same (λ y. same x y || p y) l ++ fresh same q r) (fun_ext (λ y. or_swap (member same l y) (same x y) (p y))))))
-  where
-    grown : p x ≡ true → grow p (x ∷ l) ≡ grow p l
-    grown h = fun_ext (λ y. or_grown (same x y) (member same l y) (p y) (λ e. ap p (sym (same-eq x y e)) ∙ h))
+fresh-append = F.fresh-append same same_refl same-eq
 
 fresh_known : (p : Test) (l r : Names) → All p l → fresh same p (l ++ r) ≡ fresh same p r
-unfolding fresh
-fresh_known p [] r h = refl
-fresh_known p (x ∷ l) r h = rw (h.0, fresh) (fresh_known p l r h.1)
+fresh_known = F.fresh_known same same_refl same-eq
 
 -- what q leaves out p leaves out too
 fresh_under : (p q : Test) → ((y : List ℕ) → q y ≡ true → p y ≡ true) → (l : Names) → fresh same p (fresh same q l) ≡ fresh same p l
-unfolding fresh
-fresh_under p q i [] = refl
-fresh_under p q i (x ∷ l) = by_test (q x)
-    (λ e. rw (e, fresh) (rw (i x e, fresh) (fresh_under p q i l)))
-    (λ e. rw (e, fresh) (by_test (p x)
-    (λ f. rw (f, fresh) (fresh_under p (λ y. same x y || q y) (λ y t. by f y (same x y) (q y) refl t (i y)) l))
-    (λ f. rw (f, fresh) (ap (λ t. x ∷ t) (fresh_under (λ y. same x y || p y) (λ y. same x y || q y) (λ y t. or_step (same x y) (q y) (p y) (i y) t) l)))))
-  where
-    or_step : (a b c : Bool) → (b ≡ true → c ≡ true) → (a || b) ≡ true → (a || c) ≡ true
-    or_step true b c g t = refl
-    or_step false b c g t = g t
-
-    by : p x ≡ true → (y : List ℕ) (a b : Bool) → same x y ≡ a → (a || b) ≡ true → (b ≡ true → p y ≡ true) → p y ≡ true
-    by f y true b s t g = ap p (sym (same-eq x y s)) ∙ f
-    by f y false b s t g = g t
+fresh_under = F.fresh_under same same_refl same-eq
 
 fresh-fresh : (p : Test) (l : Names) → fresh same p (fresh same p l) ≡ fresh same p l
 fresh-fresh p l = fresh_under p p (λ y e. e) l
@@ -116,9 +82,7 @@ keep_append p [] r = refl
 keep_append p (x ∷ l) r = by_test (p x) (λ e. rw (e, keep) (ap (λ t. x ∷ t) (keep_append p l r))) (λ e. rw (e, keep) (keep_append p l r))
 
 pub fresh_every : (q : List ℕ → Type 0) (p : Test) (l : Names) → Every q l → Every q (fresh same p l)
-unfolding fresh
-fresh_every q p [] h = tt
-fresh_every q p (x ∷ l) h = by_test (p x) (λ e. rw (e, fresh) (fresh_every q p l h.1)) (λ e. rw (e, fresh) (h.0, fresh_every q (λ y. same x y || p y) l h.1))
+fresh_every = F.fresh_every same same_refl same-eq
 
 pub keep_every : (q : List ℕ → Type 0) (p : Test) (l : Names) → Every q l → Every q (keep p l)
 unfolding keep
@@ -126,12 +90,7 @@ keep_every q p [] h = tt
 keep_every q p (x ∷ l) h = by_test (p x) (λ e. rw (e, keep) (h.0, keep_every q p l h.1)) (λ e. rw (e, keep) (keep_every q p l h.1))
 
 pub member_self : (l : Names) → All (member same l) l
-unfolding member
-member_self [] = tt
-member_self (x ∷ l) = (
-  or_left (same x x) (member same l x) (same_refl x),
-  every_impl (λ a. member same l a ≡ true) (λ a. member same (x ∷ l) a ≡ true) (λ a e. or_right (same x a) (member same l a) e) l (member_self l),
-)
+member_self = F.member_self same same_refl same-eq
 
 -- ---- F in state order gives the same states
 

@@ -7,7 +7,9 @@ pub mod LexSound
 pub mod PlainParse
 pub mod Columns
 pub mod Facts
+pub mod Fresh
 pub mod InferAgain
+pub mod InferTwice
 pub mod PlainAssembly
 pub mod ParsePlaces
 pub mod AssemblyPlaces
@@ -15,6 +17,8 @@ pub mod ParseSound
 pub mod AssemblySound
 pub mod ContentSound
 pub mod RoundTrip
+pub mod InferOnce
+pub mod InferSamples
 pub mod PlainSamples
 pub mod Samples
 pub mod Counts

@@ -8,5 +8,6 @@ pub mod Plain
 pub mod Layout
 pub mod Outcome
 pub mod Agreement
+pub mod Inference
 pub mod Claim
 pub mod StateName

@@ -1,0 +1,2 @@
+// What may be concluded of every call of `read`: theorems only, in proofs/; specs/Claim.antt says them.
+#![tactic(auto)]
