@@ -1,13 +1,13 @@
 //! Links the static libraries of this repository that exist, and says which through `cfg`.
 //!
 //! They are looked for where `tools/staticlib` leaves them, or in the directory that the variable
-//! `PEVZONCS_STATICLIB` names. Each defines its exported call alone: the layers below stand in each
+//! `PEVZONCS_STATICLIB` names. Each defines its exported calls alone: the layers below stand in each
 //! once more, under names that the linker does not see.
 
 use std::env;
 use std::path::PathBuf;
 
-const LIBRARIES: [&str; 5] = ["lexer", "reader", "writer", "reading", "writing"];
+const LIBRARIES: [&str; 6] = ["lexer", "reader", "writer", "reading", "writing", "hours"];
 
 fn main() {
     println!("cargo::rerun-if-env-changed=PEVZONCS_STATICLIB");

@@ -198,7 +198,7 @@ def exported():
 
 def claims():
     """The claims over the calls."""
-    return [d for path, f in FILES.items() if path.endswith("specs/Claim.antt") for d in f.made]
+    return [d for path, f in FILES.items() if path.endswith(("specs/Claim.antt", "specs/Claims.antt")) for d in f.made]
 
 
 def roots():
@@ -206,8 +206,8 @@ def roots():
     calls = exported()
     for d in calls:
         body = "\n".join(d.text[d.text.index("{") :])
-        for crate, name in re.findall(r"\b(\w+)::(\w+)\(", body):
-            low = FILES[f"crates/{crate}/src/lib.rt"]
+        for crate, module, name in re.findall(r"\b(\w+)::(?:(\w+)::)?(\w+)\(", body):
+            low = FILES[f"crates/{crate}/src/{module or 'lib'}.rt"]
             yield low.own[name]
             called = re.findall(r"(?<![:.\w])(\w+)\(", "\n".join(low.own[name].text[low.own[name].text.index("{") :]))
             yield from (low.own[n] for n in called if n in low.own and low.own[n].text[0].startswith("pub fn"))

@@ -33,6 +33,16 @@ pub type Tokenize = fn(text: &[u8], work: &mut [u32]) -> usize;
 /// Reads the text, or writes its form.
 pub type Call = fn(text: &[u8], buffers: &mut Buffers) -> AnswerRow;
 
+/// The calls on the opening hours of a station, over a row of words.
+pub struct Hours {
+    /// A window more: 0, 20 or 21.
+    pub add: fn(row: &mut [u32], opening: u32, closing: u32) -> u32,
+    /// Whether a minute is open: 0, 1 or 20.
+    pub open: fn(row: &[u32], minute: u32) -> u32,
+    /// The shortest wait: 0 with the minutes in the answer's first word, 1 or 20.
+    pub wait: fn(row: &[u32], minute: u32, answer: &mut [u32]) -> u32,
+}
+
 /// The port's lexer, if it is linked.
 pub fn tokenize() -> Option<Tokenize> {
     #[cfg(have_lexer)]
@@ -73,7 +83,26 @@ pub fn write_records() -> Option<Call> {
     None
 }
 
-#[cfg(any(have_lexer, have_reader, have_writer, have_reading, have_writing))]
+/// The port's opening hours, if they are linked.
+pub fn hours() -> Option<Hours> {
+    #[cfg(have_hours)]
+    return Some(Hours {
+        add: linked::hours_add,
+        open: linked::hours_open,
+        wait: linked::hours_wait,
+    });
+    #[cfg(not(have_hours))]
+    None
+}
+
+#[cfg(any(
+    have_lexer,
+    have_reader,
+    have_writer,
+    have_reading,
+    have_writing,
+    have_hours
+))]
 mod linked {
     #[cfg(any(have_reader, have_writer, have_reading, have_writing))]
     use super::{ANSWER_WORDS, AnswerRow, Buffers};
@@ -161,6 +190,49 @@ mod linked {
             answer: *mut u32,
             answer_len: usize,
         ) -> u32;
+    }
+
+    unsafe extern "C" {
+        #[cfg(have_hours)]
+        fn pevzoncs_hours_add(row: *mut u32, row_len: usize, opening: u32, closing: u32) -> u32;
+
+        #[cfg(have_hours)]
+        fn pevzoncs_hours_open(row: *const u32, row_len: usize, minute: u32) -> u32;
+
+        #[cfg(have_hours)]
+        fn pevzoncs_hours_wait(
+            row: *const u32,
+            row_len: usize,
+            minute: u32,
+            answer: *mut u32,
+            answer_len: usize,
+        ) -> u32;
+    }
+
+    #[cfg(have_hours)]
+    pub fn hours_add(row: &mut [u32], opening: u32, closing: u32) -> u32 {
+        // SAFETY: the slice is valid for its length.
+        unsafe { pevzoncs_hours_add(row.as_mut_ptr(), row.len(), opening, closing) }
+    }
+
+    #[cfg(have_hours)]
+    pub fn hours_open(row: &[u32], minute: u32) -> u32 {
+        // SAFETY: the slice is valid for its length.
+        unsafe { pevzoncs_hours_open(row.as_ptr(), row.len(), minute) }
+    }
+
+    #[cfg(have_hours)]
+    pub fn hours_wait(row: &[u32], minute: u32, answer: &mut [u32]) -> u32 {
+        // SAFETY: both slices are valid for their lengths, and don't overlap.
+        unsafe {
+            pevzoncs_hours_wait(
+                row.as_ptr(),
+                row.len(),
+                minute,
+                answer.as_mut_ptr(),
+                answer.len(),
+            )
+        }
     }
 
     #[cfg(have_lexer)]

@@ -16,6 +16,7 @@ mod dump;
 mod families;
 mod foreign;
 mod head;
+mod hours;
 mod infer;
 mod list;
 mod log;
@@ -61,6 +62,7 @@ usage:
   oracle store COUNT SEED              stored answers for COUNT texts of each family
   oracle self [COUNT [SEED [FAMILY]]] [--plant layout|form|leading|sizes]
   oracle compare [tokens|read|write|read-records|write-records|list] [COUNT [SEED [FAMILY]]]
+  oracle compare hours [COUNT [SEED]]  the opening hours of a station, on COUNT random lists
   oracle infer [COUNT [SEED [FAMILY]]] inference on made-up machines, and a second one on texts
   oracle infer-cases COUNT SEED        machines and what is inferred, for tools/inference.py
   oracle bench [--callgrind] [--small-pages] [--size BYTES] [CASE..]
@@ -76,6 +78,9 @@ const EVERY_CALL: [&str; 6] = [
     "write-records",
     "list",
 ];
+
+/// Lists that `compare hours` runs over unless told otherwise.
+const DEFAULT_LISTS: u64 = 1_000_000;
 
 /// Texts that `self` and `compare` run over unless told otherwise.
 const DEFAULT_COUNT: u64 = 20_000;
@@ -114,6 +119,7 @@ fn run(arguments: &[&str]) -> Result<bool, String> {
             which @ ("tokens" | "read" | "write" | "read-records" | "write-records" | "list"),
             rest @ ..,
         ] => compare(&[which], rest),
+        ["compare", "hours", rest @ ..] => compare_hours(rest),
         ["compare", rest @ ..] => compare(&EVERY_CALL, rest),
         ["bench", "--once", side, case, numbers @ ..] => bench_once(side, case, numbers),
         ["bench", "--callgrind", rest @ ..] => bench::count(&bench_options(rest)?),
@@ -243,6 +249,23 @@ fn selection(arguments: &[&str]) -> Result<Selection, String> {
 
 fn family(name: &str) -> Result<Family, String> {
     Family::named(name).ok_or_else(|| format!("{name} is no family"))
+}
+
+/// Compares the opening hours of random lists, if their library is linked.
+fn compare_hours(arguments: &[&str]) -> Result<bool, String> {
+    let (lists, seed) = match arguments {
+        [] => (DEFAULT_LISTS, 0),
+        [lists] => (number(lists)?, 0),
+        [lists, seed] => (number(lists)?, number(seed)?),
+        _ => return Err(USAGE.into()),
+    };
+    match foreign::hours() {
+        Some(hours) => Ok(hours::compare(&hours, lists, seed)),
+        None => {
+            println!("hours: no libhours.a yet, nothing compared");
+            Ok(true)
+        }
+    }
 }
 
 /// The list program: where `rt run` leaves it, or what the variable `PEVZONCS_LIST` names.

@@ -1,0 +1,4 @@
+pub mod Hours
+pub mod Code
+pub mod Rows
+pub mod Claims
