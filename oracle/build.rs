@@ -7,7 +7,9 @@
 use std::env;
 use std::path::PathBuf;
 
-const LIBRARIES: [&str; 6] = ["lexer", "reader", "writer", "reading", "writing", "hours"];
+const LIBRARIES: [&str; 7] = [
+    "lexer", "reader", "writer", "reading", "writing", "hours", "longest",
+];
 
 fn main() {
     println!("cargo::rerun-if-env-changed=PEVZONCS_STATICLIB");

@@ -43,6 +43,9 @@ pub struct Hours {
     pub wait: fn(row: &[u32], minute: u32, answer: &mut [u32]) -> u32,
 }
 
+/// The rule line that expands the most, at the front of the output; 0 or 22, and the answer's four words.
+pub type Longest = fn(n: u64, output: &mut [u8], answer: &mut [u32]) -> u32;
+
 /// The port's lexer, if it is linked.
 pub fn tokenize() -> Option<Tokenize> {
     #[cfg(have_lexer)]
@@ -95,13 +98,22 @@ pub fn hours() -> Option<Hours> {
     None
 }
 
+/// The port's line that expands the most, if it is linked.
+pub fn longest() -> Option<Longest> {
+    #[cfg(have_longest)]
+    return Some(linked::longest);
+    #[cfg(not(have_longest))]
+    None
+}
+
 #[cfg(any(
     have_lexer,
     have_reader,
     have_writer,
     have_reading,
     have_writing,
-    have_hours
+    have_hours,
+    have_longest
 ))]
 mod linked {
     #[cfg(any(have_reader, have_writer, have_reading, have_writing))]
@@ -207,6 +219,15 @@ mod linked {
             answer: *mut u32,
             answer_len: usize,
         ) -> u32;
+
+        #[cfg(have_longest)]
+        fn pevzoncs_longest(
+            n: u64,
+            output: *mut u8,
+            output_len: usize,
+            answer: *mut u32,
+            answer_len: usize,
+        ) -> u32;
     }
 
     #[cfg(have_hours)]
@@ -229,6 +250,20 @@ mod linked {
                 row.as_ptr(),
                 row.len(),
                 minute,
+                answer.as_mut_ptr(),
+                answer.len(),
+            )
+        }
+    }
+
+    #[cfg(have_longest)]
+    pub fn longest(n: u64, output: &mut [u8], answer: &mut [u32]) -> u32 {
+        // SAFETY: both slices are valid for their lengths, and don't overlap.
+        unsafe {
+            pevzoncs_longest(
+                n,
+                output.as_mut_ptr(),
+                output.len(),
                 answer.as_mut_ptr(),
                 answer.len(),
             )

@@ -20,6 +20,7 @@ mod hours;
 mod infer;
 mod list;
 mod log;
+mod longest;
 mod outcome;
 mod place;
 mod plain;
@@ -63,6 +64,7 @@ usage:
   oracle self [COUNT [SEED [FAMILY]]] [--plant layout|form|leading|sizes]
   oracle compare [tokens|read|write|read-records|write-records|list] [COUNT [SEED [FAMILY]]]
   oracle compare hours [COUNT [SEED]]  the opening hours of a station, on COUNT random lists
+  oracle compare longest [TRIES [SEED]]  the lines that expand the most, and TRIES to beat them
   oracle infer [COUNT [SEED [FAMILY]]] inference on made-up machines, and a second one on texts
   oracle infer-cases COUNT SEED        machines and what is inferred, for tools/inference.py
   oracle bench [--callgrind] [--small-pages] [--size BYTES] [CASE..]
@@ -81,6 +83,9 @@ const EVERY_CALL: [&str; 6] = [
 
 /// Lists that `compare hours` runs over unless told otherwise.
 const DEFAULT_LISTS: u64 = 1_000_000;
+
+/// Tries that `compare longest` makes unless told otherwise.
+const DEFAULT_TRIES: u64 = 2_000_000;
 
 /// Texts that `self` and `compare` run over unless told otherwise.
 const DEFAULT_COUNT: u64 = 20_000;
@@ -120,6 +125,7 @@ fn run(arguments: &[&str]) -> Result<bool, String> {
             rest @ ..,
         ] => compare(&[which], rest),
         ["compare", "hours", rest @ ..] => compare_hours(rest),
+        ["compare", "longest", rest @ ..] => compare_longest(rest),
         ["compare", rest @ ..] => compare(&EVERY_CALL, rest),
         ["bench", "--once", side, case, numbers @ ..] => bench_once(side, case, numbers),
         ["bench", "--callgrind", rest @ ..] => bench::count(&bench_options(rest)?),
@@ -263,6 +269,23 @@ fn compare_hours(arguments: &[&str]) -> Result<bool, String> {
         Some(hours) => Ok(hours::compare(&hours, lists, seed)),
         None => {
             println!("hours: no libhours.a yet, nothing compared");
+            Ok(true)
+        }
+    }
+}
+
+/// Checks the lines that expand the most and tries to beat them, if their library is linked.
+fn compare_longest(arguments: &[&str]) -> Result<bool, String> {
+    let (tries, seed) = match arguments {
+        [] => (DEFAULT_TRIES, 0),
+        [tries] => (number(tries)?, 0),
+        [tries, seed] => (number(tries)?, number(seed)?),
+        _ => return Err(USAGE.into()),
+    };
+    match foreign::longest() {
+        Some(longest) => Ok(longest::compare(longest, tries, seed)),
+        None => {
+            println!("longest: no liblongest.a yet, nothing compared");
             Ok(true)
         }
     }

@@ -1,0 +1,11 @@
+pub mod Weights
+pub mod ParseCosts
+pub mod Best
+pub mod Rows
+pub mod Written
+pub mod Theorem
+pub mod Chain
+pub mod Numbers
+pub mod Tapes
+pub mod Calls
+pub mod Samples
