@@ -7,8 +7,8 @@
 use std::env;
 use std::path::PathBuf;
 
-const LIBRARIES: [&str; 7] = [
-    "lexer", "reader", "writer", "reading", "writing", "hours", "longest",
+const LIBRARIES: [&str; 8] = [
+    "lexer", "reader", "writer", "reading", "writing", "hours", "longest", "runner",
 ];
 
 fn main() {

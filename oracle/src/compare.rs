@@ -73,7 +73,7 @@ fn show(family: Family, index: u64, seed: u64, text: &[u8], difference: &str) {
 }
 
 /// Says where two rows differ first.
-fn same<T: PartialEq + std::fmt::Debug>(
+pub fn same<T: PartialEq + std::fmt::Debug>(
     what: &str,
     found: &[T],
     expected: &[T],
@@ -97,13 +97,13 @@ fn same<T: PartialEq + std::fmt::Debug>(
 }
 
 /// Words that no answer is likely to hold, different for each call.
-fn dirty(random: &mut Random, length: usize) -> Vec<u32> {
+pub fn dirty(random: &mut Random, length: usize) -> Vec<u32> {
     let first = random.bits() as u32 | 0x8000_0000;
     (0..length as u32).map(|i| first ^ i).collect()
 }
 
 /// A length around `exact`: itself, one less, less, nothing, one more or more.
-fn near(random: &mut Random, exact: usize) -> usize {
+pub fn near(random: &mut Random, exact: usize) -> usize {
     match random.below(8) {
         0 => exact.saturating_sub(1),
         1 => random.below(exact + 1),
@@ -119,7 +119,7 @@ fn near(random: &mut Random, exact: usize) -> usize {
 pub fn compare_tokens(tokenize: Tokenize, selection: Selection) -> bool {
     over_families(selection, |family, text, random, tally| {
         if first_outside(utf8_beginning(text)).is_some() {
-            tally.count(family, "outside the set");
+            tally.count(family.name(), "outside the set");
             return Ok(());
         }
         let expected = tokens(text);
@@ -129,7 +129,7 @@ pub fn compare_tokens(tokenize: Tokenize, selection: Selection) -> bool {
         ] {
             let before = dirty(random, work_len);
             let kind = tokens_agree(tokenize, text, &expected, before)?;
-            tally.count(family, kind);
+            tally.count(family.name(), kind);
         }
         Ok(())
     })
@@ -160,7 +160,7 @@ pub fn compare_read(read: Call, selection: Selection) -> bool {
     over_families(selection, |family, text, random, tally| {
         for_lengths(text, random, |reading, lengths, random| {
             let outcome = read_outcome(text, reading, lengths);
-            tally.count(family, read_kind(&outcome.reply));
+            tally.count(family.name(), read_kind(&outcome.reply));
             let expected = Expected {
                 answer: read_answer(&outcome.reply),
                 log: outcome.log,
@@ -177,7 +177,7 @@ pub fn compare_write(write: Call, selection: Selection) -> bool {
     over_families(selection, |family, text, random, tally| {
         for_lengths(text, random, |reading, lengths, random| {
             let outcome = write_outcome(text, reading, lengths);
-            tally.count(family, write_kind(&outcome.reply));
+            tally.count(family.name(), write_kind(&outcome.reply));
             let expected = Expected {
                 answer: write_answer(&outcome.reply),
                 log: outcome.log,
@@ -198,7 +198,7 @@ pub fn compare_list(program: &Path, selection: Selection) -> bool {
             _ => text.len().min(MAX_INPUT),
         };
         let expected = listing(&text[..end]);
-        tally.count(family, list_kind(&expected));
+        tally.count(family.name(), list_kind(&expected));
         let found = printed(program, &text[..end]).map_err(|e| e.to_string())?;
         same("the listing", &found, expected.as_bytes())
     })

@@ -5,6 +5,7 @@
 //! port's source, so they stand here alone; the wrappers below are safe, since none of the
 //! functions asks anything of its arguments.
 
+use crate::batch::BatchLent;
 use crate::head::HEAD_WORDS;
 
 /// Words of the answer row: the reply's number, its value (low word first), and the head.
@@ -45,6 +46,9 @@ pub struct Hours {
 
 /// The rule line that expands the most, at the front of the output; 0 or 22, and the answer's four words.
 pub type Longest = fn(n: u64, output: &mut [u8], answer: &mut [u32]) -> u32;
+
+/// Runs a batch; the number that is also the first word of the answer.
+pub type Batch = fn(lent: &mut BatchLent) -> u32;
 
 /// The port's lexer, if it is linked.
 pub fn tokenize() -> Option<Tokenize> {
@@ -103,6 +107,14 @@ pub fn longest() -> Option<Longest> {
     #[cfg(have_longest)]
     return Some(linked::longest);
     #[cfg(not(have_longest))]
+    None
+}
+
+/// The port's runner, if it is linked.
+pub fn batch() -> Option<Batch> {
+    #[cfg(have_runner)]
+    return Some(runner::batch);
+    #[cfg(not(have_runner))]
     None
 }
 
@@ -391,5 +403,57 @@ mod linked {
             "the number that pevzoncs_write_records answers"
         );
         answer
+    }
+}
+
+#[cfg(have_runner)]
+mod runner {
+    use crate::batch::BatchLent;
+
+    unsafe extern "C" {
+        fn pevzoncs_batch(
+            texts: *const u8,
+            texts_len: usize,
+            lengths: *const u32,
+            lengths_len: usize,
+            allowance: u64,
+            work: *mut u32,
+            work_len: usize,
+            log: *mut u32,
+            log_len: usize,
+            sheet: *mut u32,
+            sheet_len: usize,
+            cells: *mut u32,
+            cells_len: usize,
+            answers: *mut u64,
+            answers_len: usize,
+            answer: *mut u64,
+            answer_len: usize,
+        ) -> u32;
+    }
+
+    pub fn batch(lent: &mut BatchLent) -> u32 {
+        // SAFETY: all slices are valid for their lengths, and don't overlap.
+        unsafe {
+            pevzoncs_batch(
+                lent.texts.as_ptr(),
+                lent.texts.len(),
+                lent.lengths.as_ptr(),
+                lent.lengths.len(),
+                lent.allowance,
+                lent.work.as_mut_ptr(),
+                lent.work.len(),
+                lent.log.as_mut_ptr(),
+                lent.log.len(),
+                lent.sheet.as_mut_ptr(),
+                lent.sheet.len(),
+                lent.cells.as_mut_ptr(),
+                lent.cells.len(),
+                lent.answers.as_mut_ptr(),
+                lent.answers.len(),
+                lent.answer.as_mut_ptr(),
+                lent.answer.len(),
+            )
+        }
     }
 }

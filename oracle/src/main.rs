@@ -9,6 +9,7 @@
 extern crate alloc;
 
 mod agree;
+mod batch;
 mod bench;
 mod chars;
 mod compare;
@@ -58,6 +59,7 @@ usage:
   oracle dump FILE                     the whole outcome of a text, `-` for standard input
   oracle call FILE WORK LOG SHEET OUTPUT
                                        both calls with buffers of these lengths
+  oracle batch STEPS CELLS FILE..      a batch call on these texts
   oracle list FILE                     the listing of the list program
   oracle gen FAMILY COUNT SEED [DIR]   texts, to standard output or one file each into DIR
   oracle store COUNT SEED              stored answers for COUNT texts of each family
@@ -65,11 +67,16 @@ usage:
   oracle compare [tokens|read|write|read-records|write-records|list] [COUNT [SEED [FAMILY]]]
   oracle compare hours [COUNT [SEED]]  the opening hours of a station, on COUNT random lists
   oracle compare longest [TRIES [SEED]]  the lines that expand the most, and TRIES to beat them
+  oracle self batch [COUNT [SEED [FAMILY]]] [--plant FAULT]
+  oracle compare batch [COUNT [SEED [FAMILY]]]
+                                       batches of machines that run, of families of their own
   oracle infer [COUNT [SEED [FAMILY]]] inference on made-up machines, and a second one on texts
   oracle infer-cases COUNT SEED        machines and what is inferred, for tools/inference.py
   oracle bench [--callgrind] [--small-pages] [--size BYTES] [CASE..]
                                        time, or instructions, of the original and of the port
-families: grammar damaged soup short lines limits changed joined odd filled spliced named listed large glyphs";
+  oracle bench runs [BATCH..]          time of the port's runs, beside a dense table
+families: grammar damaged soup short lines limits changed joined odd filled spliced named listed large glyphs
+of batches: decided beavers machines edges inputs names rules refusals texts lengths traces many large";
 
 /// What `compare` runs over unless told otherwise.
 const EVERY_CALL: [&str; 6] = [
@@ -110,10 +117,12 @@ fn run(arguments: &[&str]) -> Result<bool, String> {
         ["call", file, rest @ ..] => {
             print(dump::calls(&read_file(file)?, lengths(rest)?).as_bytes())
         }
+        ["batch", steps, cells, files @ ..] => batch_call(steps, cells, files),
         ["list", file] => print(list::listing(&read_file(file)?).as_bytes()),
         ["gen", family, count, seed] => generate(family, count, seed, None),
         ["gen", family, count, seed, directory] => generate(family, count, seed, Some(directory)),
         ["store", count, seed] => store(number(count)?, number(seed)?),
+        ["self", "batch", rest @ ..] => self_check_batches(rest),
         ["self", rest @ ..] => self_check(rest),
         ["infer", rest @ ..] => Ok(infer::run(selection(rest)?)),
         ["infer-cases", count, seed] => {
@@ -126,8 +135,10 @@ fn run(arguments: &[&str]) -> Result<bool, String> {
         ] => compare(&[which], rest),
         ["compare", "hours", rest @ ..] => compare_hours(rest),
         ["compare", "longest", rest @ ..] => compare_longest(rest),
+        ["compare", "batch", rest @ ..] => compare_batches(rest),
         ["compare", rest @ ..] => compare(&EVERY_CALL, rest),
         ["bench", "--once", side, case, numbers @ ..] => bench_once(side, case, numbers),
+        ["bench", "runs", names @ ..] => bench::runs_table(names),
         ["bench", "--callgrind", rest @ ..] => bench::count(&bench_options(rest)?),
         ["bench", rest @ ..] => bench::times(&bench_options(rest)?),
         _ => Err(USAGE.into()),
@@ -289,6 +300,45 @@ fn compare_longest(arguments: &[&str]) -> Result<bool, String> {
             Ok(true)
         }
     }
+}
+
+/// A batch of the texts in these files.
+fn batch_call(steps: &str, cells: &str, files: &[&str]) -> Result<bool, String> {
+    let texts: Result<Vec<Vec<u8>>, String> = files.iter().map(|file| read_file(file)).collect();
+    print(batch::call(&texts?, number(steps)?, number(cells)? as usize).as_bytes())
+}
+
+/// Holds the stand-in for the port, with a fault or without, against the interpreter.
+fn self_check_batches(arguments: &[&str]) -> Result<bool, String> {
+    let (numbers, fault) = match arguments {
+        [numbers @ .., "--plant", name] => {
+            let fault = batch::Fault::named(name).ok_or_else(|| format!("{name} is no fault"))?;
+            (numbers, Some(fault))
+        }
+        numbers => (numbers, None),
+    };
+    Ok(batch::self_check(batches(numbers)?, fault))
+}
+
+/// Holds the port's runner against the interpreter, if it is linked.
+fn compare_batches(arguments: &[&str]) -> Result<bool, String> {
+    let selection = batches(arguments)?;
+    let Some(call) = foreign::batch() else {
+        println!("batch: no librunner.a yet, nothing compared");
+        return Ok(true);
+    };
+    Ok(batch::compare(call, selection))
+}
+
+fn batches(arguments: &[&str]) -> Result<batch::Selection, String> {
+    let (numbers, name) = match arguments {
+        [count, seed, name] => (&[*count, *seed][..], Some(*name)),
+        numbers => (numbers, None),
+    };
+    let Selection { count, seed, .. } = selection(numbers)?;
+    let named = |name| batch::Family::named(name).ok_or_else(|| format!("{name} is no family"));
+    let only = name.map(named).transpose()?;
+    Ok(batch::Selection { count, seed, only })
 }
 
 /// The list program: where `rt run` leaves it, or what the variable `PEVZONCS_LIST` names.

@@ -123,11 +123,11 @@ impl Run {
         random: &mut Random,
     ) -> Result<(), String> {
         if text.len() > MAX_TEXT {
-            self.tally.count(family, "refused 1");
+            self.tally.count(family.name(), "refused 1");
             return Ok(());
         }
         let reading = read(text);
-        self.tally.count(family, kind_of(&reading));
+        self.tally.count(family.name(), kind_of(&reading));
         let machine = match reading {
             Reading::Machine(machine) => machine,
             Reading::Diagnostics(records) => return starts_ascend(&records),

@@ -117,7 +117,9 @@ impl Stored {
             let absent = kinds.iter().filter(|kind| !tally.has(kind));
             absent.map(|kind| kind.to_string()).collect()
         };
-        let families = Family::STORED.iter().filter(|f| !self.read.has_family(**f));
+        let families = Family::STORED
+            .iter()
+            .filter(|f| !self.read.has_family(f.name()));
         let mut missing = [
             missing(&self.read, &READ_KINDS),
             missing(&self.write, &WRITE_KINDS),
@@ -168,8 +170,8 @@ impl Stored {
         let write = write_outcome(text, reading, lengths);
         let case = case(text, lengths, &read, &write);
         if case.len() <= MAX_CASE_BYTES {
-            self.read.count(family, read_kind(&read.reply));
-            self.write.count(family, write_kind(&write.reply));
+            self.read.count(family.name(), read_kind(&read.reply));
+            self.write.count(family.name(), write_kind(&write.reply));
             self.cases.push(case);
         }
     }

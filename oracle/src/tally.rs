@@ -2,7 +2,6 @@
 
 use std::collections::{BTreeMap, BTreeSet};
 
-use crate::families::Family;
 use crate::outcome::{MAX_TEXT, Refusal};
 use crate::reading::Reading;
 
@@ -30,38 +29,44 @@ pub fn refused(refusal: Refusal) -> &'static str {
     }
 }
 
-/// How many there were of each family and kind of answer.
+/// How many there were of each family and kind of answer, and the families in the order in which they were first counted.
 #[derive(Default)]
-pub struct Tally(BTreeMap<(&'static str, &'static str), u64>);
+pub struct Tally {
+    counts: BTreeMap<(&'static str, &'static str), u64>,
+    families: Vec<&'static str>,
+}
 
 impl Tally {
-    /// Counts one more.
-    pub fn count(&mut self, family: Family, kind: &'static str) {
-        *self.0.entry((family.name(), kind)).or_default() += 1;
+    /// Counts one more of the family of that name.
+    pub fn count(&mut self, family: &'static str, kind: &'static str) {
+        if !self.has_family(family) {
+            self.families.push(family);
+        }
+        *self.counts.entry((family, kind)).or_default() += 1;
     }
 
     /// The number of all.
     pub fn total(&self) -> u64 {
-        self.0.values().sum()
+        self.counts.values().sum()
     }
 
     /// Whether there was any of a kind.
     pub fn has(&self, kind: &str) -> bool {
-        self.0.keys().any(|&(_, k)| k == kind)
+        self.counts.keys().any(|&(_, k)| k == kind)
     }
 
     /// Whether there was any of a family.
-    pub fn has_family(&self, family: Family) -> bool {
-        self.0.keys().any(|&(f, _)| f == family.name())
+    pub fn has_family(&self, family: &str) -> bool {
+        self.families.contains(&family)
     }
 
     /// A table with a line for each family and a column for each kind; `what` is counted.
     pub fn table(&self, what: &str) -> String {
-        let kinds: BTreeSet<&str> = self.0.keys().map(|&(_, kind)| kind).collect();
+        let kinds: BTreeSet<&str> = self.counts.keys().map(|&(_, kind)| kind).collect();
         let kinds: Vec<&str> = kinds.into_iter().collect();
         let mut lines = format!("| family | {what} | {} |\n", kinds.join(" | "));
         lines.push_str(&format!("|---|---|{}\n", "---|".repeat(kinds.len())));
-        for family in Family::ALL.map(Family::name) {
+        for &family in &self.families {
             lines.push_str(&self.row(family, &kinds, |name| name == family));
         }
         lines + &self.row("all", &kinds, |_| true)
@@ -69,7 +74,10 @@ impl Tally {
 
     fn row(&self, title: &str, kinds: &[&str], family: impl Fn(&str) -> bool) -> String {
         let count = |kind: &str| -> u64 {
-            let matching = self.0.iter().filter(|((f, k), _)| family(f) && *k == kind);
+            let matching = self
+                .counts
+                .iter()
+                .filter(|((f, k), _)| family(f) && *k == kind);
             matching.map(|(_, count)| count).sum()
         };
         let counts: Vec<u64> = kinds.iter().map(|kind| count(kind)).collect();

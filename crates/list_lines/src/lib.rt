@@ -240,7 +240,7 @@ fn machine_lines(out: &mut Output, text: &[u8], head: &Head, sheet: &[u32])
 
 // The first line of all others: the text's length.
 #[tactic(auto, using(crate::proofs::Chain::chain), unfolding(crate::specs::Listing::bytes_line))]
-fn bytes_line(out: &mut Output, text: &[u8])
+pub fn bytes_line(out: &mut Output, text: &[u8])
     ensures { Puts (bytes_line text.now) out.old out.new }
 {
     out.bytes(b"bytes=");

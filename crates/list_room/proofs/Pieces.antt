@@ -40,7 +40,7 @@ ended = record { short = λ rest. omega arith }
 
 -- ---- numbers and names
 
-digits_short : (k n : ℕ) (rest : List ℕ) → length (digits_from k n rest) ≤ suc k + length rest
+pub digits_short : (k n : ℕ) (rest : List ℕ) → length (digits_from k n rest) ≤ suc k + length rest
 unfolding digits_from
 digits_short zero n rest = omega arith
 digits_short (suc k) n rest = by_test (ltb n 10)
@@ -129,8 +129,8 @@ unfolding diagnostic
 diagnostic_short text d =
     said "diagnostic=" ▸ number_short (at d 0) ▸ said " " ▸ place_short (place_at d 1) ▸ said " " ▸ related_short (place_at d 3) ▸ said " " ▸ position_short text (at d 1) ▸ ended
 
--- at most n diagnostics
-each_short : (text : List ℕ) (n : ℕ) (log : List ℕ) → Short (158 * n) (each (diagnostic text) (groups 5 n log))
+-- the first n diagnostics of a log
+pub each_short : (text : List ℕ) (n : ℕ) (log : List ℕ) → Short (158 * n) (each (diagnostic text) (groups 5 n log))
 unfolding each groups
 each_short text zero log = record { short = λ rest. omega arith }
 each_short text (suc n) log = less (omega arith) (diagnostic_short text (take 5 log) ▸ each_short text n (drop 5 log))

@@ -3,6 +3,7 @@ ghost use Rattle.std.specs.Prelude.{◌≡◌, take, drop, get_or};
 ghost use Rattle.language.specs.Layout.{decoder_words, head_words};
 ghost use Rattle.language.specs.Outcome.{reply_number, reply_value, reply_head, words_of, reply_words, at_front};
 ghost use Rattle.reader_answer.specs.Answer.{reply_in};
+ghost use Rattle.reader_answer.specs.Front.{front_put};
 
 use crate::{Answer, Refusal};
 use machine::{Decoder, Head};
@@ -140,14 +141,21 @@ pub fn answer_words(answer: Result<Answer, Refusal>) -> [u32; ANSWER_WORDS]
     words_of(answer_number(answer), answer_value(answer), &head)
 }
 
+// Words at the front of a row that is lent for them, where it has room for them all.
+pub fn put_front<T: Copy, const N: usize>(words: &[T; N], row: &mut [T])
+    ensures { row.new ≡ front_put N words.now row.old }
+{
+    if let Some(front) = row.first_chunk_mut() {
+        *front = *words;
+    }
+}
+
 // The words of an answer at the front of a row that is lent for them, where it has room for them all. Answers the number, which is
 // the first of them.
 pub fn give(words: &[u32; ANSWER_WORDS], row: &mut [u32]) -> u32
     ensures { (result ≡ get_or words.now 0 0)
         × (row.new ≡ at_front words.now row.old) }
 {
-    if let Some(front) = row.first_chunk_mut() {
-        *front = *words;
-    }
+    put_front(words, row);
     words[0]
 }

@@ -7,7 +7,9 @@
 mod cases;
 mod clock;
 mod counts;
+mod dense;
 mod pages;
+mod runs;
 mod sides;
 
 use std::iter;
@@ -277,3 +279,4 @@ fn print_row(measured: &Measured, first: &Measured) {
 }
 
 pub use counts::{count, once};
+pub use runs::runs_table;

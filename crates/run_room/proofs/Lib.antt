@@ -1,0 +1,4 @@
+pub mod Kept
+pub mod Named
+pub mod Shown
+pub mod Room

@@ -1,0 +1,4 @@
+pub mod OneRead
+pub mod AllRead
+pub mod AllRan
+pub mod WholeBatch

@@ -1,0 +1,4 @@
+pub mod Given
+pub mod Values
+pub mod Counts
+pub mod Put

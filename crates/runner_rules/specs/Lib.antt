@@ -1,0 +1,4 @@
+pub mod Due
+pub mod Firsts
+pub mod Rules
+pub mod Search
