@@ -3,8 +3,9 @@
 
 names_in_docs.py [FILE..]: prints file, line and word of each path that leads to no file and of each name in backquotes that
 nothing in crates/, oracle/src or tools/ has, in the files given or else in README.md, NOTICE, CONTRIBUTING.md, oracle/README.md
-and docs/, where docs/PORT.md, docs/DESIGN-PASS.md and the notes in docs/changes are records of the past and left out unless they
-are given; and each crate that the table of docs/DESIGN.md and crates.txt do not both have. Exit status 1 if there are any.
+and docs/, where docs/PORT.md, docs/DESIGN-PASS.md, docs/LOOK-BACK.md and the notes in docs/changes are records of the past and left
+out unless they are given; and each crate that the table of docs/DESIGN.md and crates.txt do not both have. Exit status 1 if there
+are any.
 
 A path begins at the top of the repository, in a crate's folder (`specs/Meaning.antt`, `reader_answer/specs/Answer`), in the
 document's own, or with a letter that the document sets for a crate (`L is crates/language`); .antt and .rt may be left out, and
@@ -18,7 +19,7 @@ import re
 import sys
 
 ROOT = os.path.dirname(os.path.dirname(os.path.abspath(__file__)))
-RECORDS = re.compile(r"docs/(?:PORT|DESIGN-PASS|changes/\d.*)\.md")
+RECORDS = re.compile(r"docs/(?:PORT|DESIGN-PASS|LOOK-BACK|changes/\d.*)\.md")
 TOPS = r"crates|tools|docs|oracle|examples|specs|proofs|src|must-fail|data|\.ci"
 PATH = re.compile(rf"(?<![\w/.~-])((?:\.\./)*(?:\w+/)??(?:{TOPS})(?:/[\w.*+-]+)+)")
 LETTERED = re.compile(r"(?<![\w/])[A-Z]/(?:specs|proofs|src)/[\w./*-]+")

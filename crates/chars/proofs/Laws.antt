@@ -9,7 +9,7 @@ use mathlib.Core.List.{List, [], ◌∷◌, ◌++◌}
 use lib.ListN.{length, get_or, drop, length-drop, drop_of_length-le}
 use lib.Seq.{drop-drop}
 use Rattle.chars.specs.Utf8.{scalar, size, sizes, Front, one, bad, none, tail_of, form, lead, front, points_on, points_from, decode}
-use Rattle.chars.specs.Decoded.{decoded_at}
+use Rattle.chars.specs.Decoded.{decoded_at, NoneMeans}
 use Rattle.std.specs.Prelude.{Option, Some, None}
 use Rattle.chars.proofs.Tests.{split}
 use Rattle.chars.proofs.Encoding.{size-range, front-scalar, front_in}
@@ -165,3 +165,17 @@ module _ where
   unfolding front Something
   front-end [] e = refl
   front-end (a ∷ r) e = absurd (lead_something a (tail_of (get_or r 0 0)) (tail_of (get_or r 1 0)) (tail_of (get_or r 2 0)) e)
+
+-- ---- what None says
+module _ (t : List ℕ) (i : ℕ) where
+  bad_inside : (h : Front) → front (drop i t) ≡ h → None ≡ decoded_at i h → (length (drop i t) ≡ 0 → ⊥) → front (drop i t) ≡ bad
+  unfolding decoded_at
+  bad_inside (one c) p q f = cc
+  bad_inside bad p q f = p
+  bad_inside none p q f = absurd (f (ap length (front-end (drop i t) p)))
+
+  pub none_means : (r : Option (ℕ × ℕ)) → r ≡ decoded_at i (front (drop i t)) → NoneMeans t i r
+  unfolding front
+  none_means None s =
+      (λ h. bad_inside (front (drop i t)) refl s (λ e. omega (arith, e, h, length-drop i t)), λ h. rw (drop_of_length-le t h) refl)
+  none_means (Some x) s = tt

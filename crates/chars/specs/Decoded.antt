@@ -1,6 +1,6 @@
 -- Describes the code, and no rule of a text: what its walks over the bytes answer, and what the laws ask of code points.
-use Rattle.std.specs.Prelude.{ℕ, ◌+◌, ◌≡◌, ◌≤◌, List, [], ◌∷◌, Bool, true, ◌&&◌, Option, Some, None, unwrap_or, length, drop}
-use Rattle.chars.specs.Utf8.{scalar, size, sizes, Front, one, bad, none, decode, valid_up_to}
+use Rattle.std.specs.Prelude.{ℕ, ◌+◌, ◌≡◌, ◌≤◌, List, [], ◌∷◌, Bool, true, ◌&&◌, Option, Some, None, unwrap_or, length, drop, ◌<◌, IfNone}
+use Rattle.chars.specs.Utf8.{scalar, size, sizes, Front, one, bad, none, front, decode, valid_up_to}
 use Rattle.chars.specs.Class.{outside_from, first_outside}
 
 -- every member is a scalar value
@@ -16,6 +16,10 @@ unfolding size
 decoded_at at (one c) = Some (c, at + size c)
 decoded_at at bad = None
 decoded_at at none = None
+
+-- what None says of the place i of the text t: inside it stand bytes that are no character, behind it nothing
+abbrev pub NoneMeans : List ℕ → ℕ → Option (ℕ × ℕ) → Type 0
+NoneMeans t i answer = IfNone answer ((i < length t → front (drop i t) ≡ bad) × (length t ≤ i → front (drop i t) ≡ none))
 
 -- how far a text is UTF-8 and within the set
 unfoldable pub plain_up_to : List ℕ → ℕ

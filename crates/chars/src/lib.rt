@@ -5,7 +5,7 @@
 
 ghost use Rattle.std.specs.Prelude.{◌≡◌, ℕ, true, ◌+◌, ◌*◌, ◌^◌, ◌<◌, ◌≤◌, length, get_or, drop, IfSome, IfNone, Some, false, nat_le, position, unwrap_or, take_while};
 ghost use Rattle.chars.specs.Utf8.{scalar, size, sizes, encode_one, tail_of, one, form, front, decode, valid_up_to};
-ghost use Rattle.chars.specs.Decoded.{decoded_at};
+ghost use Rattle.chars.specs.Decoded.{decoded_at, NoneMeans};
 ghost use Rattle.chars.specs.Ranges.{within};
 ghost use Rattle.chars.specs.Blocks.{ors};
 ghost use Rattle.chars.specs.Short.{is_tail, is_two, two_code, plain_two, plain_next, Short, is_short};
@@ -150,10 +150,11 @@ fn short_at<F: Fn(u8, u8) -> bool>(
     three.contains(&code).then_some((code, at + 3))
 }
 
-// The character at a place of a text; None where no character stands there, as at the end. Small, so that it is compiled into its
-// callers: ASCII is decided here.
+// The character at a place of a text; None where no character stands there: inside the text its bytes are none, and behind it
+// nothing is left. Small, so that it is compiled into its callers: ASCII is decided here.
 pub fn char_at(text: &[u8], at: usize) -> Option<(u32, usize)>
-    ensures { result ≡ decoded_at at (front (drop at text.now)) }
+    ensures found { result ≡ decoded_at at (front (drop at text.now)) }
+    ensures nothing { NoneMeans text.now at result }
 {
     let a = *text.get(at)?;
     if a < 0x80 {
@@ -167,7 +168,8 @@ pub fn char_at(text: &[u8], at: usize) -> Option<(u32, usize)>
 // The character at a place of a text where characters above ASCII are as likely: those of two bytes and those that begin with E2
 // are decided here too.
 pub fn glyph_at(text: &[u8], at: usize) -> Option<(u32, usize)>
-    ensures { result ≡ decoded_at at (front (drop at text.now)) }
+    ensures found { result ≡ decoded_at at (front (drop at text.now)) }
+    ensures nothing { NoneMeans text.now at result }
 {
     let a = *text.get(at)?;
     if a < 0x80 {

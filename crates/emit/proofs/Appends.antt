@@ -3,11 +3,11 @@ use mathlib.Core.Path.{◌≡◌, refl, sym, ap, ap₂, ◌∙◌}
 use Prim.Native.Nat.{ℕ, suc, ◌+◌, ◌-◌, ◌≤◌, ◌<◌, min}
 use native.Mathlib.Omega.{arith}
 use native.Mathlib.Nat.{add-zero}
+use native.Mathlib.Numerals.{add-one}
 use mathlib.Core.Logic.{◌⊎◌, inl, inr}
-use mathlib.Core.List.{List, [], ◌∷◌, ◌++◌, append_assoc}
-use lib.ListN.{length, take, drop, set, length-append, length-take, drop_of_length-le, take-append-drop}
-use borrow.Rule.Slice.PartMut.{put_mid, Post-is}
-use lib.Seq.{sets, sets-eq, length-sets, set_out}
+use mathlib.Core.List.{List, [], ◌∷◌, ◌++◌}
+use lib.ListN.{length, get_or, drop, set, length-append, drop_of_length-le}
+use lib.Seq.{sets, sets-eq, length-sets, set_out, drop-cons}
 use Rattle.chars.proofs.Tests.{lt-or-ge}
 use Rattle.emit.specs.Output.{Output, output, counted, appended}
 
@@ -86,24 +86,22 @@ pub part_full : (row : List ℕ) (at : ℕ) (part : List ℕ) (end : ℕ) → le
 unfolding appended
 part_full row at part end h e = ap₂ output (sym (sets_out part row at h)) e
 
--- a part stored as far as there is room, and no further
-pub part_stored : (row part new : List ℕ) (at n end : ℕ) → at < length row → n ≡ min (length part) (length row - at) → new ≡ take n part → end ≡ counted at (length part)
-    → output (put_mid at (at + n - at) row new) end ≡ appended (output row at) part
-unfolding appended
-part_stored row part new at n end h m e q = ap₂ output (rw e (rows ∙ sym (rest (lt-or-ge n (length part))) ∙ whole)) q
-  where
-    long : length (take n part) ≡ n
-    long = length-take n part ∙ omega (arith, m)
+pub part_start_lem : (row : List ℕ) (at : ℕ) (part : List ℕ) → sets row (at + 0) (drop 0 part) ≡ sets row at part
+part_start_lem row at part = rw (add-zero at)
 
-    rows : put_mid at (at + n - at) row (take n part) ≡ sets row at (take n part)
-    rows =
-        ap (λ (l : List ℕ). take at row ++ (take n part ++ l)) (Post-is at (at + n) row (omega arith))
-        ∙ sym (append_assoc (take at row) (take n part) (drop (at + n) row))
-        ∙ sym (rw long at (sets-eq (take n part) row at (omega (arith, long))))
+module _ (row₀ row : List ℕ) (at i : ℕ) (part : List ℕ) (inv : sets row (at + i) (drop i part) ≡ sets row₀ at part) where
+  pub part-next : (x n : ℕ) → i < n → n ≡ min (length part) (length row₀ - at) → x ≡ get_or part i 0
+      → sets (set row (at + i) x) (at + (i + 1)) (drop (i + 1) part) ≡ sets row₀ at part
+  part-next x n l q e =
+      let h : i < length part = omega arith in
+      let s : at + (i + 1) ≡ suc (at + i) = omega arith in
+      rw (s, add-one i, e) (rw (drop-cons part i 0 h) at inv)
 
-    rest : (n < length part) ⊎ (length part ≤ n) → sets (sets row at (take n part)) (at + n) (drop n part) ≡ sets row at (take n part)
-    rest (inl l) = sets_out (drop n part) (sets row at (take n part)) (at + n) (omega (arith, length-sets row at (take n part)))
-    rest (inr g) = rw (drop_of_length-le part g)
-
-    whole : sets (sets row at (take n part)) (at + n) (drop n part) ≡ sets row at part
-    whole = ap (λ (k : ℕ). sets (sets row at (take n part)) (at + k) (drop n part)) (sym long) ∙ sets-append (take n part) (drop n part) row at ∙ rw take-append-drop
+  pub part_done : (end n : ℕ) → length row ≡ length row₀ → n ≤ i → n ≡ min (length part) (length row₀ - at) → end ≡ counted at (length part)
+      → output row end ≡ appended (output row₀ at) part
+  unfolding appended
+  part_done end n s l q e = ap₂ output (go (lt-or-ge i (length part)) ∙ inv) e
+    where
+      go : (i < length part) ⊎ (length part ≤ i) → row ≡ sets row (at + i) (drop i part)
+      go (inl h) = sym (sets_out (drop i part) row (at + i) (omega arith))
+      go (inr h) = ap (sets row (at + i)) (sym (drop_of_length-le part h))

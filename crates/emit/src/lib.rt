@@ -3,7 +3,7 @@
 
 ghost use Rattle.std.specs.Prelude.{◌≡◌, [], ◌∷◌, ◌+◌, ◌%◌, ◌<◌};
 ghost use Rattle.chars.specs.Utf8.{encode_one};
-ghost use Rattle.emit.specs.Output.{output};
+ghost use Rattle.emit.specs.Output.{output, appended};
 ghost use Rattle.emit.specs.Decimal.{decimal};
 
 // Where bytes are appended: the row lent for them, and how many were appended so far. With an empty row, `&mut row[..0]`, they
@@ -48,12 +48,7 @@ impl<'a> Output<'a> {
     pub fn bytes(&mut self, part: &[u8])
         ensures { Appends part.now self.old self.new }
     {
-        let end = self.at.saturating_add(part.len());
-        if self.at < self.row.len() {
-            let n = part.len().min(self.row.len() - self.at);
-            self.row[self.at..self.at + n].copy_from_slice(&part[..n]);
-        }
-        self.at = end;
+        self.at = put(self.row, self.at, part);
     }
 
     // A code point in UTF-8; it may be a surrogate, which no `char` is.
@@ -92,6 +87,23 @@ impl<'a> Output<'a> {
         digits[i] = (0x30 + left) as u8;
         self.bytes(&digits[i..]);
     }
+}
+
+// A part put into a row at an index, as far as there is room; the index behind it, had there been room for all.
+// By a loop: `copy_from_slice` makes a library for C ask for memmove from outside, and takes up to a half more instructions where
+// parts are short.
+fn put(row: &mut [u8], at: usize, part: &[u8]) -> usize
+    ensures { output row.new result ≡ appended (output row.old at) part.now }
+{
+    let end = at.saturating_add(part.len());
+    if row.len() <= at {
+        return end;
+    }
+    let n = part.len().min(row.len() - at);
+    for i in 0..n {
+        row[at + i] = part[i];
+    }
+    end
 }
 
 // The lowest six bits of c as a continuation byte.

@@ -1,6 +1,6 @@
 -- Strings: what each character between the quotes gives is what the string's value gives, escaped again.
 use mathlib.Core.Path.{◌≡◌, refl, sym, ap, subst, ◌∙◌}
-use Prim.Native.Nat.{ℕ, suc}
+use Prim.Native.Nat.{ℕ, suc, ◌<◌}
 use native.Mathlib.Omega.{arith}
 use mathlib.Core.Bool.{Bool, true, false, not, ◌&&◌, false≢true}
 use mathlib.Core.List.{List, [], ◌∷◌, ◌++◌}
@@ -31,6 +31,18 @@ escape-written c h rest =
     λ e₁. by_test (eqb c 0x5C) (λ e. rw (eqb-true c 0x5C e))
     λ e₂. by_test (eqb c 0x6E) (λ e. rw (eqb-true c 0x6E e))
     λ e₃. by_test (eqb c 0x74) (λ e. rw (eqb-true c 0x74 e))
+    λ e₄.
+    let p : escape c ≡ None = rw (e₁, escape) (rw (e₂, e₃, e₄)) in
+    absurd (false≢true (sym (ap (λ (x : Option ℕ). elim x [ Some v ↦ true | None ↦ false ]) p) ∙ h))
+
+-- it is in ASCII
+pub escape_ascii : (c : ℕ) → is_escape c ≡ true → c < 0x80
+unfolding is_escape
+escape_ascii c h =
+    by_test (eqb c 0x22) (λ e. omega (arith, eqb-true c 0x22 e))
+    λ e₁. by_test (eqb c 0x5C) (λ e. omega (arith, eqb-true c 0x5C e))
+    λ e₂. by_test (eqb c 0x6E) (λ e. omega (arith, eqb-true c 0x6E e))
+    λ e₃. by_test (eqb c 0x74) (λ e. omega (arith, eqb-true c 0x74 e))
     λ e₄.
     let p : escape c ≡ None = rw (e₁, escape) (rw (e₂, e₃, e₄)) in
     absurd (false≢true (sym (ap (λ (x : Option ℕ). elim x [ Some v ↦ true | None ↦ false ]) p) ∙ h))

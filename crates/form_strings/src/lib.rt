@@ -13,12 +13,15 @@ ghost use Rattle.form_strings.specs.Strings.{is_escape, rewritten, Whole};
 
 use emit::Output;
 
-// A character.
+// A character. Small, so that it is compiled into its callers: ASCII is decided here.
 #[tactic(auto, using(crate::proofs::Chain::chain, crate::proofs::Chain::encode_next, crate::proofs::Characters::scalar_below))]
 pub fn character(out: &mut Output, c: u32)
     requires { scalar c ≡ true }
     ensures { Writes (λ rest. c ∷ rest) out.old out.new }
 {
+    if c < 0x80 {
+        return out.byte(c as u8);
+    }
     out.code_point(c);
 }
 
@@ -74,7 +77,7 @@ fn behind_slash(out: &mut Output, c: u32)
 {
     out.bytes(b"\\");
     if is_escape(c) {
-        return character(out, c);
+        return out.byte(c as u8);
     }
     out.bytes(b"\\");
     in_string(out, c);

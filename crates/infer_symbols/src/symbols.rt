@@ -101,14 +101,11 @@ impl<'a> Symbols<'a> {
     {
         let last = self.tokens.count.min(to).saturating_sub(1);
         let words = self.tokens.words;
-        // A sheet of its own over the same row stays in registers: without it glyphs-set takes 10 in a hundred more instructions.
-        let mut own = Sheet::new(sheet.row, sheet.at);
         let mut i = from;
         while i < last && quoted_pair(words, i) {
-            self.put_symbol(tokens::token_at(words, i), inferred, &mut own);
+            self.put_symbol(tokens::token_at(words, i), inferred, sheet);
             i += 2;
         }
-        sheet.at = own.at;
         i
     }
 
@@ -119,12 +116,16 @@ impl<'a> Symbols<'a> {
         ensures { Puts (flat (symbol_words inferred self.now.blank)
             (symbols (range (row_of self.now) from to))) sheet.old sheet.new }
     {
+        // A sheet of its own over the same row stays in registers: without it glyphs-set takes 10 in a hundred more instructions,
+        // and bare symbols a quarter, which each begin a run of none.
+        let mut own = Sheet::new(sheet.row, sheet.at);
         let mut i = from;
         while i < to {
-            self.put_symbol(self.tokens.at(i), inferred, sheet);
+            self.put_symbol(self.tokens.at(i), inferred, &mut own);
             i = past_comma(&self.tokens, i + 1);
-            i = self.quoted_run(i, to, inferred, sheet);
+            i = self.quoted_run(i, to, inferred, &mut own);
         }
+        sheet.at = own.at;
     }
 
     // The symbols of the line at an index.

@@ -4,7 +4,7 @@ use mathlib.Core.Bool.{Bool, true, false, ◌&&◌, not, false≢true}
 use mathlib.Core.List.{List, [], ◌∷◌, ◌++◌, append_assoc}
 use mathlib.Core.Path.{◌≡◌, refl, ap, ◌∙◌, sym}
 use native.Mathlib.Omega.{arith}
-use borrow.Author.Tests.{eqb-true, eqb-false}
+use borrow.Author.Tests.{eqb-true, eqb-false, not-true}
 use lib.Dec.{ltb, eqb}
 use lib.ListN.{length}
 use lib.Seq.{drop-append_seam}
@@ -117,6 +117,10 @@ at_right n h = at_below right 256 all_right n h
 
 pub value-digits : (n : ℕ) → n < 256 → value (digits n) ≡ n
 value-digits n h = eqb-true (value (digits n)) n (and_left (eqb (value (digits n)) n) _ (at_right n h))
+
+pub no_needless : (n : ℕ) → n < 256 → needless (digits n) ≡ false
+no_needless n h = not-true (needless (digits n))
+    (and_right (some_digits (digits n)) (not (needless (digits n))) (and_right (eqb (value (digits n)) n) _ (at_right n h)))
 
 all_of : (l : List ℕ) → all_digits l ≡ true → All is_ascii_digit l
 unfolding all_digits

@@ -79,6 +79,17 @@ blank_right : all_below (λ (c : ℕ). agree (eqb (lead_of c) 13 || eqb (lead_of
 unfolding lead_of is_whitespace
 blank_right = refl
 
+digit_right : all_below (λ (c : ℕ). agree (eqb (lead_of c) 1) (is_ascii_digit c)) 128 ≡ true
+unfolding lead_of is_ascii_digit
+digit_right = refl
+
+pub digit_above : (c : ℕ) → 0x80 ≤ c → is_ascii_digit c ≡ false
+digit_above c h = not-true (is_ascii_digit c) (go (is_ascii_digit c) refl)
+  where
+    go : (b : Bool) → is_ascii_digit c ≡ b → not b ≡ true
+    go true e = let r = digit_range c e in absurd (omega (arith, r.1))
+    go false e = refl
+
 neither : (a b : Bool) → a ≡ false → b ≡ false → (a || b) ≡ false
 neither false false e f = refl
 neither false true e f = cc
@@ -89,6 +100,11 @@ module _ (c k : ℕ) (h : c < 128) (e : k ≡ lead_of c) where
   continue_lead =
       ap (λ (x : ℕ). leb x 2) e
       ∙ agree_eq (leb (lead_of c) 2) (is_word_continue c) (all_below_lem (λ (x : ℕ). agree (leb (lead_of x) 2) (is_word_continue x)) 128 continue_right c h)
+
+  pub digit_lead : eqb k 1 ≡ is_ascii_digit c
+  digit_lead =
+      ap (λ (x : ℕ). eqb x 1) e
+      ∙ agree_eq (eqb (lead_of c) 1) (is_ascii_digit c) (all_below_lem (λ (x : ℕ). agree (eqb (lead_of x) 1) (is_ascii_digit x)) 128 digit_right c h)
 
   blank_lead : (eqb k 13 || eqb k 16) ≡ is_whitespace c
   blank_lead =

@@ -53,6 +53,10 @@ pub(crate) fn lead_at(text: &[u8], at: usize) -> u32
     let Some(lead) = ascii_lead(text, at) else {
         return UNTOLD;
     };
+    // Signs, line feeds and white space first: no look at the byte behind tells them.
+    if kind::QUOTED < lead {
+        return lead;
+    }
     match lead {
         kind::WORD if !ends_at(text, at + 1, |next| kind::QUOTED < next) => LONG_WORD,
         kind::NUMBER if !ends_at(text, at + 1, |next| next != kind::NUMBER) => UNTOLD,

@@ -27,11 +27,11 @@ pub(crate) fn is_word_continue(c: u32) -> bool
     continues_above(c)
 }
 
-// Whether c is an ASCII digit.
+// Whether c is an ASCII digit, by the table: the match of `class_of` takes three times as long where a text is digits.
 fn is_ascii_digit(c: u32) -> bool
     ensures { result ≡ is_ascii_digit c }
 {
-    chars::class_of(c) == Class::Digit
+    c < 0x80 && quick::lead_of(c) == kind::NUMBER
 }
 
 // Whether c is white space, by its class.
@@ -41,10 +41,13 @@ fn space_by_class(c: u32) -> bool
     chars::class_of(c) == Class::Space
 }
 
-// Whether c is white space: ASCII by the table, any other by its class.
+// Whether c is white space: a space first, which most of it is; other ASCII by the table, any other by its class.
 pub(crate) fn is_whitespace(c: u32) -> bool
     ensures { result ≡ is_whitespace c }
 {
+    if c == 0x20 {
+        return true;
+    }
     if c < 0x80 {
         return matches!(quick::lead_of(c), kind::NEWLINE | quick::BLANK);
     }

@@ -25,4 +25,4 @@ pub loop-c-preserved : goal.loop-c-preserved
 loop-c-preserved c = search laws
 
 pub returns : goal.returns
-returns c = let l = c.loop-c.invariant in text_over _ _ _ c.char_at.ensures _ l.closed _ _ _ l.goes c.in_default.is
+returns c = let l = c.loop-c.invariant in text_over _ _ _ c.char_at.ensures.found _ l.closed _ _ _ l.goes c.in_default.is

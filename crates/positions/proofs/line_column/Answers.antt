@@ -6,4 +6,4 @@ pub loop-c-preserved : goal.loop-c-preserved
 loop-c-preserved c = record { inside = search scan; total = search scan; near = search scan }
 
 pub returns : goal.returns
-returns c = cut _ _ _ _ c.min.ensures (steps_end _ _ _ c.char_at.ensures c.in_default.is _ _ c.loop-c.invariant.total)
+returns c = cut _ _ _ _ c.min.ensures (steps_end _ _ _ c.char_at.ensures.found c.in_default.is _ _ c.loop-c.invariant.total)

@@ -7,4 +7,4 @@ pub loop-c-smaller : goal.loop-c-smaller
 loop-c-smaller c = search (rules, char_falls)
 
 pub loop-c-preserved : goal.loop-c-preserved
-loop-c-preserved c = passed_on _ _ _ _ c.loop-c.invariant _ c.glyph_at.ensures _ _ c.in-Some.is c.if-c-lt128.false (c.if-not-is_seen.ensures.noted refl)
+loop-c-preserved c = passed_on _ _ _ _ c.loop-c.invariant _ c.glyph_at.ensures.found _ _ c.in-Some.is c.if-c-lt128.false (c.if-not-is_seen.ensures.noted refl)

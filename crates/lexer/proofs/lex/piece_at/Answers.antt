@@ -12,9 +12,9 @@ returns-then-starts_with c = search (rules, piece-quoted)
 
 pub invariant_of-piece : goal.invariant_of-piece
 invariant_of-piece c = record {
-  behind = char_next _ _ _ c.char_at.ensures _ _ c.in-Some.is;
-  read = char_decode _ _ _ c.char_at.ensures _ _ c.in-Some.is;
-  inside = char_le _ _ _ c.char_at.ensures _ _ c.in-Some.is;
+  behind = char_next _ _ _ c.char_at.ensures.found _ _ c.in-Some.is;
+  read = char_decode _ _ _ c.char_at.ensures.found _ _ c.in-Some.is;
+  inside = char_le _ _ _ c.char_at.ensures.found _ _ c.in-Some.is;
 }
 
 pub returns-in-Some : goal.returns-in-Some

@@ -20,3 +20,9 @@ returns-in_default-lead-3-clause-quick c = λ h. quick_lead _ _ _ c.in-Some.ensu
 
 pub returns-in_default-lead-3-clause-word : goal.returns-in_default-lead-3-clause-word
 returns-in_default-lead-3-clause-word c = λ e. no_word _ _ _ c.in-Some.ensures e
+
+pub returns-then-lead-gt-QUOTED-clause-quick : goal.returns-then-lead-gt-QUOTED-clause-quick
+returns-then-lead-gt-QUOTED-clause-quick c = λ h. quick_lead _ _ _ c.in-Some.ensures (omega (arith, c.if-lead-gt-QUOTED.true)) h
+
+pub returns-then-lead-gt-QUOTED-clause-word : goal.returns-then-lead-gt-QUOTED-clause-word
+returns-then-lead-gt-QUOTED-clause-word c = λ e. no_word _ _ _ c.in-Some.ensures e

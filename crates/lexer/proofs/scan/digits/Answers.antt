@@ -24,8 +24,8 @@ loop-c-smaller c = search (rules, char_falls)
 
 pub loop-c-preserved : goal.loop-c-preserved
 loop-c-preserved c = (
-  run_on _ _ _ _ c.char_at.ensures _ c.loop-c.invariant.0 _ _ _ c.in-Some.is c.is_ascii_digit.ensures c.if-not-is_ascii_digit.false,
-  counted-on _ _ _ _ _ c.char_at.ensures c.loop-c.invariant.1 _ _ _ _ c.in-Some.is c.is_ascii_digit.ensures c.if-not-is_ascii_digit.false c.min-v.ensures,
+  run_on _ _ _ _ c.char_at.ensures.found _ c.loop-c.invariant.0 _ _ _ c.in-Some.is c.is_ascii_digit.ensures c.if-not-is_ascii_digit.false,
+  counted-on _ _ _ _ _ c.char_at.ensures.found c.loop-c.invariant.1 _ _ _ _ c.in-Some.is c.is_ascii_digit.ensures c.if-not-is_ascii_digit.false c.min-v.ensures,
 )
 
 pub returns-clause-end : goal.returns-clause-end

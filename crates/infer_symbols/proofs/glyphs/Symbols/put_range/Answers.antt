@@ -15,4 +15,6 @@ loop-i-preserved c =
     _ c.past_comma-i.ensures _ c.quoted_run-i.ensures.on c.quoted_run-i.ensures.near _ c.quoted_run-i.ensures.puts
 
 pub returns : goal.returns
-returns c = putting_end (symbol_words c.args.inferred c.args.self.now.blank) (tokens_of c.args.self.now.tokens) c.args.from c.args.to _ _ _ _ c.loop-i.invariant c.loop-i-test.false
+returns c =
+    let stored = putting_end (symbol_words c.args.inferred c.args.self.now.blank) (tokens_of c.args.self.now.tokens) c.args.from c.args.to _ _ _ _ c.loop-i.invariant c.loop-i-test.false in
+    search rules
