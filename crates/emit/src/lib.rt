@@ -90,8 +90,7 @@ impl<'a> Output<'a> {
 }
 
 // A part put into a row at an index, as far as there is room; the index behind it, had there been room for all.
-// By a loop: `copy_from_slice` makes a library for C ask for memmove from outside, and takes up to a half more instructions where
-// parts are short.
+// By a loop: with `copy_from_slice` a library for C asks for memmove from outside.
 fn put(row: &mut [u8], at: usize, part: &[u8]) -> usize
     ensures { output row.new result ≡ appended (output row.old at) part.now }
 {

@@ -144,6 +144,8 @@ fn word(text: &[u8], at: usize, work: &mut [u32], n: usize) -> Cursor
 // The tokens of a text, at the front of work; answers their number. The rest of work stays as it was.
 // Tokens of one ASCII character go by the table, longer words that begin with one by their end, any other by what stands at the
 // place. Those of more characters than one go together with a comma behind them.
+// Not compiled into its callers: inside the reader, white space, line feeds and short words took up to twice as long.
+#[inline(never)]
 pub fn tokenize(text: &[u8], work: &mut [u32]) -> usize
     requires { (length text.now ≤ max_bytes)
         × (4 * length text.now + 4 ≤ length work.old) }
